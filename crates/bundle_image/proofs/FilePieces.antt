@@ -3,7 +3,7 @@ use Rattle.std.proofs.Common.{arith, ◌≡◌, ◌⊎◌, inl, inr, ◌≤◌, 
 use Rattle.std.proofs.Math.Seq.{take-add}
 use Rattle.std.proofs.lemmas.Grind.{common_steps}
 use Rattle.dir_trait.specs.Bundles.{Fills}
-use Rattle.bundle_image.specs.Fronts.{IsBegun, IsFront}
+use Rattle.bundle_image.specs.Fronts.{IsFrontOrNothing, IsFront}
 
 take_front : (k n : ℕ) (xs ys : List ℕ) → k ≤ n → n ≤ length xs → take k (take n xs ++ ys) ≡ take k xs
 take_front k n xs ys = grind (arith, common_steps)
@@ -49,12 +49,12 @@ module _ (file old room filled new : List ℕ) (n : ℕ) (first : old ≡ take (
     whole = λ short. new_is ∙ (take_past (length old + n) (length file) file (past short) ∙ all_taken file);
   }
 
-pub next_front : (file : Option (List ℕ)) (old room filled new : List ℕ) (n : ℕ) → IsBegun file old → IsSomeAnd file (λ f. Fills f (length old) room n filled) → new ≡ old ++ take n filled → IsSomeAnd file (IsFront (nat_lt n (length filled)) new)
+pub next_front : (file : Option (List ℕ)) (old room filled new : List ℕ) (n : ℕ) → IsFrontOrNothing file old → IsSomeAnd file (λ f. Fills f (length old) room n filled) → new ≡ old ++ take n filled → IsSomeAnd file (IsFront (nat_lt n (length filled)) new)
 next_front None old room filled new n begun fills is = fills
 next_front (Some f) old room filled new n begun fills is = front f old room filled new n (front_is_first f old begun) fills is
 
 -- a front is a beginning
-pub still_begun : (file : Option (List ℕ)) (ended : Bool) (bytes : List ℕ) → IsSomeAnd file (IsFront ended bytes) → IsBegun file bytes
+pub still_begun : (file : Option (List ℕ)) (ended : Bool) (bytes : List ℕ) → IsSomeAnd file (IsFront ended bytes) → IsFrontOrNothing file bytes
 still_begun None ended bytes f = absurd f
 still_begun (Some xs) ended bytes f = inr f.first
 
@@ -68,7 +68,7 @@ full xs bytes most some least most_of (inl e) = let z : length bytes ≡ 0 = ap 
 full xs bytes most some least most_of (inr e) = let z : length bytes ≡ most = omega arith in e ∙ ap (λ (n : ℕ). take n xs) z
 
 -- where as many were read as were asked for, it is all too
-pub full_whole : (file : Option (List ℕ)) (bytes : List ℕ) (most : ℕ) → 0 < most → most ≤ length bytes → length bytes ≤ most → IsBegun file bytes → IsSomeAnd file (λ f. bytes ≡ take most f)
+pub full_whole : (file : Option (List ℕ)) (bytes : List ℕ) (most : ℕ) → 0 < most → most ≤ length bytes → length bytes ≤ most → IsFrontOrNothing file bytes → IsSomeAnd file (λ f. bytes ≡ take most f)
 full_whole None bytes most some least most_of (inl e) = let z : length bytes ≡ 0 = ap length e in absurd (omega arith)
 full_whole None bytes most some least most_of (inr e) = e
 full_whole (Some xs) bytes most some least most_of begun = full xs bytes most some least most_of begun

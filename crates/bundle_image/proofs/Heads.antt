@@ -20,7 +20,7 @@ use Rattle.manifests.specs.ImageForm.{image_manifest}
 use Rattle.manifests.specs.declared.image_manifest.ImageManifest.{ImageManifest}
 use Rattle.bundle_image.specs.declared.refusal.BundleRefusal.{BundleRefusal}
 use Rattle.bundle_image.specs.declared.refusal.BundleRefusal.TheVariants as refusals
-use Rattle.bundle_image.specs.Heads.{IsManifestOf, IsManifestFault, IsIdFile, IsNoIdFile, IsIdFault, is_ended, without_end}
+use Rattle.bundle_image.specs.Heads.{IsBundleManifestOf, IsManifestFault, IsIdFile, IsNoIdFile, IsIdFault, is_ended, without_end}
 
 take_short : (n : ℕ) (bytes : List ℕ) → nat_le (length bytes) n ≡ true → take (n + 1) bytes ≡ bytes
 take_short n bytes short = grind (arith, nat_tests, common_steps)
@@ -53,8 +53,8 @@ manifest_whole bytes read is = by (nat_le (length bytes) 1048576) refl
         let bad : reads read ≡ fails (codes "$") TooLong = sym is ∙ document_too_long (take 1048577 bytes) (take_long 1048576 bytes long) in
         cc
 
-pub manifest_read : (file : Option (List ℕ)) (kept bytes : List ℕ) (manifest : ImageManifest) → IsSomeAnd file (λ f. bytes ≡ take 1048577 f) → (kept ≡ bytes) × IsManifestOf bytes manifest
-    → IsSomeAnd file (λ f. (kept ≡ f) × IsManifestOf f manifest)
+pub manifest_read : (file : Option (List ℕ)) (kept bytes : List ℕ) (manifest : ImageManifest) → IsSomeAnd file (λ f. bytes ≡ take 1048577 f) → (kept ≡ bytes) × IsBundleManifestOf bytes manifest
+    → IsSomeAnd file (λ f. (kept ≡ f) × IsBundleManifestOf f manifest)
 manifest_read None kept bytes manifest front is = absurd front
 manifest_read (Some f) kept bytes manifest front is =
     let read : image_manifest (take 1048577 f) ≡ reads (image_data manifest) = ap image_manifest (sym front) ∙ is.1 in
@@ -163,6 +163,6 @@ pub no_fault : (bytes : List ℕ) → (refusals.BundleFault ≡ refusals.NoMemor
 no_fault bytes (inl is) = cc
 no_fault bytes (inr is) = is
 
-pub has_manifest : (file : Option (List ℕ)) (bytes : List ℕ) (manifest : ImageManifest) → IsSomeAnd file (λ f. (bytes ≡ f) × IsManifestOf f manifest) → IsSomeAnd file (λ f. (m : ImageData) × (image_manifest f ≡ reads m))
+pub has_manifest : (file : Option (List ℕ)) (bytes : List ℕ) (manifest : ImageManifest) → IsSomeAnd file (λ f. (bytes ≡ f) × IsBundleManifestOf f manifest) → IsSomeAnd file (λ f. (m : ImageData) × (image_manifest f ≡ reads m))
 has_manifest None bytes manifest is = absurd is
 has_manifest (Some f) bytes manifest is = (image_data manifest, is.1)

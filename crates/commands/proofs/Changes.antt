@@ -16,7 +16,7 @@ use Rattle.dir_rules.proofs.Looks.{same_bytes}
 use Rattle.dir_trait.specs.Replies.{is_look_at}
 use Rattle.folder_contents.proofs.Spots.{in_area, one_location}
 use Rattle.image_reading.specs.Places.{image_spot}
-use Rattle.image_removal.specs.Requests.{away_spot, removes_at, sweeps}
+use Rattle.image_removal.specs.Requests.{away_spot, removes_at, sweeps_store}
 use Rattle.image_store.specs.Requests.{building_spot, imports_at}
 use Rattle.phase_read.specs.Read.{is_pod_spot, pod_spot}
 use Rattle.pod_locks.specs.ClaimRequests.{in_prepared, in_run}
@@ -29,7 +29,7 @@ use Rattle.commands.specs.ImageImport.{is_building_place}
 use Rattle.commands.specs.ImageRm.{is_removal_place}
 use Rattle.commands.specs.NextState.{is_nowhere}
 use Rattle.commands.specs.Prepare.{prepares_pod}
-use Rattle.commands.specs.PrepareQuiet.{is_pod_place}
+use Rattle.commands.specs.PrepareQuiet.{is_making_spot}
 use Rattle.commands.specs.RemovalQuiet.{is_pods_place}
 use Rattle.commands.specs.Run.{makes_and_runs}
 use Rattle.commands.specs.RunPrepared.{runs_prepared}
@@ -103,14 +103,14 @@ removal_changes key draw = record {
     filled (RemoveDirIn i) spot is h = at_spot (is_removal_place key draw) i.spot spot is (or_last (spot_eq i.spot (image_spot key)) (spot_eq i.spot (away_spot draw)) h)
     filled request spot is h = cc
 
-pub sweep_changes : ChangesAt is_swept_place sweeps
+pub sweep_changes : ChangesAt is_swept_place sweeps_store
 sweep_changes = record {
   moves = λ from to h. or_first (is_in from.area area.Incoming) (is_in from.area area.Removed) (and_left (is_in from.area area.Incoming) (is_in to.area area.Removed) h);
   removes = λ spot h. or_last (is_in spot.area area.Incoming) (is_in spot.area area.Removed) h;
   fills = filled;
 }
   where
-    filled : (request : Request) (spot : Spot) → changed_in request ≡ Some spot → sweeps request ≡ true → is_swept_place spot ≡ true
+    filled : (request : Request) (spot : Spot) → changed_in request ≡ Some spot → sweeps_store request ≡ true → is_swept_place spot ≡ true
     filled (MakeDirIn i) spot is h = cc
     filled (MakeFileIn i) spot is h = cc
     filled (AppendIn i piece) spot is h = cc
@@ -119,10 +119,10 @@ sweep_changes = record {
     filled request spot is h = cc
 
 -- a prepare changes the places of its own pod
-pub prepare_changes : (draw : PodId) → ChangesAt (is_pod_place draw) (prepares_pod draw)
+pub prepare_changes : (draw : PodId) → ChangesAt (is_making_spot draw) (prepares_pod draw)
 prepare_changes draw = record { moves = λ from to h. moved from to h; removes = λ spot h. let clash : false ≡ true = h in cc; fills = filled }
   where
-    moved : (from to : Spot) → prepares_pod draw (MoveFolder from to) ≡ true → is_pod_place draw from ≡ true
+    moved : (from to : Spot) → prepares_pod draw (MoveFolder from to) ≡ true → is_making_spot draw from ≡ true
     moved from to h = by (spot_eq from (pod_at area.Embryo draw)) (spot_eq to (pod_at area.Prepare draw)) (spot_eq from (pod_at area.Prepare draw)) (spot_eq to (pod_at area.Prepared draw)) (spot_eq from (pod_at area.Prepared draw)) h
       where
         by : (a b c d e : Bool) → (((a && b) || ((c && d) || false)) || false) ≡ true → (a || (c || e)) ≡ true
@@ -130,12 +130,12 @@ prepare_changes draw = record { moves = λ from to h. moved from to h; removes =
         by false b true d e h = refl
         by false b false d e h = cc
 
-    there : (spot place : Spot) → ◌≡◌ {A = Option Spot} (Some spot) (Some place) → ((spot_eq spot (pod_at area.Prepare draw) || false) || false) ≡ true → is_pod_place draw place ≡ true
+    there : (spot place : Spot) → ◌≡◌ {A = Option Spot} (Some spot) (Some place) → ((spot_eq spot (pod_at area.Prepare draw) || false) || false) ≡ true → is_making_spot draw place ≡ true
     there spot place is h =
-        at_spot (is_pod_place draw) spot place is (or_last (spot_eq spot (pod_at area.Embryo draw)) (spot_eq spot (pod_at area.Prepare draw) || spot_eq spot (pod_at area.Prepared draw))
+        at_spot (is_making_spot draw) spot place is (or_last (spot_eq spot (pod_at area.Embryo draw)) (spot_eq spot (pod_at area.Prepare draw) || spot_eq spot (pod_at area.Prepared draw))
         (or_first (spot_eq spot (pod_at area.Prepare draw)) (spot_eq spot (pod_at area.Prepared draw)) (or_false _ (or_false _ h))))
 
-    filled : (request : Request) (spot : Spot) → changed_in request ≡ Some spot → prepares_pod draw request ≡ true → is_pod_place draw spot ≡ true
+    filled : (request : Request) (spot : Spot) → changed_in request ≡ Some spot → prepares_pod draw request ≡ true → is_making_spot draw spot ≡ true
     filled (MakeDirIn i) spot is h = there i.spot spot is h
     filled (MakeFileIn i) spot is h = there i.spot spot is h
     filled (AppendIn i piece) spot is h = there i.spot spot is h

@@ -21,7 +21,7 @@ use Rattle.dir_model.proofs.Moments.{some_number}
 use Rattle.dir_rules.proofs.Looks.{same_bytes}
 use Rattle.folder_contents.proofs.Spots.{one_location}
 use Rattle.lifecycle.specs.declared.machine.PodState.TheVariants as state
-use Rattle.lifecycle.specs.PodMachine.{pod_state, arrival, is_place}
+use Rattle.lifecycle.specs.PodMachine.{pod_state, arrival, is_area_of_state}
 use Rattle.lifecycle.proofs.Opens.{prepared_is}
 use Rattle.lifecycle.proofs.Phases.{stands_exists}
 use Rattle.lifecycle.proofs.Places.{moved_away}
@@ -81,7 +81,7 @@ module _ (pod : PodId) (me : ℕ) where
   folder_back k s (RemoveFolder gone) reply h at = cc
   folder_back k s request reply h at = ap (λ (fs : List (Option Spot)). folder_at (record s.namespace { folders = fs }) here) (sym (same_folders me s.namespace request reply refl (λ handle. refl))) ∙ at
 
-prepared_alone : (a : Area) → is_place a state.Prepared ≡ true → a ≡ area.Prepared
+prepared_alone : (a : Area) → is_area_of_state a state.Prepared ≡ true → a ≡ area.Prepared
 prepared_alone area.Prepared is = refl
 prepared_alone a is = cc
 

@@ -32,7 +32,7 @@ use Rattle.folder_contents.proofs.Spots.{one_location}
 use Rattle.phase_read.specs.Sequential.{sequential_read}
 use Rattle.pod_locks.specs.declared.claim_error.ClaimError.{ClaimError}
 use Rattle.pod_locks.specs.declared.claim_error.ClaimError.TheVariants.{NoPod, WrongPhase, NoManifest, Busy}
-use Rattle.pod_locks.specs.ClaimCauses.{is_prepared, is_lock, is_held_elsewhere, LacksManifest, OpensThere, HeldByAnother, HadAlone, HadBothAlone, HadClaim}
+use Rattle.pod_locks.specs.ClaimCauses.{is_prepared, is_lock, is_held_elsewhere, IsPreparedWithoutManifest, OpensThere, PreparedHeldByAnother, HadAlone, HadBothAlone, HadClaimBefore}
 use Rattle.pod_locks.specs.ClaimRequests.{in_prepared, in_run}
 use Rattle.pod_locks.specs.Work.{Grew}
 use Rattle.pod_locks.proofs.Times.{at_part}
@@ -89,7 +89,7 @@ module _ (me : ℕ) (pod : PodId) (s : DirState) where
 pub wrong_why : (me : ℕ) (pod : PodId) (p : Phase) (h : List Event) → is_prepared p ≡ false → HasPhaseNow pod p h → IsWhy pod (WrongPhase p) me (state_after h)
 wrong_why me pod p h wrong has = ap (found_error me pod (state_after h)) has.reads ∙ ap (λ (b : Bool). cond b (waiting_error me pod (state_after h)) (Some (WrongPhase p))) wrong
 
-pub lacking_why : (me : ℕ) (pod : PodId) (h : List Event) → IsConforming h → LacksManifest pod (state_after h) → IsWhy pod NoManifest me (state_after h)
+pub lacking_why : (me : ℕ) (pod : PodId) (h : List Event) → IsConforming h → IsPreparedWithoutManifest pod (state_after h) → IsWhy pod NoManifest me (state_after h)
 lacking_why me pod h conforming lacks =
     let s = state_after h in
     waits_why me pod s (Some NoManifest) (prepared_read pod h conforming (ap (λ (o : Option ℕ). is_some o) lacks.there)) (with_manifest me pod s lacks.folder lacks.there false lacks.without)
@@ -174,7 +174,7 @@ module _ (pod : PodId) {me : ℕ} {old new : List Event} (ext : Extends (in_proc
   one j k p q = let e : Some j ≡ Some k = sym p ∙ q in cc
 
   -- another process held a lock
-  pub busy_why : (which : Which) {begun ended : List Event} → Grew old begun → Grew ended new → HeldByAnother pod which me begun ended → HadClaim pod which me begun ended → IsClaimHeld pod which me s → IsWhy pod (Busy pod which) me s
+  pub busy_why : (which : Which) {begun ended : List Event} → Grew old begun → Grew ended new → PreparedHeldByAnother pod which me begun ended → HadClaimBefore pod which me begun ended → IsClaimHeld pod which me s → IsWhy pod (Busy pod which) me s
   busy_why Claim {begun} {ended} first last h had held =
       let g = at_grown h.held in
       let has = has_before h.folder (at_part first refl (grown_more (record { more = g.0; grown = g.1 }) last) h.found) in

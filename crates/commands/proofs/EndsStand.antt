@@ -26,7 +26,7 @@ use Rattle.lifecycle.proofs.Places.{name_same}
 use Rattle.manifests.specs.declared.runtime_app.RuntimeApp.{RuntimeApp}
 use Rattle.pod_locks.specs.ClaimRequests.{in_run}
 use Rattle.stage1.specs.declared.start.AppStart.{AppStart}
-use Rattle.stage1.specs.AppPlaces.{root_of}
+use Rattle.stage1.specs.AppPlaces.{app_root_of}
 use Rattle.stage1.specs.Starts.{AreStarts}
 use Rattle.commands.proofs.OwnSteps.{in_process}
 use Rattle.spawner.specs.declared.call.RootPlace.{RootPlace}
@@ -36,7 +36,7 @@ use Rattle.stage1.specs.Beginnings.{AreMarked}
 use Rattle.stage1.specs.Notes.{mark_inner, status_inner, status_path, status_text, makes_own_mark, makes_status, writes_status, MadeMark, WroteStatus}
 use Rattle.stage1.specs.Runs.{AreEnds, AreWrittenAll}
 use Rattle.stage1.proofs.Appends.{count, count_more}
-use Rattle.commands.specs.RunQuiet.{HasEnded}
+use Rattle.commands.specs.RunQuiet.{FolderShowsEnd}
 use Rattle.commands.proofs.NotesStand.{RemovesNothing, file_stands, bytes_stand}
 use Rattle.commands.proofs.Passing.{Leaves}
 use Rattle.commands.proofs.Unowned.{IsOutside, mark_outside, status_outside, never_owned}
@@ -98,11 +98,11 @@ in_either (x ∷ old) more (y ∷ b) e a is = elim (in_either old more b e a (sa
 
 -- each start's root is that of its name in the pod
 abbrev pub ArePlaced : PodId → List AppStart → Type 0
-ArePlaced pod starts = AllByRecursion (λ app. app.root ≡ root_of pod app.name) starts
+ArePlaced pod starts = AllByRecursion (λ app. app.root ≡ app_root_of pod app.name) starts
 
 pub are_placed : (pod : PodId) (address token : List ℕ) (apps : List RuntimeApp) (roots : _) (starts : List AppStart) → AreStarts pod address token apps roots starts → ArePlaced pod starts
 are_placed pod address token [] [] [] are = tt
-are_placed pod address token (app ∷ apps) (root ∷ roots) (start ∷ starts) are = (are.0.place ∙ ap (root_of pod) (sym are.0.name), are_placed pod address token apps roots starts are.1)
+are_placed pod address token (app ∷ apps) (root ∷ roots) (start ∷ starts) are = (are.0.place ∙ ap (app_root_of pod) (sym are.0.name), are_placed pod address token apps roots starts are.1)
 are_placed pod address token _ _ _ are = absurd are
 
 module _ (pod : PodId) (asks : Request → Bool) (l : Leaves (in_run pod) asks) (none : RemovesNothing asks) (me : ℕ) (old new rest : List Event) (grown : new ≡ old ++ rest) (run : IsRun new)
@@ -156,15 +156,15 @@ module _ (pod : PodId) (asks : Request → Bool) (l : Leaves (in_run pod) asks) 
     widened : (b : List Event) (e x : Event) (a : List Event) → e ≡ x → d.trace ≡ b ++ e ∷ a → new ≡ b ++ x ∷ (a ++ later)
     widened b e x a same parted = goes ∙ (ap (λ (h : List Event). h ++ later) parted ∙ (append_assoc b (e ∷ a) later ∙ ap (λ (y : Event). b ++ y ∷ (a ++ later)) same))
 
-    mark_stands : (name : List ℕ) → MadeMark (root_of pod name) d → has_file (state_after new).entries k (start_mark name) ≡ true
+    mark_stands : (name : List ℕ) → MadeMark (app_root_of pod name) d → has_file (state_after new).entries k (start_mark name) ≡ true
     mark_stands name m =
-        let root = root_of pod name in
+        let root = app_root_of pod name in
         let is = did_is d.process (makes_own_mark root) (MakeFileIn (mark_inner root)) (mark_request root) m.1 m.4 in
         made (start_mark name) (mark_outside name) m.0 (m.2 ++ later) (widened m.0 m.1 (event me (MakeFileIn (mark_inner root)) Done) m.2 (is ∙ ap (λ (p : ℕ). event p (MakeFileIn (mark_inner root)) Done) mine) m.3)
 
-    status_stands : (name : List ℕ) (status : ℕ) → WroteStatus (root_of pod name) status d → (has_file (state_after new).entries k (status_path name) ≡ true) × (content (state_after new).entries k (status_path name) ≡ status_text status)
+    status_stands : (name : List ℕ) (status : ℕ) → WroteStatus (app_root_of pod name) status d → (has_file (state_after new).entries k (status_path name) ≡ true) × (content (state_after new).entries k (status_path name) ≡ status_text status)
     status_stands name status m =
-        let root = root_of pod name in
+        let root = app_root_of pod name in
         let i = status_inner root in
         let is = did_is d.process (makes_status root) (MakeFileIn i) (status_request root) m.1 m.4 in
         let wide = widened m.0 m.1 (event me (MakeFileIn i) Done) m.2 (is ∙ ap (λ (p : ℕ). event p (MakeFileIn i) Done) mine) m.3 in
@@ -174,11 +174,11 @@ module _ (pod : PodId) (asks : Request → Bool) (l : Leaves (in_run pod) asks) 
         ap (λ (h : List Event). h ++ later) w.3 ∙ (append_assoc w.0 (w.1 ∷ w.2) later ∙ ap (λ (y : Event). w.0 ++ y ∷ (w.2 ++ later)) (wrote ∙ ap (λ (p : ℕ). event p (AppendIn i (status_text status)) Done) mine)) in
         (made (status_path name) (status_outside name) m.0 (m.2 ++ later) wide, written (status_path name) (status_outside name) m.0 (m.2 ++ later) wide (status_text status) w.0 (w.2 ++ later) parted)
 
-    pub each_stands : (starts : List AppStart) (statuses : List ℕ) (ends : List AppEnd) → ArePlaced pod starts → AreEnds starts statuses ends → AreMarked d starts → AreWrittenAll d starts statuses → AllByRecursion (HasEnded k (state_after new)) ends
+    pub each_stands : (starts : List AppStart) (statuses : List ℕ) (ends : List AppEnd) → ArePlaced pod starts → AreEnds starts statuses ends → AreMarked d starts → AreWrittenAll d starts statuses → AllByRecursion (FolderShowsEnd k (state_after new)) ends
     each_stands [] [] [] placed are marked wrote = tt
     each_stands (app ∷ starts) (status ∷ statuses) (end ∷ ends) placed are marked wrote =
         let mark = mark_stands app.name (subst (λ (r : RootPlace). MadeMark r d) placed.0 marked.0.made) in
         let note = status_stands app.name status (subst (λ (r : RootPlace). WroteStatus r status d) placed.0 wrote.0) in
-        (subst (λ (e : AppEnd). HasEnded k (state_after new) e) (sym are.0) (record { marked = mark; noted = note.0; status = note.1 }), each_stands starts statuses ends placed.1 are.1 marked.1 wrote.1)
+        (subst (λ (e : AppEnd). FolderShowsEnd k (state_after new) e) (sym are.0) (record { marked = mark; noted = note.0; status = note.1 }), each_stands starts statuses ends placed.1 are.1 marked.1 wrote.1)
     each_stands [] _ _ placed are marked wrote = absurd are
     each_stands (app ∷ starts) _ _ placed are marked wrote = absurd are

@@ -18,7 +18,7 @@ use Rattle.lifecycle.specs.declared.machine.PodState.{PodState}
 use Rattle.lifecycle.specs.declared.machine.PodState.TheVariants as state
 use Rattle.lifecycle.specs.declared.machine.Transition.{Transition}
 use Rattle.lifecycle.specs.declared.machine.Transition.TheVariants as turn
-use Rattle.lifecycle.specs.PodMachine.{pod_state, phase_of_state, is_owner, is_place, enabled, leads, turned, transition}
+use Rattle.lifecycle.specs.PodMachine.{pod_state, phase_of_state, is_owner, is_area_of_state, enabled, leads, after_transition, transition}
 use Rattle.lifecycle.specs.Executions.{IsConforming}
 use Rattle.lifecycle.proofs.Draws.{conforming_left}
 use Rattle.lifecycle.proofs.Phases.{stands_exists}
@@ -30,9 +30,9 @@ use Rattle.pod_locks.proofs.Traces.{grown_more, grown_by}
 use Rattle.pod_gc.specs.declared.ages.Times.{Times}
 use Rattle.pod_gc.specs.declared.line.GcLine.{GcLine}
 use Rattle.pod_gc.specs.Requests.{sweeps}
-use Rattle.pod_gc.specs.Told.{IsTold}
+use Rattle.pod_gc.specs.Told.{IsLineOfTurn}
 use Rattle.command_outcomes.specs.Meanwhile.{Meanwhile}
-use Rattle.commands.specs.Gc.{Sweeps}
+use Rattle.commands.specs.Gc.{SweepsByPasses}
 use Rattle.commands.specs.RemovalQuiet.{RestedAsBefore}
 use Rattle.commands.proofs.OwnSteps.{in_process, history_back}
 use Rattle.commands.proofs.RmFrom.{owns_nothing}
@@ -44,24 +44,24 @@ module _ (me owner : ℕ) (from : Area) (other : (me == owner) ≡ false) where
   abbrev held : PodState
   held = state.Deleting owner from
 
-  not_turned : (t : Transition) → enabled t me held ≡ false → turned (Some t) me held ≡ held
+  not_turned : (t : Transition) → enabled t me held ≡ false → after_transition (Some t) me held ≡ held
   not_turned t off = ap (λ b. cond b (leads t me held) held) off
 
-  held_fast : (o : Option Transition) → turned o me held ≡ held
+  held_fast : (o : Option Transition) → after_transition o me held ≡ held
   held_fast None = refl
   held_fast (Some turn.End) = not_turned turn.End other
   held_fast (Some turn.Remove) = not_turned turn.Remove other
   held_fast (Some t) = refl
 
-  held_back : (u : List ℕ) (n : Namespace) (x : PodState) (request : Request) (reply : Reply) → (turned (transition u n x me request reply) me x ≡ held → ⊥) → x ≡ held → ⊥
-  held_back u n x request reply not is = not (ap (turned (transition u n x me request reply) me) is ∙ held_fast (transition u n x me request reply))
+  held_back : (u : List ℕ) (n : Namespace) (x : PodState) (request : Request) (reply : Reply) → (after_transition (transition u n x me request reply) me x ≡ held → ⊥) → x ≡ held → ⊥
+  held_back u n x request reply not is = not (ap (after_transition (transition u n x me request reply) me) is ∙ held_fast (transition u n x me request reply))
 
-module _ (times : Times) (lines : List GcLine) {me : ℕ} {old new : List Event} (ext : Extends (in_process (sweeps times.now)) me old new) (quiet : Quiet me old new) (m : Meanwhile (Sweeps times lines) me old new) (idle : OwnsNothing me (state_after old).namespace) (conforming : IsConforming new) where
+module _ (times : Times) (lines : List GcLine) {me : ℕ} {old new : List Event} (ext : Extends (in_process (sweeps times.now)) me old new) (quiet : Quiet me old new) (m : Meanwhile (SweepsByPasses times lines) me old new) (idle : OwnsNothing me (state_after old).namespace) (conforming : IsConforming new) where
   before : IsConforming old
   before = conforming_left old quiet.more (subst IsConforming quiet.grown conforming)
 
   -- it rested at an own event
-  rested_before : (pod : PodId) → AtOwnEvent me old new (λ h. phase_of_state (pod_state (pod_text pod.bytes) h) ≡ Some kind.ExitedGarbage) → (x : PodState) → pod_state (pod_text pod.bytes) old ≡ x → is_place area.ExitedGarbage x ≡ true
+  rested_before : (pod : PodId) → AtOwnEvent me old new (λ h. phase_of_state (pod_state (pod_text pod.bytes) h) ≡ Some kind.ExitedGarbage) → (x : PodState) → pod_state (pod_text pod.bytes) old ≡ x → is_area_of_state area.ExitedGarbage x ≡ true
       → phase_of_state (pod_state (pod_text pod.bytes) old) ≡ Some kind.ExitedGarbage
   rested_before pod at state.ExitedGarbage is there = ap phase_of_state is
   rested_before pod at (state.Deleting owner from) is there = by (me == owner) refl
@@ -78,7 +78,7 @@ module _ (times : Times) (lines : List GcLine) {me : ℕ} {old new : List Event}
           (event_weaker (λ h. pod_state u h ≡ state.Deleting owner from → ⊥) not_held at) ext quiet is)
   rested_before pod at x is there = cc
 
-  told_rested : {Can : Type 0} {here : Area} {names : List (List ℕ)} (a b : List Event) → Grew old a → Grew b new → (line : GcLine) → IsTold Can times here names line me a b → RestedAsBefore old line
+  told_rested : {Can : Type 0} {here : Area} {names : List (List ℕ)} (a b : List Event) → Grew old a → Grew b new → (line : GcLine) → IsLineOfTurn Can times here names line me a b → RestedAsBefore old line
   told_rested {Can} {here} {names} a b to_a from_b line x pod is deed there =
       let same : x.shown ≡ pod = let e : Some x.shown ≡ Some pod = sym x.pod_is ∙ is in cc in
       let u = pod_text pod.bytes in

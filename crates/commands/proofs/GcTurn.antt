@@ -27,7 +27,7 @@ use Rattle.pod_locks.proofs.Traces.{grown_none, grown_more, grown_by}
 use Rattle.pod_locks.specs.Taking.{takes_away, TookNothing}
 use Rattle.pod_gc.specs.declared.ages.Times.{Times}
 use Rattle.pod_gc.specs.declared.line.GcLine.{GcLine}
-use Rattle.pod_gc.specs.Told.{deals_with_some, IsTold, TellsShown}
+use Rattle.pod_gc.specs.Told.{deals_with_pods, IsLineOfTurn, TellsShown}
 use Rattle.commands.proofs.OwnSteps.{in_process, own_asked, own_part, asked_part, own_first, quiet_part, forward, same_folders}
 use Rattle.commands.proofs.LateTurns.{Late, or_false}
 use Rattle.pod_lookup.proofs.Names.{text_back}
@@ -115,7 +115,7 @@ module _ (asks : Request → Bool) (l : Late asks) (spot : Spot) (me : ℕ) wher
       (untaken_part ext quiet first last took took.more [] (took.grown ∙ ap (λ (l : List Event). from ++ l) (sym (append-nil took.more))) there)
 
 -- a pod that was listed
-module _ {Can : Type 0} {times : Times} {here : Area} {ls : List GcLine} {me : ℕ} {old a b new : List Event} (stage : is_stage here ≡ true) (quiet : Quiet me old new) (to_a : Grew old a) (from_b : Grew b new) (t : TellsShown Can times here ls me a b) {line : GcLine} (x : IsTold Can times here t.names line me t.listed b) where
+module _ {Can : Type 0} {times : Times} {here : Area} {ls : List GcLine} {me : ℕ} {old a b new : List Event} (stage : is_stage here ≡ true) (quiet : Quiet me old new) (to_a : Grew old a) (from_b : Grew b new) (t : TellsShown Can times here ls me a b) {line : GcLine} (x : IsLineOfTurn Can times here t.names line me t.listed b) where
   abbrev its_spot : Spot
   its_spot = pod_spot x.shown here
 
@@ -145,7 +145,7 @@ module _ {Can : Type 0} {times : Times} {here : Area} {ls : List GcLine} {me : �
   stood_until rest =
       let sorted = subst (λ (ns : List (List ℕ)). IsStrictlySortedBy (slice_cmp nat_cmp) ns) x.names_are t.ordered in
       let unshown = subst (λ (n : List ℕ). has_name x.earlier n ≡ false) (sym (text_back x.name x.shown x.name_is)) (earlier_apart x.earlier x.name x.later sorted) in
-      forward (λ s. stands s.namespace its_spot ≡ true) (deals_with_some times.now here x.earlier) me (λ s request reply h q. stays times.now here stage x.earlier its_spot unshown me s request reply h q) t.listed
+      forward (λ s. stands s.namespace its_spot ≡ true) (deals_with_pods times.now here x.earlier) me (λ s request reply h q. stays times.now here stage x.earlier its_spot unshown me s request reply h q) t.listed
       grown_none (grown_by x.first) x.first (quiet_between quiet (grown_more to_a to_listed) (grown_by x.first) rest) stood_listed
 
   -- from its turn on to the end of the pass
@@ -153,5 +153,5 @@ module _ {Can : Type 0} {times : Times} {here : Area} {ls : List GcLine} {me : �
   stood_since turn there =
       let sorted = subst (λ (ns : List (List ℕ)). IsStrictlySortedBy (slice_cmp nat_cmp) ns) x.names_are t.ordered in
       let unshown = subst (λ (n : List ℕ). has_name x.later n ≡ false) (sym (text_back x.name x.shown x.name_is)) (later_apart x.earlier x.name x.later sorted) in
-      forward (λ s. stands s.namespace its_spot ≡ true) (deals_with_some times.now here x.later) me (λ s request reply h q. stays times.now here stage x.later its_spot unshown me s request reply h q) x.upto
+      forward (λ s. stands s.namespace its_spot ≡ true) (deals_with_pods times.now here x.later) me (λ s request reply h q. stays times.now here stage x.later its_spot unshown me s request reply h q) x.upto
       grown_none (grown_by x.last) x.last (quiet_between quiet (grown_more turn_after turn) (grown_by x.last) from_b) there

@@ -20,7 +20,7 @@ use Rattle.folder_contents.proofs.Places.{located}
 use Rattle.folder_contents.proofs.Spots.{one_location}
 use Rattle.lifecycle.proofs.Handles.{clash}
 use Rattle.lifecycle.proofs.Places.{made_elsewhere, moved_elsewhere}
-use Rattle.image_store.specs.Moves.{MovedNothing}
+use Rattle.image_store.specs.Moves.{MovedNoImage}
 use Rattle.image_store.specs.Requests.{building_spot, imports_at, brings_image}
 use Rattle.pod_lookup.specs.Looks.{lists_stages}
 use Rattle.standing_images.specs.Images.{SameImages, ImagesStay}
@@ -126,7 +126,7 @@ module _ (draw : PodId) where
         (apart l.0 (subst (λ (x : Spot). is_in area.Images x.area ≡ true) (sym (one_location l.0 spot l.1.1)) inside));
   }
 
-  pub import_stays : {me : ℕ} {old new : List Event} → Extends (is_modest Here) me old new → Quiet me old new → MovedNothing me old new → ImagesStay old new
+  pub import_stays : {me : ℕ} {old new : List Event} → Extends (is_modest Here) me old new → Quiet me old new → MovedNoImage me old new → ImagesStay old new
   import_stays {me} {old} {new} ext quiet moved more rest is =
       let whole : new ≡ old ++ (more ++ rest) = is ∙ append_assoc old more rest in
       let process = extends_wider modest_in_process ext in

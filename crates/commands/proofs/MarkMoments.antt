@@ -14,7 +14,7 @@ use Rattle.dir_rules.specs.Seen.{later}
 use Rattle.dir_rules.proofs.Looks.{same_bytes}
 use Rattle.pod_gc.proofs.MarkNames.{marked_is_path, marked_directly}
 use Rattle.pod_gc.specs.Ages.{moment_among, is_young}
-use Rattle.pod_gc.proofs.Moments.{marked}
+use Rattle.marks.proofs.Moments.{marked}
 use Rattle.commands.proofs.LateTurns.{or_either}
 use Rattle.commands.proofs.GcTells.{same_text}
 

@@ -28,7 +28,7 @@ use Rattle.lifecycle.proofs.Handles.{clash, nat_same}
 use Rattle.lifecycle.proofs.Numbers.{one_spot}
 use Rattle.lifecycle.proofs.Places.{name_same, same_name}
 use Rattle.pod_locks.specs.ClaimRequests.{in_run}
-use Rattle.stage1.specs.Keeping.{appends_to, is_append}
+use Rattle.stage1.specs.Keeping.{appends_to, is_own_append}
 use Rattle.stage1.proofs.Appends.{count}
 use Rattle.commands.proofs.OwnSteps.{in_process, own_asked}
 use Rattle.commands.proofs.LateTurns.{or_false}
@@ -139,9 +139,9 @@ module _ (pod : PodId) (asks : Request → Bool) (l : Leaves (in_run pod) asks) 
 
     none_appended : (es : List Event) → Own es → count me inner es ≡ 0 → AllByRecursion (λ e. appends_to inner e.request ≡ false) es
     none_appended [] own is = tt
-    none_appended (e ∷ es) own is = by (is_append me inner e) refl is (λ left. none_appended es own.1 left)
+    none_appended (e ∷ es) own is = by (is_own_append me inner e) refl is (λ left. none_appended es own.1 left)
       where
-        by : (b : Bool) → is_append me inner e ≡ b → length (cond b (e ∷ filter (is_append me inner) es) (filter (is_append me inner) es)) ≡ 0 → (count me inner es ≡ 0 → AllByRecursion (λ x. appends_to inner x.request ≡ false) es) →
+        by : (b : Bool) → is_own_append me inner e ≡ b → length (cond b (e ∷ filter (is_own_append me inner) es) (filter (is_own_append me inner) es)) ≡ 0 → (count me inner es ≡ 0 → AllByRecursion (λ x. appends_to inner x.request ≡ false) es) →
             AllByRecursion (λ x. appends_to inner x.request ≡ false) (e ∷ es)
         by true found is rest = cc
         by false found is rest = (uncounted (e.process == me) e.request (ap (λ (p : ℕ). p == me) own.0 ∙ same_self me) found, rest is)

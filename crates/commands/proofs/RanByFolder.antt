@@ -38,12 +38,12 @@ use Rattle.stage1.specs.declared.end.AppEnd.{AppEnd}
 use Rattle.stage1.specs.declared.error.RunError.{RunError}
 use Rattle.stage1.specs.declared.error.RunError.TheVariants as run
 use Rattle.stage1.specs.Runs.{AreEnds, HasRun, IsRefusedRun, LoadsStarts, end_of, reads_or_closes}
-use Rattle.stage1.specs.Sequences.{Ending, status_of}
+use Rattle.stage1.specs.Sequences.{Ending, app_status_of}
 use Rattle.stage1.proofs.Starting.{reads_pod_reads}
 use Rattle.command_outcomes.specs.Moments.{SpawnerSeen}
 use Rattle.commands.specs.Run.{makes_and_runs}
 use Rattle.commands.specs.RunPrepared.{runs_prepared}
-use Rattle.commands.specs.RunQuiet.{made_by}
+use Rattle.commands.specs.RunQuiet.{entries_made}
 use Rattle.commands.specs.RunTable.{AreTheStarts, IsWhyNone, RunsAll, StoppedFor}
 use Rattle.commands.proofs.ClaimQuiet.{claim_leaves, claim_move, folder_back}
 use Rattle.commands.proofs.EndsQuiet.{since_begin}
@@ -64,11 +64,11 @@ KeepsHeld pod folder es from to = (d : DirAt) → ExtendsBy reads_or_closes from
 both_lists : {X : Type 0} (a b : X) (xs ys : List X) → a ≡ b → xs ≡ ys → a ∷ xs ≡ b ∷ ys
 both_lists a b xs ys is are = cc
 
-ends_by : (endings : List Ending) (ends : List AppEnd) → AreEnds (map (λ e. e.begun.app) endings) (map status_of endings) ends → ends ≡ map (λ e. end_of e.begun.app (status_of e)) endings
+ends_by : (endings : List Ending) (ends : List AppEnd) → AreEnds (map (λ e. e.begun.app) endings) (map app_status_of endings) ends → ends ≡ map (λ e. end_of e.begun.app (app_status_of e)) endings
 ends_by [] [] are = refl
 ends_by [] (x ∷ ends) are = absurd are
 ends_by (e ∷ endings) [] are = absurd are
-ends_by (e ∷ endings) (x ∷ ends) are = both_lists x (end_of e.begun.app (status_of e)) ends (map (λ y. end_of y.begun.app (status_of y)) endings) are.0 (ends_by endings ends are.1)
+ends_by (e ∷ endings) (x ∷ ends) are = both_lists x (end_of e.begun.app (app_status_of e)) ends (map (λ y. end_of y.begun.app (app_status_of y)) endings) are.0 (ends_by endings ends are.1)
 
 module _ (pod : PodId) (address : List ℕ) (folder : ℕ) (es : List Entry) (from to : DirAt) (keeps : KeepsHeld pod folder es from to) where
   loaded : (starts : List AppStart) (x : DirAt) (z : List Event) → to.trace ≡ x.trace ++ z → LoadsStarts pod address starts from x → AreTheStarts pod address es starts
@@ -181,7 +181,7 @@ module _ (pod : PodId) (own : Handle) {me : ℕ} {old begun new : List Event} (c
 module _ (draw : PodId) {refs : List ImageRef} {wishes : Wishes} {me : ℕ} {old new : List Event} (c to : DirAt) (mine : c.process ≡ me) (ext : Extends (in_process (makes_and_runs draw)) me old new) (quiet : Quiet me old new)
     (after : Grew c.trace to.trace) (finish : CallStep me to.trace Finish Done new) (early : Extends (since_begin (prepares draw Run)) me old c.trace) (y : IsPrepared refs wishes me draw Run old new) (tail : List Event)
     (past : c.trace ≡ then_moved y.before me (pod_at Prepare draw) (pod_at Run draw) ++ tail) where
-  pub made_keeps : IsConforming new → KeepsHeld draw y.folder (made_by y) c to
+  pub made_keeps : IsConforming new → KeepsHeld draw y.folder (entries_made y) c to
   made_keeps conforming d reads z goes =
       let e = event me (MoveFolder (pod_at Prepare draw) (pod_at Run draw)) Done in
       let mv : List Event = y.before ++ e ∷ [] in
@@ -189,7 +189,7 @@ module _ (draw : PodId) {refs : List ImageRef} {wishes : Wishes} {me : ℕ} {old
       let from : mv ≡ old ++ u = ap (λ (h : List Event). h ++ e ∷ []) y.begins ∙ append_assoc old y.meanwhile (e ∷ []) in
       let was : folder_at (state_after y.before).namespace (pod_at Prepare draw) ≡ Some y.folder =
       sym (moved_here draw (makes_and_runs draw) (run_leaves draw) me old new y.before y.later (pod_at Prepare draw) ext quiet y.meanwhile y.begins y.moved finish.run) ∙ y.stands in
-      let x = holds_moved draw me y.folder (made_by y) (pod_at Prepare draw) y.before (conforms_to (record { more = e ∷ y.later; grown = y.moved }) conforming) refl was y.stands y.holds in
+      let x = holds_moved draw me y.folder (entries_made y) (pod_at Prepare draw) y.before (conforms_to (record { more = e ∷ y.later; grown = y.moved }) conforming) refl was y.stands y.holds in
       let end = grown_call finish in
-      keeps_on draw (makes_and_runs draw) (prepares draw Run) (run_leaves draw) (prepare_spares draw) me old new ext quiet finish.run mv u from y.folder (made_by y) x c tail mine past early d reads (z ++ end.more)
+      keeps_on draw (makes_and_runs draw) (prepares draw Run) (run_leaves draw) (prepare_spares draw) me old new ext quiet finish.run mv u from y.folder (entries_made y) x c tail mine past early d reads (z ++ end.more)
       (end.grown ∙ (ap (λ (h : List Event). h ++ end.more) goes ∙ append_assoc d.trace z end.more))

@@ -20,16 +20,16 @@ use Rattle.dir_model.specs.Quiet.{Quiet}
 use Rattle.dir_model.proofs.Lists.{and_left, or_last, all_left, all_right, all_both, all_map, same_rest, same_self}
 use Rattle.dir_model.proofs.Chains.{states_next-append, state_after-push}
 use Rattle.dir_model.proofs.Moments.{at_within}
-use Rattle.dir_files.specs.AreaLocks.{takes, is_against, IsBusyElsewhere}
+use Rattle.dir_files.specs.AreaLocks.{is_taking_area, is_against, IsBusyElsewhere}
 use Rattle.folder_contents.proofs.Spots.{one_location}
-use Rattle.image_reading.specs.Places.{image_spot, IsAbsent}
-use Rattle.image_removal.specs.Calls.{Called}
-use Rattle.image_removal.specs.Causes.{FoundNone}
+use Rattle.image_reading.specs.Places.{image_spot, IsImageAbsent}
+use Rattle.image_removal.specs.Calls.{WasCalled}
+use Rattle.image_removal.specs.Causes.{FoundNoImage}
 use Rattle.image_removal.specs.Removals.{IsGone}
 use Rattle.image_removal.specs.Requests.{away_spot, puts_away, removes_at}
 use Rattle.lifecycle.proofs.Places.{none_stands}
 use Rattle.command_outcomes.specs.Meanwhile.{Meanwhile}
-use Rattle.commands.specs.ImageRm.{Removes}
+use Rattle.commands.specs.ImageRm.{RemovesStoredImage}
 use Rattle.commands.proofs.PlacesKept.{same_folders}
 use Rattle.commands.proofs.OwnSteps.{in_process}
 use Rattle.commands.proofs.RemovalQuiet.{held_before}
@@ -178,11 +178,11 @@ module _ (key : StoreKey) (draw : PodId) where
   both_kept p w (RemoveFolder gone) reply h both = both
   both_kept p w request reply h both = subst Both (sym (same_folders p w request reply refl (λ handle. refl))) both
 
-  module _ {me : ℕ} {old new : List Event} (ext : Extends (in_process (removes_at key draw)) me old new) (quiet : Quiet me old new) (m : Meanwhile (Removes key draw) me old new) where
+  module _ {me : ℕ} {old new : List Event} (ext : Extends (in_process (removes_at key draw)) me old new) (quiet : Quiet me old new) (m : Meanwhile (RemovesStoredImage key draw) me old new) where
     abbrev between : List Event
     between = m.so.between
 
-    put : Called (puts_away key draw) Done me m.begun between
+    put : WasCalled (puts_away key draw) Done me m.begun between
     put = m.so.moved
 
     started : Upto old put.after
@@ -205,7 +205,7 @@ module _ (key : StoreKey) (draw : PodId) where
         (none_home b y z, none)
 
     abbrev Ends : Type 0
-    Ends = IsAbsent key (state_after new) × ((folder_at (state_after new).namespace away ≡ None) ⊎ IsBusyElsewhere me Removed Exclusive (state_after old))
+    Ends = IsImageAbsent key (state_after new) × ((folder_at (state_after new).namespace away ≡ None) ⊎ IsBusyElsewhere me Removed Exclusive (state_after old))
 
     both_ends : Both (state_after new).namespace.folders → Ends
     both_ends both = (absent_at (state_after new).namespace home both.0, inl (absent_at (state_after new).namespace away both.1))
@@ -239,14 +239,14 @@ pub folders_same : (s : DirState) (es : List Event) → AllByRecursion Leaves es
 folders_same s [] all = refl
 folders_same s (e ∷ es) all = folders_same (state_next s e) es all.1 ∙ all.0 e.process s.namespace
 
-leaves_folders : (request : Request) (reply : Reply) → (is_kill request || (is_begin request || takes Images Exclusive request)) ≡ true → (p : ℕ) (w : Namespace) → (namespace_replied w p request reply).folders ≡ w.folders
+leaves_folders : (request : Request) (reply : Reply) → (is_kill request || (is_begin request || is_taking_area Images Exclusive request)) ≡ true → (p : ℕ) (w : Namespace) → (namespace_replied w p request reply).folders ≡ w.folders
 leaves_folders (MakeFolder here) reply h p w = cc
 leaves_folders (MoveFolder a b) reply h p w = cc
 leaves_folders (RemoveFolder gone) reply h p w = cc
 leaves_folders request reply h p w = same_folders p w request reply refl (λ handle. refl)
 
 abbrev before_move : Request → Bool
-before_move request = is_begin request || takes Images Exclusive request
+before_move request = is_begin request || is_taking_area Images Exclusive request
 
 all_leave : (me : ℕ) (asks : Request → Bool) → ((r : Request) → asks r ≡ true → before_move r ≡ true) → (es : List Event) → AllByRecursion (λ e. e.process ≡ me) es → AllByRecursion (λ e. (is_foreign me e || asks e.request) ≡ true) es → AllByRecursion Leaves es
 all_leave me asks wider [] own asked = tt
@@ -273,13 +273,13 @@ all_foreign me (e ∷ es) foreign = (by (is_foreign me e) foreign.0, all_foreign
 begin_first : (r : Request) → is_begin r ≡ true → before_move r ≡ true
 begin_first r h = by (is_begin r) h
   where
-    by : (b : Bool) → b ≡ true → (b || takes Images Exclusive r) ≡ true
+    by : (b : Bool) → b ≡ true → (b || is_taking_area Images Exclusive r) ≡ true
     by true k = refl
     by false k = cc
 
 -- no image had the key before, where none had it when its own move was answered so
-module _ (key : StoreKey) (draw : PodId) {me : ℕ} {old new : List Event} (quiet : Quiet me old new) (m : Meanwhile (FoundNone key draw) me old new) where
-  abbrev f : FoundNone key draw me m.begun m.ended
+module _ (key : StoreKey) (draw : PodId) {me : ℕ} {old new : List Event} (quiet : Quiet me old new) (m : Meanwhile (FoundNoImage key draw) me old new) where
+  abbrev f : FoundNoImage key draw me m.begun m.ended
   f = m.so
 
   abbrev call : CallStep me f.before (puts_away key draw) (Refused Missing 0) f.after
@@ -318,12 +318,12 @@ module _ (key : StoreKey) (draw : PodId) {me : ℕ} {old new : List Event} (quie
       let later = all_right _ m.begins.more (f.first.more ++ (call.meanwhile.others ++ step ∷ [])) own in
       all_both Leaves m.begins.more f.first.more
       (all_leave me is_begin begin_first m.begins.more (all_left _ m.begins.more (f.first.more ++ (call.meanwhile.others ++ step ∷ [])) own) m.begins.asked)
-      (all_leave me (takes Images Exclusive) (λ r h. or_last (is_begin r) (takes Images Exclusive r) h) f.first.more (all_left _ f.first.more (call.meanwhile.others ++ step ∷ []) later) f.first.asked)
+      (all_leave me (is_taking_area Images Exclusive) (λ r h. or_last (is_begin r) (is_taking_area Images Exclusive r) h) f.first.more (all_left _ f.first.more (call.meanwhile.others ++ step ∷ []) later) f.first.asked)
 
-  pub none_before : IsAbsent key (state_after old)
+  pub none_before : IsImageAbsent key (state_after old)
   none_before = by call.own
     where
-      by : TookPlace call.before me (puts_away key draw) (Refused Missing 0) f.after ⊎ LeftNothing call.before me (puts_away key draw) (Refused Missing 0) f.after → IsAbsent key (state_after old)
+      by : TookPlace call.before me (puts_away key draw) (Refused Missing 0) f.after ⊎ LeftNothing call.before me (puts_away key draw) (Refused Missing 0) f.after → IsImageAbsent key (state_after old)
       by (inr left) = let clash : false ≡ true = left.late in cc
       by (inl took) =
           let at = f.told.absent in

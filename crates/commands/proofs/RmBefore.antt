@@ -32,7 +32,7 @@ use Rattle.phase_read.specs.Exact.{AtOwnEvent}
 use Rattle.pod_locks.specs.Elsewhere.{IsOwnedElsewhere}
 use Rattle.pod_gc.specs.RemovalRequests.{removes}
 use Rattle.commands.specs.Opening.{OnceFound}
-use Rattle.commands.specs.Rm.{FindsPodBusy, WasSo, WasOwned}
+use Rattle.commands.specs.Rm.{FindsPodBusy, ConformingHadPhase, WasOwned}
 use Rattle.commands.specs.RemovalQuiet.{HasPhaseNow, IsHeldNow}
 use Rattle.commands.proofs.OwnSteps.{in_process, event_process}
 use Rattle.commands.proofs.Held.{was_held}
@@ -119,7 +119,7 @@ module _ (pod : PodId) (now : ℕ) {me : ℕ} {old new : List Event} (ext : Exte
   before_end : {ended : List Event} → (more : List Event) → new ≡ ended ++ more → IsConforming new → IsConforming ended
   before_end {ended} more grown conforming = conforming_left ended more (subst IsConforming grown conforming)
 
-  by_embryo : OnceFound (WasSo pod kind.Embryo) me old new → IsConforming new → pod_phase its old ≡ Some kind.Embryo
+  by_embryo : OnceFound (ConformingHadPhase pod kind.Embryo) me old new → IsConforming new → pod_phase its old ≡ Some kind.Embryo
   by_embryo m conforming =
       let w = m.so (before_end m.finishes.more m.finishes.grown conforming) in
       had_phase kind.Embryo (event_process m.begins m.finishes (event_weaker (λ h. (phase_of_state (pod_state its h) ≡ Some kind.Embryo) × (is_lasting me (pod_state its h) ≡ true)) (λ h x. (x.is, embryo_lasts me (pod_state its h) x.is)) w.was))
@@ -131,7 +131,7 @@ module _ (pod : PodId) (now : ℕ) {me : ℕ} {old new : List Event} (ext : Exte
   owner_process : (p : Phase) (m : OnceFound (WasOwned pod p) me old new) → (a : Area) × AtOwnEvent me m.begun m.ended (IsOwnedElsewhere me pod p a) → (a : Area) × AtOwnEvent me old new (IsOwnedElsewhere me pod p a)
   owner_process p m x = (x.0, event_process m.begins m.finishes x.1)
 
-  had : (p : Phase) → OnceFound (WasSo pod p) me old new → OnceFound (WasOwned pod p) me old new → IsConforming new → pod_phase its old ≡ Some p
+  had : (p : Phase) → OnceFound (ConformingHadPhase pod p) me old new → OnceFound (WasOwned pod p) me old new → IsConforming new → pod_phase its old ≡ Some p
   had kind.Embryo m o conforming = by_embryo m conforming
   had kind.Preparing m o conforming = by_owner kind.Preparing (owner_process kind.Preparing o (o.so (before_end o.finishes.more o.finishes.grown conforming) refl))
   had kind.Running m o conforming = by_owner kind.Running (owner_process kind.Running o (o.so (before_end o.finishes.more o.finishes.grown conforming) refl))
@@ -142,7 +142,7 @@ module _ (pod : PodId) (now : ℕ) {me : ℕ} {old new : List Event} (ext : Exte
   had kind.ExitedGarbage m o conforming = let clash : true ≡ false = (m.so (before_end m.finishes.more m.finishes.grown conforming)).wrong in cc
   had kind.Garbage m o conforming = let clash : true ≡ false = (m.so (before_end m.finishes.more m.finishes.grown conforming)).wrong in cc
 
-  pub rm_wrong_before : (p : Phase) → OnceFound (WasSo pod p) me old new → OnceFound (WasOwned pod p) me old new → IsConforming new → HasPhaseNow pod p old
+  pub rm_wrong_before : (p : Phase) → OnceFound (ConformingHadPhase pod p) me old new → OnceFound (WasOwned pod p) me old new → IsConforming new → HasPhaseNow pod p old
   rm_wrong_before p m o conforming =
       has_phase_now pod old (conforming_left old quiet.more (subst IsConforming quiet.grown conforming)) p (had p m o conforming)
 

@@ -27,7 +27,7 @@ use Rattle.phase_read.specs.Read.{is_pod_spot}
 use Rattle.pod_build.specs.MakingRequests.{pod_at}
 use Rattle.standing_images.specs.Images.{SameImages, ImagesStay}
 use Rattle.commands.specs.Prepare.{prepares_pod}
-use Rattle.commands.specs.PrepareQuiet.{is_pod_place}
+use Rattle.commands.specs.PrepareQuiet.{is_making_spot}
 use Rattle.commands.specs.Run.{makes_and_runs}
 use Rattle.commands.proofs.Changes.{prepare_changes, run_changes}
 use Rattle.commands.proofs.NextState.{trees_all}
@@ -91,13 +91,13 @@ module _ (touched : Spot → Bool) (asks : Request → Bool) (c : ChangesAt touc
       })
 
 -- so does a process that prepares a pod
-pod_apart : (draw : PodId) (place : Spot) → is_in area.Images place.area ≡ true → is_pod_place draw place ≡ false
+pod_apart : (draw : PodId) (place : Spot) → is_in area.Images place.area ≡ true → is_making_spot draw place ≡ false
 pod_apart draw place is = by (spot_eq place (pod_at area.Embryo draw)) (spot_eq place (pod_at area.Prepare draw)) (spot_eq place (pod_at area.Prepared draw)) refl refl refl
   where
-    at : (here : Spot) → is_in area.Images here.area ≡ false → spot_eq place here ≡ true → is_pod_place draw place ≡ false
+    at : (here : Spot) → is_in area.Images here.area ≡ false → spot_eq place here ≡ true → is_making_spot draw place ≡ false
     at here off e = clash (is_in area.Images place.area) is (subst (λ (s : Spot). is_in area.Images s.area ≡ false) (sym (one_location place here e)) off)
 
-    by : (a b d : Bool) → spot_eq place (pod_at area.Embryo draw) ≡ a → spot_eq place (pod_at area.Prepare draw) ≡ b → spot_eq place (pod_at area.Prepared draw) ≡ d → is_pod_place draw place ≡ false
+    by : (a b d : Bool) → spot_eq place (pod_at area.Embryo draw) ≡ a → spot_eq place (pod_at area.Prepare draw) ≡ b → spot_eq place (pod_at area.Prepared draw) ≡ d → is_making_spot draw place ≡ false
     by true b d e f g = at (pod_at area.Embryo draw) refl e
     by false true d e f g = at (pod_at area.Prepare draw) refl f
     by false false true e f g = at (pod_at area.Prepared draw) refl g
@@ -128,7 +128,7 @@ prepares_elsewhere draw (MoveFolder from to) h =
 prepares_elsewhere draw request h = tt
 
 pub prepare_keeps : (draw : PodId) {me : ℕ} {old new : List Event} → Extends (in_process (prepares_pod draw)) me old new → Quiet me old new → ImagesStay old new
-prepare_keeps draw ext quiet = images_stay_beside (is_pod_place draw) (prepares_pod draw) (prepare_changes draw) (pod_apart draw) (prepares_elsewhere draw) ext quiet
+prepare_keeps draw ext quiet = images_stay_beside (is_making_spot draw) (prepares_pod draw) (prepare_changes draw) (pod_apart draw) (prepares_elsewhere draw) ext quiet
 
 -- and one that makes a pod and runs it
 run_apart : (draw : PodId) (place : Spot) → is_in area.Images place.area ≡ true → is_pod_spot draw place ≡ false

@@ -27,17 +27,17 @@ use Rattle.dir_model.proofs.Chains.{states_next-append, and_more, extends_wider}
 use Rattle.dir_model.proofs.Moments.{at_within}
 use Rattle.dir_laws.specs.Stretches.{Sometime, StandsInArea}
 use Rattle.dir_files.specs.Listed.{ShowsArea}
-use Rattle.dir_files.specs.AreaLocks.{takes, is_against, IsBusyElsewhere, IsFreeElsewhere}
+use Rattle.dir_files.specs.AreaLocks.{is_taking_area, is_against, IsBusyElsewhere, IsFreeElsewhere}
 use Rattle.folder_contents.proofs.Spots.{one_location}
 use Rattle.image_removal.specs.declared.pass.Pass.{Pass}
 use Rattle.image_removal.specs.declared.pass.Pass.TheVariants.{PutAway, Delete}
 use Rattle.image_removal.specs.declared.pass.SweepLine.{SweepLine}
-use Rattle.image_removal.specs.Passes.{area_of, line_of, is_close, is_uuid, uuids}
-use Rattle.image_removal.specs.Requests.{incoming_spot, removed_spot, lists, sweeps}
+use Rattle.image_removal.specs.Passes.{area_of_pass, line_of, is_close, is_uuid, uuids}
+use Rattle.image_removal.specs.Requests.{incoming_spot, removed_spot, lists_store_area, sweeps_store}
 use Rattle.image_removal.specs.Sweeps.{SweepsUnder, UnderLock, WasLocked}
 use Rattle.command_outcomes.specs.Meanwhile.{Meanwhile}
-use Rattle.commands.specs.ImageGc.{Sweeps, PrintsSweep, sweep_texts}
-use Rattle.commands.specs.SweepTable.{is_barred, meets, ArePassLines, BarredOr, IsPassOf, AreSweepLines}
+use Rattle.commands.specs.ImageGc.{SweepsImages, PrintsSweepOfState, sweep_texts}
+use Rattle.commands.specs.SweepTable.{is_barred, meets, AreImagePassLines, BarredOr, IsImagePassOf, AreSweepLines}
 use Rattle.commands.proofs.PlacesKept.{same_folders}
 use Rattle.commands.proofs.OwnSteps.{in_process}
 use Rattle.commands.proofs.Openings.{free_before}
@@ -138,10 +138,10 @@ one_list (x ∷ xs) (y ∷ ys) first second same =
 
 -- the lines of one state are one list
 
-pass_once : (pass : Pass) (meeting : List ℕ → Bool) (xs ys : List SweepLine) → ArePassLines pass meeting xs → ArePassLines pass meeting ys → xs ≡ ys
+pass_once : (pass : Pass) (meeting : List ℕ → Bool) (xs ys : List SweepLine) → AreImagePassLines pass meeting xs → AreImagePassLines pass meeting ys → xs ≡ ys
 pass_once pass meeting xs ys x y = x.are ∙ (ap (map (line_of pass)) (one_list x.names y.names x.rise y.rise (λ name. x.each name ∙ sym (y.each name))) ∙ sym y.are)
 
-barred_once : (b : Bool) (pass : Pass) (meeting : List ℕ → Bool) (xs ys : List SweepLine) → BarredOr b pass xs (ArePassLines pass meeting xs) → BarredOr b pass ys (ArePassLines pass meeting ys) → xs ≡ ys
+barred_once : (b : Bool) (pass : Pass) (meeting : List ℕ → Bool) (xs ys : List SweepLine) → BarredOr b pass xs (AreImagePassLines pass meeting xs) → BarredOr b pass ys (AreImagePassLines pass meeting ys) → xs ≡ ys
 barred_once true pass meeting xs ys x y = x ∙ sym y
 barred_once false pass meeting xs ys x y = pass_once pass meeting xs ys x y
 
@@ -217,13 +217,13 @@ begin_idle (MoveFolder a b) h = cc
 begin_idle (RemoveFolder gone) h = cc
 begin_idle r h = refl
 
-takes_idle : (area : Area) (r : Request) → takes area Exclusive r ≡ true → is_idle r ≡ true
+takes_idle : (area : Area) (r : Request) → is_taking_area area Exclusive r ≡ true → is_idle r ≡ true
 takes_idle area (MakeFolder here) h = cc
 takes_idle area (MoveFolder a b) h = cc
 takes_idle area (RemoveFolder gone) h = cc
 takes_idle area r h = refl
 
-lists_idle : (area : Area) (r : Request) → lists area r ≡ true → is_idle r ≡ true
+lists_idle : (area : Area) (r : Request) → lists_store_area area r ≡ true → is_idle r ≡ true
 lists_idle area (MakeFolder here) h = cc
 lists_idle area (MoveFolder a b) h = cc
 lists_idle area (RemoveFolder gone) h = cc
@@ -389,7 +389,7 @@ met : (u x r i free : Bool) → (u ≡ true → x ≡ (r || (free && i))) → (u
 met true x r i free is = is refl
 met false x r i free is = sym (and_false free)
 
-module _ {me : ℕ} {old new : List Event} {lines : List SweepLine} (ext : Extends (in_process sweeps) me old new) (quiet : Quiet me old new) (m : Meanwhile (Sweeps lines) me old new) where
+module _ {me : ℕ} {old new : List Event} {lines : List SweepLine} (ext : Extends (in_process sweeps_store) me old new) (quiet : Quiet me old new) (m : Meanwhile (SweepsImages lines) me old new) where
   abbrev s : DirState
   s = state_after old
 
@@ -412,7 +412,7 @@ module _ {me : ℕ} {old new : List Event} {lines : List SweepLine} (ext : Exten
   held_then area at x z = held_before (is_against area Exclusive) (at_within {P = IsBusyElsewhere me area Exclusive} x.0 z.0 x.1 z.1 at) quiet
 
   -- what a pass lists is what stood there when it began, and it knows that nobody else had the lock
-  module _ (pass : Pass) (own : List SweepLine) (a b : List Event) (u : UnderLock (area_of pass) (SweepsUnder pass own) me a b) (to_a : Upto old a) (to_new : Upto b new) where
+  module _ (pass : Pass) (own : List SweepLine) (a b : List Event) (u : UnderLock (area_of_pass pass) (SweepsUnder pass own) me a b) (to_a : Upto old a) (to_new : Upto b new) where
     abbrev names : List (List ℕ)
     names = u.under.names
 
@@ -450,13 +450,13 @@ module _ {me : ℕ} {old new : List Event} {lines : List SweepLine} (ext : Exten
     a_b = upto_more a u.locked b a_locked locked_b
 
     idle_list : Extends is_idle me u.locked listed
-    idle_list = extends_wider (lists_idle (area_of pass)) u.under.works.only_lists
+    idle_list = extends_wider (lists_idle (area_of_pass pass)) u.under.works.only_lists
 
     quiet_list : Quiet me u.locked listed
     quiet_list = quiet_within old u.locked listed new quiet to_locked locked_listed (upto_more listed b new listed_b to_new)
 
     idle_lock : Extends is_idle me a u.locked
-    idle_lock = extends_wider (takes_idle (area_of pass)) u.takes_lock
+    idle_lock = extends_wider (takes_idle (area_of_pass pass)) u.takes_lock
 
     same_locked : (state_after u.locked).namespace.folders ≡ (state_after a).namespace.folders
     same_locked = idle_folders a u.locked idle_lock (quiet_within old a u.locked new quiet to_a a_locked locked_new)
@@ -464,15 +464,15 @@ module _ {me : ℕ} {old new : List Event} {lines : List SweepLine} (ext : Exten
     pub same_listed : (state_after listed).namespace.folders ≡ (state_after a).namespace.folders
     same_listed = idle_folders u.locked listed idle_list quiet_list ∙ same_locked
 
-    pub is_shown : (name : List ℕ) → has_name names name ≡ has_place (place_in (area_of pass) name) (state_after a).namespace.folders
+    pub is_shown : (name : List ℕ) → has_name names name ≡ has_place (place_in (area_of_pass pass) name) (state_after a).namespace.folders
     is_shown name =
         listed_exactly idle_list.more idle_list.grown u.under.works.shows (idle_leave idle_list quiet_list) name
-        ∙ ap (has_place (place_in (area_of pass) name)) same_locked
+        ∙ ap (has_place (place_in (area_of_pass pass) name)) same_locked
 
     pub unbarred : is_barred me pass s ≡ false
-    unbarred = free_then (area_of pass) u.free to_a locked_new
+    unbarred = free_then (area_of_pass pass) u.free to_a locked_new
 
-    pub pass_lines : (meeting : List ℕ → Bool) → ((name : List ℕ) → (is_uuid name && has_place (place_in (area_of pass) name) (state_after a).namespace.folders) ≡ meeting name) → ArePassLines pass meeting own
+    pub pass_lines : (meeting : List ℕ → Bool) → ((name : List ℕ) → (is_uuid name && has_place (place_in (area_of_pass pass) name) (state_after a).namespace.folders) ≡ meeting name) → AreImagePassLines pass meeting own
     pass_lines meeting is = record {
       names = uuids names;
       are = u.under.lines_are;
@@ -494,7 +494,7 @@ module _ {me : ℕ} {old new : List Event} {lines : List SweepLine} (ext : Exten
   abbrev First : Type 0
   First = UnderLock Incoming (SweepsUnder PutAway m.so.moved) me m.begun between
 
-  first_lines : First → ArePassLines PutAway (meets me PutAway s) m.so.moved
+  first_lines : First → AreImagePassLines PutAway (meets me PutAway s) m.so.moved
   first_lines u = pass_lines PutAway m.so.moved m.begun between u to_begun (from_between ext quiet m) (meets me PutAway s)
       (λ name. ap (λ b. is_uuid name && b) (ap (has_place (incoming_spot name)) same_begun ∙ sym (stands_there s.namespace (incoming_spot name))))
 
@@ -569,10 +569,10 @@ module _ {me : ℕ} {old new : List Event} {lines : List SweepLine} (ext : Exten
   open_then : First → is_barred me PutAway s ≡ false
   open_then u = unbarred PutAway m.so.moved m.begun between u to_begun (from_between ext quiet m)
 
-  put_away : IsPassOf me s PutAway m.so.moved
+  put_away : IsImagePassOf me s PutAway m.so.moved
   put_away = elim m.so.puts_away [
-    | inl u ↦ subst (λ (b : Bool). BarredOr b PutAway m.so.moved (ArePassLines PutAway (meets me PutAway s) m.so.moved)) (sym (open_then u)) (first_lines u)
-    | inr w ↦ subst (λ (b : Bool). BarredOr b PutAway m.so.moved (ArePassLines PutAway (meets me PutAway s) m.so.moved)) (sym (barred w)) w.line_is
+    | inl u ↦ subst (λ (b : Bool). BarredOr b PutAway m.so.moved (AreImagePassLines PutAway (meets me PutAway s) m.so.moved)) (sym (open_then u)) (first_lines u)
+    | inr w ↦ subst (λ (b : Bool). BarredOr b PutAway m.so.moved (AreImagePassLines PutAway (meets me PutAway s) m.so.moved)) (sym (barred w)) w.line_is
   ]
 
   -- what stands in removed then
@@ -594,17 +594,17 @@ module _ {me : ℕ} {old new : List Event} {lines : List SweepLine} (ext : Exten
           or_none false = refl
       as_it_was false closed = cc
 
-  delete : IsPassOf me s Delete m.so.deleted
+  delete : IsImagePassOf me s Delete m.so.deleted
   delete = elim m.so.deletes [
-    | inl u ↦ subst (λ (b : Bool). BarredOr b Delete m.so.deleted (ArePassLines Delete (meets me Delete s) m.so.deleted))
+    | inl u ↦ subst (λ (b : Bool). BarredOr b Delete m.so.deleted (AreImagePassLines Delete (meets me Delete s) m.so.deleted))
         (sym (unbarred Delete m.so.deleted between m.ended u (to_between ext quiet m) to_end))
         (pass_lines Delete m.so.deleted between m.ended u (to_between ext quiet m) to_end (meets me Delete s)
         (λ name. met (is_uuid name) (has_place (removed_spot name) (state_after between).namespace.folders) (stands s.namespace (removed_spot name)) (stands s.namespace (incoming_spot name)) (not (is_barred me PutAway s)) (λ uuid. stands_then name uuid)))
-    | inr w ↦ subst (λ (b : Bool). BarredOr b Delete m.so.deleted (ArePassLines Delete (meets me Delete s) m.so.deleted)) (sym (held_then Removed w.busy (to_between ext quiet m) to_end)) w.line_is
+    | inr w ↦ subst (λ (b : Bool). BarredOr b Delete m.so.deleted (AreImagePassLines Delete (meets me Delete s) m.so.deleted)) (sym (held_then Removed w.busy (to_between ext quiet m) to_end)) w.line_is
   ]
 
   pub sweep_lines : AreSweepLines me s lines
   sweep_lines = record { moved = m.so.moved; deleted = m.so.deleted; are = m.so.lines_are; put_away = put_away; delete = delete }
 
-  pub prints_lines : (text : List ℕ) → text ≡ sweep_texts lines → PrintsSweep me s text
+  pub prints_lines : (text : List ℕ) → text ≡ sweep_texts lines → PrintsSweepOfState me s text
   prints_lines text is = record { lines = lines; is = is; are = sweep_lines; only = λ others are. lines_once me s others lines are sweep_lines }

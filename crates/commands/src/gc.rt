@@ -7,7 +7,7 @@ ghost use Rattle.pod_locks.specs.Holding.{KeepsReady};
 ghost use Rattle.pod_gc.specs.Requests.{sweeps};
 ghost use Rattle.pod_gc.specs.Sweeping.{MaySweepAll};
 ghost use Rattle.command_outcomes.specs.Moments.{dir_at};
-ghost use Rattle.commands.specs.Gc.{times_of, subject_text, deed_text, line_text, lines_text, sweep_refusal, gc_refusal, GcSays};
+ghost use Rattle.commands.specs.Gc.{times_of, subject_text, deed_text, gc_line_text, lines_text, sweep_refusal, gc_refusal, GcSays};
 
 use ac_types::NoMemory;
 use command_outcomes::{Output, Refusal, area_name, lock_name};
@@ -55,7 +55,7 @@ fn push_deed(text: &mut Output, place: Area, deed: Deed) -> Result<(), NoMemory>
 }
 
 fn add_line(text: &mut Output, line: &GcLine) -> Result<(), NoMemory>
-    ensures { OnOk result (text.new ≡ text.old ++ line_text line.now) }
+    ensures { OnOk result (text.new ≡ text.old ++ gc_line_text line.now) }
 {
     push_subject(text, line.pod, line.place)?;
     push_deed(text, line.place, line.deed)?;

@@ -9,7 +9,7 @@ ghost use Rattle.dir_trait.specs.Effects.{OnlyAsks};
 ghost use Rattle.image_store.specs.Requests.{building_spot, imports_at};
 ghost use Rattle.image_store.specs.Work.{IsImport};
 ghost use Rattle.command_outcomes.specs.Conforming.{StaysConforming};
-ghost use Rattle.commands.specs.ImageImport.{key_line, image_import_refusal, listing_refusal, is_import_error, import_refusal, IsSaidOf, ImageImportSays};
+ghost use Rattle.commands.specs.ImageImport.{key_line, image_import_refusal, import_listing_refusal, is_import_error, import_refusal, IsSaidOf, ImageImportSays};
 ghost use Rattle.command_outcomes.specs.Moments.{dir_at, outside_at};
 
 use ac_types::{BAD_ID, NoMemory, StoreKey, Text};
@@ -47,7 +47,7 @@ fn file_refusal(alloc: Global, name: &str, number: u8) -> Result<Refusal, NoMemo
 }
 
 fn listing_refusal(alloc: Global, error: ListingError) -> Result<Refusal, NoMemory>
-    ensures { IfOk result (λ refusal. refusal ≡ listing_refusal error) }
+    ensures { IfOk result (λ refusal. refusal ≡ import_listing_refusal error) }
 {
     match error {
         ListingError::BadLine(_) => file_refusal(alloc, "tree", BAD_LINE),

@@ -9,7 +9,7 @@ ghost use Rattle.pod_build.specs.Preparations.{Began, MakesFaithfully};
 ghost use Rattle.command_outcomes.specs.Conforming.{StaysConforming};
 ghost use Rattle.command_outcomes.specs.Moments.{dir_at};
 ghost use Rattle.commands.specs.PrepareRefusals.{prepare_refusal};
-ghost use Rattle.commands.specs.Prepare.{pod_line, syncs, prepares_pod, sync_refusal, SyncSays, PrepareSays};
+ghost use Rattle.commands.specs.Prepare.{pod_line, syncs, prepares_pod, prepared_sync_refusal, SyncSays, PrepareSays};
 
 use crate::prepare_refusals::build_refusal;
 use crate::wanted::Wanted;
@@ -30,7 +30,7 @@ pub fn pod_line(alloc: Global, pod: PodId) -> Result<Output, NoMemory>
 }
 
 fn sync_refusal(error: DirError) -> Refusal
-    ensures { result ≡ sync_refusal error }
+    ensures { result ≡ prepared_sync_refusal error }
 {
     match error {
         DirError::Failed => Refusal::DirFault,

@@ -2,7 +2,7 @@
 ghost use Rattle.std.specs.Prelude.{◌≡◌, map, find, bytes_eq};
 ghost use Rattle.std.specs.Option.{option_copied};
 ghost use Rattle.dir_rules.specs.Standing.{intends};
-ghost use Rattle.dir_rules.specs.Rules.{asks_for, is_asked};
+ghost use Rattle.dir_rules.specs.Rules.{asks_for, has_asked_for_removal};
 ghost use Rattle.conformance.specs.Tables.{created_of};
 ghost use Rattle.conformance.specs.Asked.{asks_at};
 
@@ -54,7 +54,7 @@ pub fn asks_for(intent: &Option<Intent>, created: &[CreatedMark], name: &Name) -
 /// Whether the process was asked to remove this pod: an rm by its word, a gc by the age of the
 /// greatest `created-` mark that its own listing of the pod's folder showed.
 pub fn is_removal_requested(seen: &Seen, name: &Name) -> bool
-    ensures { result ≡ is_asked seen.now name.now }
+    ensures { result ≡ has_asked_for_removal seen.now name.now }
 {
     let intent = &seen.standing.intent;
     match find_created(seen.created.as_slice(), name) {

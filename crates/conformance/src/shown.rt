@@ -2,7 +2,7 @@
 ghost use Rattle.std.specs.Prelude.{◌≡◌, ◌++◌, not, bytes_eq, filter, map, IfOk, OnOk};
 ghost use Rattle.std.specs.List.{list_any};
 ghost use Rattle.dir_rules.specs.Standing.{is_in};
-ghost use Rattle.dir_rules.specs.Seen.{inner_eq, still_listed, still_shown, still_known, forget_listed, forget_items, moved_away, is_item_at, stands_in, shown_in, with_items, with_names, created_among, note_created, listed_created};
+ghost use Rattle.dir_rules.specs.Seen.{inner_eq, still_listed, still_shown, still_known, forget_listed, forget_items, moved_away, is_item_at, is_item_in, shown_in, with_items, with_names, created_among, note_created, listed_created};
 ghost use Rattle.conformance.specs.Tables.{created_of};
 
 use crate::table::CreatedMark;
@@ -85,7 +85,7 @@ pub fn is_item_at(inner: &Inner, item: &ShownItem) -> bool
 
 /// Whether it is an item of this directory.
 pub fn stands_in(spot: &Spot, path: &[u8], item: &ShownItem) -> bool
-    ensures { result ≡ stands_in (record { spot = spot.now; path = path.now }) item.now }
+    ensures { result ≡ is_item_in (record { spot = spot.now; path = path.now }) item.now }
 {
     same_spot(&item.inner.spot, spot) && parent(item.inner.path.as_slice()) == path
 }
@@ -104,7 +104,7 @@ fn shown_in(alloc: Global, inner: &Inner, item: &Item) -> Result<ShownItem, NoMe
 }
 
 fn drop_directory(items: &mut Vec<ShownItem>, inner: &Inner)
-    ensures { items.new.items ≡ filter (λ i. not (stands_in inner.now i)) items.old.items }
+    ensures { items.new.items ≡ filter (λ i. not (is_item_in inner.now i)) items.old.items }
 {
     items.retain(|item| !stands_in(&inner.spot, inner.path.as_slice(), item))
 }

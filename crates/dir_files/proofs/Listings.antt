@@ -15,7 +15,7 @@ use Rattle.dir_model.specs.declared.request.Reply.TheVariants.{Done, Begun, Name
 use Rattle.dir_model.specs.State.{DirState, empty_state, lives, Namespace, has_begun, folder_at}
 use Rattle.dir_model.specs.Trace.{state_next, states_next, state_after, listings_replied}
 use Rattle.dir_model.specs.Trees.{names_in, items_in, has_dir}
-use Rattle.dir_model.specs.Listings.{is_of, is_listing, begun_at, listing_of, has_name, has_named, has_item, shows_area, shows_inside}
+use Rattle.dir_model.specs.Listings.{is_listing_of, is_listing, begun_at, listing_of, has_name, has_named, has_item, shows_area, shows_inside}
 use Rattle.dir_model.specs.Replies.{is_apps_request, is_reply, is_any_reply, is_late_reply}
 use Rattle.dir_model.specs.Paths.{is_well_formed}
 use Rattle.dir_model.specs.Calls.{TookPlace, LeftNothing, Listing, ListStep, IsRun, is_run_from, is_allowed, is_begin, is_kill, is_foreign, event}
@@ -115,8 +115,8 @@ module _ (me : ℕ) (old new : List Event) (request : Request) (reply : Reply) (
   }
 
   -- the listing that it began is open
-  pub opened : is_listing (state_after l.begins.before) me ≡ false → (x : OpenListing) → find (is_of me) (listings_replied (state_after l.begins.before) me request Begun) ≡ Some x → find (is_of me) first.listings ≡ Some x
-  opened none x is = ap (λ (s : DirState). find (is_of me) s.listings) first_is ∙ is
+  pub opened : is_listing (state_after l.begins.before) me ≡ false → (x : OpenListing) → find (is_listing_of me) (listings_replied (state_after l.begins.before) me request Begun) ≡ Some x → find (is_listing_of me) first.listings ≡ Some x
+  opened none x is = ap (λ (s : DirState). find (is_listing_of me) s.listings) first_is ∙ is
 
   pub same_namespace : first.namespace ≡ (state_next (state_after l.begins.before) (event me request Begun)).namespace
   same_namespace = ap (λ (s : DirState). s.namespace) first_is
@@ -141,7 +141,7 @@ module _ (me : ℕ) (old new : List Event) (area : Area) (names : List (List ℕ
   abbrev Known : List (List ℕ)
   Known = names_in area Start.namespace.folders
 
-  open_now : find (is_of me) Then.listings ≡ Some (record { process = me; listed = listed.Area area Known [] })
+  open_now : find (is_listing_of me) Then.listings ≡ Some (record { process = me; listed = listed.Area area Known [] })
   open_now = opened me old new (ListArea area) (Names names) l refl refl refl none_open _ (area_begins Start me area none_open)
 
   known_then : Known ≡ names_in area Then.namespace.folders
@@ -189,7 +189,7 @@ module _ (me : ℕ) (old new : List Event) (inner : Inner) (items : List Item) (
   abbrev Begins : Option ℕ → OpenListing
   Begins o = record { process = me; listed = begun_at Before inner o }
 
-  begins_open : find (is_of me) Now.listings ≡ Some (Begins (folder_at Before.namespace inner.spot))
+  begins_open : find (is_listing_of me) Now.listings ≡ Some (Begins (folder_at Before.namespace inner.spot))
   begins_open = opened me old new (ListIn inner) (Items items) l refl refl refl none_listing _ (find_own me Before.listings (Begins (folder_at Before.namespace inner.spot)) none_listing (is_self me))
 
   abbrev apart_meanwhile : AllByRecursion (λ e. (e.process == me) ≡ false) Meanwhile
@@ -206,7 +206,7 @@ module _ (me : ℕ) (old new : List Event) (inner : Inner) (items : List Item) (
       by false off h = h
 
   -- nothing is shown of a directory that wasn't there
-  not_missing : find (is_of me) Now.listings ≡ Some (record { process = me; listed = listed.Missing inner }) → shows_inside inner items (listing_of (states_next Now Meanwhile) me) ≡ true → ⊥
+  not_missing : find (is_listing_of me) Now.listings ≡ Some (record { process = me; listed = listed.Missing inner }) → shows_inside inner items (listing_of (states_next Now Meanwhile) me) ≡ true → ⊥
   not_missing open_now shown =
       let at_end = open_along item_name (inside_now 0 []) (λ through ever. listed.Missing inner) (λ s through ever. refl) Now Meanwhile me me ([], []) apart_meanwhile open_now in
       let e : false ≡ true = sym (ap (shows_inside inner items) at_end) ∙ shown in
@@ -216,7 +216,7 @@ module _ (me : ℕ) (old new : List Event) (inner : Inner) (items : List Item) (
     abbrev KnownItems : List Item
     KnownItems = items_in folder inner.path Before.entries
 
-    inside_open : find (is_of me) Now.listings ≡ Some (record { process = me; listed = listed.Inside inner folder KnownItems [] })
+    inside_open : find (is_listing_of me) Now.listings ≡ Some (record { process = me; listed = listed.Inside inner folder KnownItems [] })
     inside_open = opened me old new (ListIn inner) (Items items) l refl refl refl none_listing _ (inside_begins Before me folder inner none_listing here there)
 
     entries_then : Now.entries ≡ Before.entries
@@ -241,11 +241,11 @@ module _ (me : ℕ) (old new : List Event) (inner : Inner) (items : List Item) (
   shows_by : shows_inside inner items (listing_of (states_next Now Meanwhile) me) ≡ true → ShowsInside me old new inner items (stretch me old new (ListIn inner) (Items items) l refl refl refl)
   shows_by shown = by (folder_at Before.namespace inner.spot) refl begins_open
     where
-      there_or_not : (folder : ℕ) → folder_at Before.namespace inner.spot ≡ Some folder → (b : Bool) → has_dir Before.entries folder inner.path ≡ b → find (is_of me) Now.listings ≡ Some (record { process = me; listed = cond b (listed.Inside inner folder (items_in folder inner.path Before.entries) []) (listed.Missing inner) }) → ShowsInside me old new inner items (stretch me old new (ListIn inner) (Items items) l refl refl refl)
+      there_or_not : (folder : ℕ) → folder_at Before.namespace inner.spot ≡ Some folder → (b : Bool) → has_dir Before.entries folder inner.path ≡ b → find (is_listing_of me) Now.listings ≡ Some (record { process = me; listed = cond b (listed.Inside inner folder (items_in folder inner.path Before.entries) []) (listed.Missing inner) }) → ShowsInside me old new inner items (stretch me old new (ListIn inner) (Items items) l refl refl refl)
       there_or_not folder here true there open_now = inside_shown shown folder here there
       there_or_not folder here false there open_now = absurd (not_missing open_now shown)
 
-      by : (o : Option ℕ) → folder_at Before.namespace inner.spot ≡ o → find (is_of me) Now.listings ≡ Some (Begins o) → ShowsInside me old new inner items (stretch me old new (ListIn inner) (Items items) l refl refl refl)
+      by : (o : Option ℕ) → folder_at Before.namespace inner.spot ≡ o → find (is_listing_of me) Now.listings ≡ Some (Begins o) → ShowsInside me old new inner items (stretch me old new (ListIn inner) (Items items) l refl refl refl)
       by None here open_now = absurd (not_missing open_now shown)
       by (Some folder) here open_now = there_or_not folder here (has_dir Before.entries folder inner.path) refl open_now
 

@@ -23,7 +23,7 @@ use Rattle.dir_model.specs.State.{Namespace, DirState, has_open}
 use Rattle.dir_model.specs.Trace.{locked, state_after}
 use Rattle.dir_model.specs.Replies.{is_late_reply, is_locked, is_opposed}
 use Rattle.dir_model.specs.Calls.{AtOwnStep, CallStep, Interference, IsRun, LeftNothing, TookPlace, event}
-use Rattle.dir_model.specs.Local.{nothing_local, is_number, holding_of, holdings_in}
+use Rattle.dir_model.specs.Local.{nothing_local, is_handle_of, holding_of, holdings_in}
 use Rattle.dir_model.proofs.Lists.{and_left, and_right, and_both, and_false, not_true, or_none, same_self, any_last, any_last_not, any_fewer, any_map}
 use Rattle.dir_model.proofs.Chains.{state_after-push, run-left}
 use Rattle.dir_model.proofs.Allowed.{allowed_reply, held_says, lock_says}
@@ -105,10 +105,10 @@ same_gate area (Claim spot) b f g h k = cc
 module _ (me : ℕ) (handle : Handle) (area : Area) (mode : Mode) where
   -- an own handle of this number on something else, and an own handle of another number on this lock
   abbrev strays : Holding → Bool
-  strays x = is_number handle x && not (is_gate_of area x.target)
+  strays x = is_handle_of handle x && not (is_gate_of area x.target)
 
   abbrev doubles : Holding → Bool
-  doubles x = is_gate_of area x.target && not (is_number handle x)
+  doubles x = is_gate_of area x.target && not (is_handle_of handle x)
 
   abbrev is_other : Opening → Bool
   is_other o = not (is_handle me handle o) && is_against area mode o
@@ -180,15 +180,15 @@ module _ (me : ℕ) (handle : Handle) (area : Area) (mode : Mode) (opened_at mid
   none_strays =
       ap (list_any (strays me handle area mode)) open_then
       ∙ (any_last_not (strays me handle area mode) (holdings_in before me) new_one
-      (ap (λ b. is_number handle new_one && not b) (same_self (rank area)) ∙ and_false (is_number handle new_one))
-      ∙ any_fewer (strays me handle area mode) (is_number handle) (λ x is. and_left (is_number handle x) (not (is_gate_of area x.target)) is) (holdings_in before me)
+      (ap (λ b. is_handle_of handle new_one && not b) (same_self (rank area)) ∙ and_false (is_handle_of handle new_one))
+      ∙ any_fewer (strays me handle area mode) (is_handle_of handle) (λ x is. and_left (is_handle_of handle x) (not (is_gate_of area x.target)) is) (holdings_in before me)
       (open_same before me handle ∙ not_true (has_open before me handle) (allowed_reply (state_after opened_at) me (OpenArea area) (Opened handle) open_took.allowed)))
 
   -- it is among the open handles
   is_open : list_any (is_handle me handle) (state_after asked_at).namespace.openings ≡ true
   is_open =
-      sym (own_any me (is_number handle) (state_after asked_at).namespace.openings)
-      ∙ (ap (list_any (is_number handle)) open_then ∙ any_last (is_number handle) (holdings_in before me) new_one (same_self handle.number))
+      sym (own_any me (is_handle_of handle) (state_after asked_at).namespace.openings)
+      ∙ (ap (list_any (is_handle_of handle)) open_then ∙ any_last (is_handle_of handle) (holdings_in before me) new_one (same_self handle.number))
 
 -- in vain
 module _ (me : ℕ) (handle : Handle) (area : Area) (mode : Mode) (opened_at mid asked_at late : List Event)

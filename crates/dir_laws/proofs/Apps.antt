@@ -13,7 +13,7 @@ use Rattle.dir_model.specs.declared.request.Reply.{Reply}
 use Rattle.dir_model.specs.declared.request.Reply.TheVariants.{Done}
 use Rattle.dir_model.specs.Areas.{is_run_or_later}
 use Rattle.dir_model.specs.Paths.{lies_below}
-use Rattle.dir_model.specs.Replies.{is_own_at, is_own_of}
+use Rattle.dir_model.specs.Replies.{is_own_at, is_apps_inner}
 use Rattle.dir_model.specs.State.{Namespace, DirState, empty_state, folder_at}
 use Rattle.dir_model.specs.Trace.{is_mark, marked_app, app_started, state_next, states_next, state_after}
 use Rattle.dir_model.specs.Trees.{is_within, mark_prefix, app_root, is_apps_own}
@@ -91,7 +91,7 @@ module _ (front : List ℕ) (fronts : (app rest : List ℕ) → starts_with nat_
   no_app_owns h folder path away = none_own (state_after h).apps folder path (apps_rooted h) away
 
   -- so the directory answers there as it stands
-  pub not_apps_own : (h : List Event) (inner : Inner) → starts_with nat_eq inner.path front ≡ false → is_own_of (state_after h) (Some inner) ≡ false
+  pub not_apps_own : (h : List Event) (inner : Inner) → starts_with nat_eq inner.path front ≡ false → is_apps_inner (state_after h) (Some inner) ≡ false
   not_apps_own h inner away = by (folder_at (state_after h).namespace inner.spot)
     where
       by : (o : Option ℕ) → is_own_at (state_after h) inner.path o ≡ false

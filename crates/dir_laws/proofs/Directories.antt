@@ -13,7 +13,7 @@ use Rattle.dir_model.proofs.Lists.{and_left, and_right}
 use Rattle.dir_model.specs.declared.item.Inner.{Inner}
 use Rattle.dir_model.specs.declared.item.Item.{Item}
 use Rattle.dir_model.specs.Trees.{has_dir, items_in}
-use Rattle.dir_model.specs.Listings.{is_of, is_listing, begun_at, listing_of, ascend, has_named, has_item, is_item, is_named, item_names, kind_number, shows_items, shows_inside}
+use Rattle.dir_model.specs.Listings.{is_listing_of, is_listing, begun_at, listing_of, ascend, has_named, has_item, is_item, is_named, item_names, kind_number, shows_items, shows_inside}
 use Rattle.dir_laws.specs.Stretches.{Throughout, Sometime, StandsNamed, StandsInside}
 use Rattle.dir_laws.proofs.Ends.{all_called, noted_along, end_holds, end_only}
 use Rattle.dir_laws.proofs.Open.{is_change, open_along, find_own, is_self}
@@ -39,11 +39,11 @@ abbrev pub inside_now : ℕ → List ℕ → DirState → List Item
 inside_now folder path s = items_in folder path s.entries
 
 -- a listing of a directory begins with the items that stand in it, and knows no other
-pub inside_begins : (s : DirState) (me folder : ℕ) (inner : Inner) → is_listing s me ≡ false → folder_at s.namespace inner.spot ≡ Some folder → has_dir s.entries folder inner.path ≡ true → find (is_of me) (listings_replied s me (ListIn inner) Begun) ≡ Some (record { process = me; listed = listed.Inside inner folder (items_in folder inner.path s.entries) [] })
+pub inside_begins : (s : DirState) (me folder : ℕ) (inner : Inner) → is_listing s me ≡ false → folder_at s.namespace inner.spot ≡ Some folder → has_dir s.entries folder inner.path ≡ true → find (is_listing_of me) (listings_replied s me (ListIn inner) Begun) ≡ Some (record { process = me; listed = listed.Inside inner folder (items_in folder inner.path s.entries) [] })
 inside_begins s me folder inner none here there = find_own me s.listings _ none (is_self me) ∙ (ap (λ o. Some (record { process = me; listed = begun_at s inner o })) here ∙ ap (λ b. Some (record { process = me; listed = cond b (listed.Inside inner folder (items_in folder inner.path s.entries) []) (listed.Missing inner) })) there)
 
 -- what the items of an end say of a directory, where the listing began with these
-module _ (s : DirState) (es : List Event) (me q folder : ℕ) (inner : Inner) (l : List Item × List Item) (items : List Item) (others : AllByRecursion (λ e. (e.process == me) ≡ false) es) (open_now : find (is_of me) s.listings ≡ Some (record { process = q; listed = listed.Inside inner folder l.0 l.1 })) (shown : shows_inside inner items (listing_of (states_next s es) me) ≡ true) where
+module _ (s : DirState) (es : List Event) (me q folder : ℕ) (inner : Inner) (l : List Item × List Item) (items : List Item) (others : AllByRecursion (λ e. (e.process == me) ≡ false) es) (open_now : find (is_listing_of me) s.listings ≡ Some (record { process = q; listed = listed.Inside inner folder l.0 l.1 })) (shown : shows_inside inner items (listing_of (states_next s es) me) ≡ true) where
   abbrev last : List Item × List Item
   last = noted_along item_name (inside_now folder inner.path) s es is_change l
 

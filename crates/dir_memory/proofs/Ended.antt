@@ -14,7 +14,7 @@ use Rattle.dir_model.proofs.Lists.{and_left, and_right, any_push}
 use Rattle.dir_model.proofs.Chains.{state_after-push}
 use Rattle.dir_model.proofs.Allowed.{allowed_step}
 use Rattle.dir_model.specs.Paths.{is_path}
-use Rattle.dir_model.specs.Listings.{is_listing_request, is_of, is_listing}
+use Rattle.dir_model.specs.Listings.{is_listing_request, is_listing_of, is_listing}
 use Rattle.dir_model.specs.Trace.{listings_replied}
 use Rattle.dir_memory.proofs.OpenListings.{others_alike, any_found, own_none}
 use Rattle.dir_state.specs.Parts.{kill_of}
@@ -95,18 +95,18 @@ listing_lives s p (ListArea area) asks may = and_left (has_begun s.namespace p) 
 listing_lives s p (ListIn inner) asks may = and_left (has_begun s.namespace p) (not (has_ended s.namespace p)) (and_right (is_path inner.path) (lives s.namespace p) may)
 listing_lives s p _ asks may = cc
 
-own_lists : (x : ℕ) (s : DirState) (p : ℕ) (request : Request) (reply : Reply) (b : Bool) → is_listing_request request ≡ b → p ≡ x → may_step s p request ≡ true → is_listing s x ≡ false → has_begun s.namespace x ≡ false → list_any (is_of x) (listings_replied s p request reply) ≡ false
+own_lists : (x : ℕ) (s : DirState) (p : ℕ) (request : Request) (reply : Reply) (b : Bool) → is_listing_request request ≡ b → p ≡ x → may_step s p request ≡ true → is_listing s x ≡ false → has_begun s.namespace x ≡ false → list_any (is_listing_of x) (listings_replied s p request reply) ≡ false
 own_lists x s p request reply true asks same may none unborn =
     let clash : true ≡ false = sym (subst (λ (y : ℕ). has_begun s.namespace y ≡ true) same (listing_lives s p request asks may)) ∙ unborn in
     cc
 own_lists x s p request reply false plain same may none unborn =
-    subst (λ (y : ℕ). list_any (is_of y) (listings_replied s p request reply) ≡ false) same
+    subst (λ (y : ℕ). list_any (is_listing_of y) (listings_replied s p request reply) ≡ false) same
     (own_none s p request reply plain (subst (λ (y : ℕ). is_listing s y ≡ false) (sym same) none))
 
-step_lists : (x : ℕ) (s : DirState) (p : ℕ) (request : Request) (reply : Reply) → may_step s p request ≡ true → is_listing s x ≡ false → has_begun s.namespace x ≡ false → list_any (is_of x) (listings_replied s p request reply) ≡ false
+step_lists : (x : ℕ) (s : DirState) (p : ℕ) (request : Request) (reply : Reply) → may_step s p request ≡ true → is_listing s x ≡ false → has_begun s.namespace x ≡ false → list_any (is_listing_of x) (listings_replied s p request reply) ≡ false
 step_lists x s p request reply may none unborn = by (p == x) refl
   where
-    by : (b : Bool) → (p == x) ≡ b → list_any (is_of x) (listings_replied s p request reply) ≡ false
+    by : (b : Bool) → (p == x) ≡ b → list_any (is_listing_of x) (listings_replied s p request reply) ≡ false
     by true is = own_lists x s p request reply (is_listing_request request) refl (same_number p x is) may none unborn
     by false is = any_found x (listings_replied s p request reply) ∙ ((others_alike s p x is request reply).some ∙ (sym (any_found x s.listings) ∙ none))
 

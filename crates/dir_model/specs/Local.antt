@@ -29,8 +29,8 @@ abbrev pub nothing_local : Local
 nothing_local = record { intent = None; finished = false; holdings = [] }
 
 -- the handle has this number
-abbrev pub is_number : Handle → Holding → Bool
-is_number handle h = h.handle.number == handle.number
+abbrev pub is_handle_of : Handle → Holding → Bool
+is_handle_of handle h = h.handle.number == handle.number
 
 -- and this handle is open, without a lock
 abbrev pub with_handle : Local → Handle → Target → Local
@@ -38,7 +38,7 @@ with_handle m handle target = record m { holdings = m.holdings ++ record { handl
 
 -- this handle holds its lock
 abbrev pub held_in : Handle → Mode → Holding → Holding
-held_in handle mode h = cond (is_number handle h) (record h { lock = Some mode }) h
+held_in handle mode h = cond (is_handle_of handle h) (record h { lock = Some mode }) h
 
 -- and this handle holds its lock in this mode
 abbrev pub with_lock : Local → Handle → Mode → Local
@@ -46,7 +46,7 @@ with_lock m handle mode = record m { holdings = map (held_in handle mode) m.hold
 
 -- and this handle is closed
 abbrev pub without : Local → Handle → Local
-without m handle = record m { holdings = filter (λ h. not (is_number handle h)) m.holdings }
+without m handle = record m { holdings = filter (λ h. not (is_handle_of handle h)) m.holdings }
 
 -- after a request that was answered Ok
 abbrev pub local_done : Local → Request → Local
@@ -75,7 +75,7 @@ pub record IsActive (m : Local) : Type 0 where
 
 -- the handle is open in this process
 abbrev pub is_open_among : Handle → List Holding → Bool
-is_open_among handle hs = list_any (is_number handle) hs
+is_open_among handle hs = list_any (is_handle_of handle) hs
 
 -- the handle is open
 abbrev pub IsOpen : Local → Handle → Type 0
@@ -87,7 +87,7 @@ IsUnopened m handle = is_open_among handle m.holdings ≡ false
 
 -- the handle holds a lock
 abbrev pub is_locking : Handle → Holding → Bool
-is_locking handle h = is_number handle h && is_some h.lock
+is_locking handle h = is_handle_of handle h && is_some h.lock
 
 -- the handle holds no lock
 abbrev pub IsUnlocked : Local → Handle → Type 0

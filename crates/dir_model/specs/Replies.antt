@@ -136,9 +136,9 @@ bytes_at es path at room None = []
 bytes_at es path at room (Some folder) = take room (drop at (content es folder path))
 
 -- the bytes are those that a read gives
-abbrev pub is_read : DirState → Request → List ℕ → Bool
-is_read s (ReadIn inner at room) bytes = bytes_eq bytes (bytes_at s.entries inner.path at room (folder_at s.namespace inner.spot))
-is_read s _ bytes = false
+abbrev pub is_read_answer : DirState → Request → List ℕ → Bool
+is_read_answer s (ReadIn inner at room) bytes = bytes_eq bytes (bytes_at s.entries inner.path at room (folder_at s.namespace inner.spot))
+is_read_answer s _ bytes = false
 
 -- the names are an answer to the listing of an area
 abbrev pub is_names : DirState → ℕ → Request → List (List ℕ) → Bool
@@ -166,7 +166,7 @@ is_state_reply s p request Begun = is_listing_request request && not (is_listing
 is_state_reply s p request (Opened handle) = not (is_some (refusal s p request)) && (asks_for_handle request && not (has_open s.namespace p handle))
 is_state_reply s p request (Names names) = is_names s p request names
 is_state_reply s p request (Items items) = is_items s p request items
-is_state_reply s p request (Read bytes) = not (is_some (refusal s p request)) && is_read s request bytes
+is_state_reply s p request (Read bytes) = not (is_some (refusal s p request)) && is_read_answer s request bytes
 is_state_reply s p request (Refused error left) = is_refused s p request error left
 
 -- the refusals that a call may give, whatever the directory
@@ -198,13 +198,13 @@ is_own_at s path None = false
 is_own_at s path (Some folder) = is_apps_own s.apps folder path
 
 -- it stands at or below the root of a started app
-abbrev pub is_own_of : DirState → Option Inner → Bool
-is_own_of s None = false
-is_own_of s (Some inner) = is_own_at s inner.path (folder_at s.namespace inner.spot)
+abbrev pub is_apps_inner : DirState → Option Inner → Bool
+is_apps_inner s None = false
+is_apps_inner s (Some inner) = is_own_at s inner.path (folder_at s.namespace inner.spot)
 
 -- the request is about what a started app may change
 abbrev pub is_apps_request : DirState → Request → Bool
-is_apps_request s request = is_own_of s (inner_of request)
+is_apps_request s request = is_apps_inner s (inner_of request)
 
 -- how many bytes are to be appended
 abbrev pub piece_length : Request → ℕ

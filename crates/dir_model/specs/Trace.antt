@@ -23,7 +23,7 @@ use Rattle.dir_model.specs.Locks.{target_of, is_handle}
 use Rattle.dir_model.specs.State.{Namespace, DirState, empty_state, is_at, folder_at}
 use Rattle.dir_model.specs.Paths.{is_slash}
 use Rattle.dir_model.specs.Trees.{without_path, mark_prefix, app_root}
-use Rattle.dir_model.specs.Listings.{noted_all, begun, without_listing, is_listing_request}
+use Rattle.dir_model.specs.Listings.{noted_all, listing_begun, without_listing, is_listing_request}
 
 -- a folder that stood there is at the other location
 abbrev pub moved : Spot → Spot → Option Spot → Option Spot
@@ -135,7 +135,7 @@ listings_ended s p request = cond (is_listing_request request) (without_listing 
 -- the same after any reply
 abbrev pub listings_replied : DirState → ℕ → Request → Reply → List OpenListing
 listings_replied s p request Done = listings_done s p request
-listings_replied s p request Begun = s.listings ++ option_to_list (begun s p request)
+listings_replied s p request Begun = s.listings ++ option_to_list (listing_begun s p request)
 listings_replied s p request (Names names) = listings_ended s p request
 listings_replied s p request (Items items) = listings_ended s p request
 listings_replied s p request (Refused error left) = listings_ended s p request

@@ -29,13 +29,13 @@ abbrev pub seen_listed : Seen → Request → Reply → Seen
 seen_listed s request reply = seen_replied (seen_replied s request Begun) request reply
 
 -- others' events aren't seen, nor its own kill
-abbrev pub saw : ℕ → Seen → Event → Seen
-saw me s e = cond (is_foreign me e) s (seen_replied s e.request e.reply)
+abbrev pub seen_after_event : ℕ → Seen → Event → Seen
+seen_after_event me s e = cond (is_foreign me e) s (seen_replied s e.request e.reply)
 
 -- what a process knows after more events
 abbrev pub seen_after : ℕ → Seen → List Event → Seen
 seen_after me s [] = s
-seen_after me s (e ∷ es) = seen_after me (saw me s e) es
+seen_after me s (e ∷ es) = seen_after me (seen_after_event me s e) es
 
 -- what it knows by a whole trace
 abbrev pub seen_of : ℕ → List Event → Seen

@@ -38,12 +38,12 @@ is_garbage area.Garbage = true
 is_garbage _ = false
 
 -- a place of the pod with this name
-abbrev pub is_of : List ℕ → Spot → Bool
-is_of u spot = is_stage spot.area && bytes_eq spot.name u
+abbrev pub is_spot_of_pod : List ℕ → Spot → Bool
+is_spot_of_pod u spot = is_stage spot.area && bytes_eq spot.name u
 
 -- what a handle was opened on
 abbrev pub is_claim_of : List ℕ → Target → Bool
-is_claim_of u (Claim spot) = is_of u spot
+is_claim_of u (Claim spot) = is_spot_of_pod u spot
 is_claim_of u _ = false
 
 -- the handle was opened on the lock of this area
@@ -59,7 +59,7 @@ area_of (Gate area) = area
 
 -- it has asked for nothing yet
 abbrev pub nothing_standing : Standing
-nothing_standing = record { intent = None; made = false; gated = false; holdings = []; moves = []; looked = []; cleared = [] }
+nothing_standing = record { intent = None; made = false; embryo_under_lock = false; holdings = []; moves = []; looked = []; seen_unowned_under_claim = [] }
 
 -- the lock is held shared
 abbrev pub is_shared : Option Mode → Bool
@@ -151,40 +151,40 @@ abbrev pub holds_claim : List ℕ → Standing → Bool
 holds_claim u s = list_any (is_claim_held u) s.holdings
 
 -- it holds the area's lock shared
-abbrev pub holds_gate : Area → Standing → Bool
-holds_gate area s = list_any (is_gate_shared area) s.holdings
+abbrev pub shares_area : Area → Standing → Bool
+shares_area area s = list_any (is_gate_shared area) s.holdings
 
 -- it holds the area's lock exclusively
-abbrev pub closes_gate : Area → Standing → Bool
-closes_gate area s = list_any (is_gate_exclusive area) s.holdings
+abbrev pub excludes_area : Area → Standing → Bool
+excludes_area area s = list_any (is_gate_exclusive area) s.holdings
 
 -- the name is among these
-abbrev pub has_name : List ℕ → List (List ℕ) → Bool
-has_name u names = list_any (λ name. bytes_eq name u) names
+abbrev pub is_name_among : List ℕ → List (List ℕ) → Bool
+is_name_among u names = list_any (λ name. bytes_eq name u) names
 
 -- a location in this area with this name is among these
 abbrev pub has_place : List ℕ → Area → List Spot → Bool
 has_place u area spots = list_any (λ spot. bytes_eq spot.name u && is_in area spot.area) spots
 
 -- its last move of the pod, if any
-abbrev pub last_of : List ℕ → List Spot → Option Spot
-last_of u moves = find (is_of u) moves
+abbrev pub last_move_of : List ℕ → List Spot → Option Spot
+last_move_of u moves = find (is_spot_of_pod u) moves
 
 -- the handle has this number
-abbrev pub is_number : Handle → Held → Bool
-is_number handle h = h.handle.number == handle.number
+abbrev pub is_handle_held : Handle → Held → Bool
+is_handle_held handle h = h.handle.number == handle.number
 
 -- some open handle has this number
 abbrev pub is_known : Handle → Standing → Bool
-is_known handle s = list_any (is_number handle) s.holdings
+is_known handle s = list_any (is_handle_held handle) s.holdings
 
 -- the open handle with this number
 abbrev pub find_held : Handle → Standing → Option Held
-find_held handle s = find (is_number handle) s.holdings
+find_held handle s = find (is_handle_held handle) s.holdings
 
 -- the changes
-abbrev pub held_in : Handle → Mode → Held → Held
-held_in handle mode h = cond (is_number handle h) (record h { lock = Some mode }) h
+abbrev pub held_with_mode : Handle → Mode → Held → Held
+held_with_mode handle mode h = cond (is_handle_held handle h) (record h { lock = Some mode }) h
 
 -- a handle after the pod was moved: it isn't under the activation lock any more
 abbrev pub uncover : Spot → Held → Held
@@ -192,7 +192,7 @@ uncover from h = record h { covered = not (is_stage from.area && is_own_of from.
 
 -- a handle of that kind is given up with this number
 abbrev pub gives_up : (Held → Bool) → Handle → List Held → Bool
-gives_up test handle hs = list_any (λ h. test h && is_number handle h) hs
+gives_up test handle hs = list_any (λ h. test h && is_handle_held handle h) hs
 
 -- with this handle the activation lock is given up under which the other was opened
 abbrev pub gives_up_cover : Handle → List Held → Target → Bool
@@ -200,12 +200,12 @@ gives_up_cover handle hs (Own spot) = gives_up (is_claim_held spot.name) handle 
 gives_up_cover handle hs _ = false
 
 -- a handle after another was closed: it is under the activation lock only while that is held
-abbrev pub recover : Handle → List Held → Held → Held
-recover handle hs h = record h { covered = not (gives_up_cover handle hs h.target) && h.covered }
+abbrev pub uncovered_by_close : Handle → List Held → Held → Held
+uncovered_by_close handle hs h = record h { covered = not (gives_up_cover handle hs h.target) && h.covered }
 
 -- a handle was given up, and what hung on it
 abbrev pub given_up : Handle → Standing → Standing
-given_up handle s = record s { gated = not (gives_up (is_gate_shared area.Embryo) handle s.holdings) && s.gated; holdings = map (recover handle s.holdings) (filter (λ h. not (is_number handle h)) s.holdings); cleared = filter (λ u. not (gives_up (is_claim_held u) handle s.holdings)) s.cleared }
+given_up handle s = record s { embryo_under_lock = not (gives_up (is_gate_shared area.Embryo) handle s.holdings) && s.embryo_under_lock; holdings = map (uncovered_by_close handle s.holdings) (filter (λ h. not (is_handle_held handle h)) s.holdings); seen_unowned_under_claim = filter (λ u. not (gives_up (is_claim_held u) handle s.holdings)) s.seen_unowned_under_claim }
 
 -- where a pod's own lock was opened, in a list
 abbrev pub own_spot : Target → List Spot
@@ -220,7 +220,7 @@ prepared_name _ = []
 -- Own was had shared by this handle
 abbrev pub looked_by : Option Held → Standing → Standing
 looked_by None s = s
-looked_by (Some h) s = record s { looked = own_spot h.target ++ s.looked; cleared = cond h.covered (prepared_name h.target) [] ++ s.cleared }
+looked_by (Some h) s = record s { looked = own_spot h.target ++ s.looked; seen_unowned_under_claim = cond h.covered (prepared_name h.target) [] ++ s.seen_unowned_under_claim }
 
 -- where a move of a pod led
 abbrev pub and_move : Spot → List Spot → List Spot
@@ -234,12 +234,12 @@ is_own_in_prepared spot which.Claim = false
 -- after an answer Ok
 abbrev pub standing_done : Standing → Request → Standing
 standing_done s (Begin intent) = record s { intent = Some intent }
-standing_done s (MakeFolder spot) = cond (is_stage spot.area) (record s { made = true; gated = holds_gate area.Embryo s }) s
-standing_done s (MoveFolder from to) = record s { gated = not (is_in area.Embryo from.area && draws from.name s) && s.gated; moves = and_move to s.moves; holdings = map (uncover from) s.holdings }
-standing_done s (TryLock handle Shared) = looked_by (find_held handle s) (record s { holdings = map (held_in handle Shared) s.holdings })
-standing_done s (TryLock handle Exclusive) = record s { holdings = map (held_in handle Exclusive) s.holdings }
+standing_done s (MakeFolder spot) = cond (is_stage spot.area) (record s { made = true; embryo_under_lock = shares_area area.Embryo s }) s
+standing_done s (MoveFolder from to) = record s { embryo_under_lock = not (is_in area.Embryo from.area && draws from.name s) && s.embryo_under_lock; moves = and_move to s.moves; holdings = map (uncover from) s.holdings }
+standing_done s (TryLock handle Shared) = looked_by (find_held handle s) (record s { holdings = map (held_with_mode handle Shared) s.holdings })
+standing_done s (TryLock handle Exclusive) = record s { holdings = map (held_with_mode handle Exclusive) s.holdings }
 standing_done s (Close handle) = given_up handle s
-standing_done s Finish = record s { holdings = []; gated = false; cleared = [] }
+standing_done s Finish = record s { holdings = []; embryo_under_lock = false; seen_unowned_under_claim = [] }
 standing_done s _ = s
 
 -- after a handle was opened

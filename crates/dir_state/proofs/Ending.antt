@@ -18,7 +18,7 @@ use Rattle.dir_model.specs.Listings.{is_listing_request, has_name, item_names, i
 use Rattle.dir_model.specs.Replies.{is_reply, is_state_reply, is_any_reply, is_apps_request, is_fault}
 use Rattle.dir_model.specs.Calls.{may_step, is_allowed, event}
 use Rattle.dir_model.proofs.Lists.{and_both, and_left, and_right, or_map, or_true, same_self, any_of_map}
-use Rattle.dir_state.specs.Answers.{in_order, kind_or_dir, item_named, items_in_order, shown, shown_of, listing_answer}
+use Rattle.dir_state.specs.Answers.{inserted_in_order, kind_or_dir, item_named, items_in_order, shown, shown_or_refused, listing_answer}
 use Rattle.dir_state.proofs.Turns.{allowed_by, end_turn}
 use Rattle.dir_state.proofs.Orders.{in_order_ascends, in_order_all, in_order_has}
 
@@ -37,10 +37,10 @@ all_among (x ∷ xs) ys t passes among =
     and_both (t x) (list_all t xs) (passes x (among x (rw (self x) refl)))
     (all_among xs ys t passes (λ name there. among name (rw there (or_true (bytes_eq x name)))))
 
-pub names_shown : (through ever : List (List ℕ)) → shows_names through ever (in_order [] through) ≡ true
+pub names_shown : (through ever : List (List ℕ)) → shows_names through ever (inserted_in_order [] through) ≡ true
 names_shown through ever =
-    and_both (ascend (in_order [] through)) (list_all (has_name (in_order [] through)) through && list_all (has_name (through ++ ever)) (in_order [] through)) (in_order_ascends [] through refl)
-    (and_both (list_all (has_name (in_order [] through)) through) (list_all (has_name (through ++ ever)) (in_order [] through)) (in_order_has [] through)
+    and_both (ascend (inserted_in_order [] through)) (list_all (has_name (inserted_in_order [] through)) through && list_all (has_name (through ++ ever)) (inserted_in_order [] through)) (in_order_ascends [] through refl)
+    (and_both (list_all (has_name (inserted_in_order [] through)) through) (list_all (has_name (through ++ ever)) (inserted_in_order [] through)) (in_order_has [] through)
     (in_order_all (has_name (through ++ ever)) [] through refl (all_among through through (has_name (through ++ ever)) (λ name there. any_front (λ n. bytes_eq n name) through ever there) (λ name there. there))))
 
 -- items
@@ -94,14 +94,14 @@ all_has t (y ∷ ys) name all there = by (bytes_eq y name) refl there (λ later.
     by false is there rest = rest there
 
 -- what stands in order stood in the list
-in_order_from : (names : List (List ℕ)) (name : List ℕ) → has_name (in_order [] names) name ≡ true → has_name names name ≡ true
+in_order_from : (names : List (List ℕ)) (name : List ℕ) → has_name (inserted_in_order [] names) name ≡ true → has_name names name ≡ true
 in_order_from names name there =
-    all_has (has_name names) (in_order [] names) name
+    all_has (has_name names) (inserted_in_order [] names) name
     (in_order_all (has_name names) [] names refl (all_among names names (has_name names) (λ n h. h) (λ n h. h))) there
 
 pub items_shown : (through ever : List Item) → shows_items through ever (items_in_order through) ≡ true
 items_shown through ever =
-    let names : List (List ℕ) = in_order [] (item_names through) in
+    let names : List (List ℕ) = inserted_in_order [] (item_names through) in
     and_both (ascend (item_names (items_in_order through))) (list_all (has_named (items_in_order through)) through && list_all (has_item (through ++ ever)) (items_in_order through))
     (ap ascend (names_of through names) ∙ in_order_ascends [] (item_names through) refl)
     (and_both (list_all (has_named (items_in_order through)) through) (list_all (has_item (through ++ ever)) (items_in_order through))
@@ -130,13 +130,13 @@ other_request _ X other x about = absurd (by about)
     by h = cc
 
 pub items_ascend : (items : List Item) → ascend (item_names (items_in_order items)) ≡ true
-items_ascend items = ap ascend (names_of items (in_order [] (item_names items))) ∙ in_order_ascends [] (item_names items) refl
+items_ascend items = ap ascend (names_of items (inserted_in_order [] (item_names items))) ∙ in_order_ascends [] (item_names items) refl
 
 module _ (s : DirState) (p : ℕ) where
   shown_by : (request : Request) (q : ℕ) (x : Listed) → listing_of s p ≡ Some (record { process = q; listed = x }) → is_about request x ≡ true → is_reply s p request (shown x) ≡ true
   shown_by (ListArea area) q (listed.Area here through ever) is about =
-      ap (shows_area area (in_order [] through)) is
-      ∙ and_both (rank here == rank area) (shows_names through ever (in_order [] through)) about (names_shown through ever)
+      ap (shows_area area (inserted_in_order [] through)) is
+      ∙ and_both (rank here == rank area) (shows_names through ever (inserted_in_order [] through)) about (names_shown through ever)
   shown_by (ListIn inner) q (listed.Missing here) is about =
       cond_both (is_apps_request s (ListIn inner)) (is_any_reply s p (ListIn inner) (Refused Missing 0)) (is_state_reply s p (ListIn inner) (Refused Missing 0))
       (ap (is_open_listing (ListIn inner)) is ∙ about) (ap (shows_missing inner) is ∙ about)
@@ -147,7 +147,7 @@ module _ (s : DirState) (p : ℕ) where
       ∙ and_both (is_inner here inner) (shows_items through ever (items_in_order through)) about (items_shown through ever))
   shown_by request q x is about = cc
 
-  shown_reply : (request : Request) (o : Option OpenListing) → listing_of s p ≡ o → is_open_listing request o ≡ true → is_reply s p request (shown_of o) ≡ true
+  shown_reply : (request : Request) (o : Option OpenListing) → listing_of s p ≡ o → is_open_listing request o ≡ true → is_reply s p request (shown_or_refused o) ≡ true
   shown_reply request None is about = cc
   shown_reply request (Some l) is about = shown_by request l.process l.listed is about
 

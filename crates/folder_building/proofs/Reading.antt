@@ -12,7 +12,7 @@ use Rattle.dir_trait.specs.DirCalls.{DirAt, DirCall}
 use Rattle.dir_trait.specs.Knowledge.{Knows}
 use Rattle.dir_trait.proofs.Knowing.{knows_call}
 use Rattle.dir_trait.specs.Effects.{OnlyAsks}
-use Rattle.folder_building.specs.Sources.{reads_images, may_read_images}
+use Rattle.folder_building.specs.Sources.{reads_image_files, may_read_images}
 use Rattle.folder_building.proofs.Working.{worked_call}
 
 abbrev pub image_path : List ℕ → List ℕ → Inner
@@ -27,7 +27,7 @@ read_seen s name path at size room (Ok n) may = ap (λ (b : Bool). let x : Seen 
 read_seen s name path at size room (Err e) may = ap (λ (b : Bool). let x : Seen = record s { kept = b && s.kept } in x) may
 
 module _ {observed : Bool} {old new : DirAt} (name path : List ℕ) (at size : ℕ) (room : List ℕ) (r : Result ℕ DirError) (c : DirCall observed old (ReadIn (image_path name path) at size) (read_reply room r) new) where
-  pub image_worked : OnlyAsks observed reads_images old new
+  pub image_worked : OnlyAsks observed reads_image_files old new
   image_worked = worked_call refl (read_local old.local (image_path name path) at size room r) c
 
   pub image_known : observed ≡ true → (s : Seen) → may_read_images s.standing ≡ true → Knows old s → Knows new s

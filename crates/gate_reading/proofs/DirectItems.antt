@@ -13,7 +13,7 @@ use Rattle.dir_rules.specs.declared.seen.Entry.{Entry}
 use Rattle.lifecycle.proofs.Handles.{both}
 use Rattle.lifecycle.proofs.Places.{name_same}
 use Rattle.folder_contents.specs.Entries.{is_inside, entry_of, entries_in}
-use Rattle.gate_reading.specs.Listings.{has_direct, item_of, has_direct_item}
+use Rattle.gate_reading.specs.Listings.{has_direct, shown_item_of, has_direct_item}
 use Rattle.dir_laws.proofs.Apps.{not_empty}
 
 -- a file name is a path of one name
@@ -44,14 +44,14 @@ one_name (b ∷ bs) = by (is_file_name (b ∷ bs)) refl
 -- a test of what a listing shows is one of the entries with one name
 module _ (t : Item → Bool) (k : ℕ) where
   abbrev shown : Entry → Bool
-  shown e = is_file_name e.path && t (item_of e)
+  shown e = is_file_name e.path && t (shown_item_of e)
 
   items_tested : (es : List TreeEntry) → list_any t (items_in k [] es) ≡ list_any shown (entries_in k es)
   items_tested [] = refl
   items_tested (x ∷ es) = by (x.folder == k) (items_tested es)
     where
       item : Item
-      item = item_of (entry_of x)
+      item = shown_item_of (entry_of x)
 
       one : (c : Bool) → list_any t (items_in k [] es) ≡ list_any shown (entries_in k es) →
           list_any t (cons_option (cond c (Some item) None) (items_in k [] es)) ≡ ((c && t item) || list_any shown (entries_in k es))
@@ -90,5 +90,5 @@ named_direct k es item =
 pub item_direct : (k : ℕ) (es : List TreeEntry) (item : Item) → has_item (items_in k [] es) item ≡ has_direct_item (entries_in k es) item
 item_direct k es item =
     items_tested (is_item item) k es
-    ∙ one_path (λ e. is_item item (item_of e)) item.name
+    ∙ one_path (λ e. is_item item (shown_item_of e)) item.name
     (λ e is. name_same e.path item.name (and_left (bytes_eq e.path item.name) _ is)) (entries_in k es)

@@ -15,7 +15,7 @@ use Rattle.dir_model.specs.Calls.{is_begin, is_kill, is_foreign, Extends}
 use Rattle.dir_model.proofs.Chains.{states_next-append}
 use Rattle.dir_model.proofs.Lists.{and_left, and_right, and_both, any_push, not_true, all_left, all_right, all_weaker, or_map, same_rest}
 use Rattle.dir_rules.specs.declared.seen.Seen.{Seen}
-use Rattle.dir_rules.specs.Standing.{holds_gate}
+use Rattle.dir_rules.specs.Standing.{shares_area}
 use Rattle.dir_rules.specs.Conforms.{seen_of, IsTied}
 use Rattle.dir_trait.specs.DirCalls.{DirAt}
 use Rattle.dir_files.specs.Reads.{reads_at}
@@ -24,7 +24,7 @@ use Rattle.lifecycle.proofs.Lives.{lived}
 use Rattle.folder_contents.specs.UnderGate.{keeps_handles, shares_images}
 use Rattle.folder_contents.proofs.Along.{happens, conforming_to}
 use Rattle.folder_contents.proofs.Known.{alive_at}
-use Rattle.gate_reading.specs.Gate.{HasGate, goes_on, GoesOn}
+use Rattle.gate_reading.specs.Gate.{HasGate, goes_on, GoesOnUnderLock}
 use Rattle.gate_reading.proofs.OwnSteps.{own_is}
 
 asked_wider : (asks wider : Request → Bool) {me : ℕ} {old new : List Event} →
@@ -57,7 +57,7 @@ knows_standing {p} {trace} {s} t living = ap (λ (x : Seen). x.standing) (t.livi
 
 pub knows_gate : {p : ℕ} {trace : List Event} {s : Seen} → IsTied p trace s → lives (state_after trace).namespace p ≡ true →
     shares_images s ≡ true → shares_images (seen_of p trace) ≡ true
-knows_gate {p} {trace} {s} t living held = ap (holds_gate Images) (sym (knows_standing t living)) ∙ held
+knows_gate {p} {trace} {s} t living held = ap (shares_area Images) (sym (knows_standing t living)) ∙ held
 
 -- who lives after such steps lived before them
 not_me : (b : Bool) → ((not b || false) || false) ≡ true → b ≡ false
@@ -97,7 +97,7 @@ lived_first me s [] a living = living
 lived_first me s (e ∷ es) a living =
     lived_step me s.namespace e.process e.request e.reply a.0 (lived_first me (state_next s e) es a.1 living)
 
-module _ {asks : Request → Bool} {s : Seen} {old new : DirAt} (g : GoesOn asks s old new) where
+module _ {asks : Request → Bool} {s : Seen} {old new : DirAt} (g : GoesOnUnderLock asks s old new) where
   abbrev pub Each : List Event → Type 0
   Each es = AllByRecursion (λ e. (is_foreign old.process e || goes_on e.request) ≡ true) es
 

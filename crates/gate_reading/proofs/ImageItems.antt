@@ -19,7 +19,7 @@ use Rattle.dir_files.specs.Listed.{ShowsInside, ShowsDirectory}
 use Rattle.lifecycle.specs.Executions.{IsConforming}
 use Rattle.lifecycle.proofs.Places.{name_same, same_name}
 use Rattle.folder_contents.specs.Entries.{entries_in}
-use Rattle.gate_reading.specs.Listings.{has_direct, item_of, has_direct_item, ShowsEntries, ListingsTell}
+use Rattle.gate_reading.specs.Listings.{has_direct, shown_item_of, has_direct_item, ShowsEntries, ListingsTell}
 use Rattle.gate_reading.proofs.PlainPaths.{plain_own}
 use Rattle.gate_reading.proofs.DirectItems.{named_direct, item_direct}
 use Rattle.gate_reading.proofs.Listed.{throughout, sometime, stands_in}
@@ -60,10 +60,10 @@ shown_item (x ∷ xs) name h = by (bytes_eq x.name name) refl h (λ l. shown_ite
 item_named : (es : List Entry) (item : Item) → has_direct_item es item ≡ true → has_direct es item.name ≡ true
 item_named es item h =
     and_both (is_file_name item.name) (list_any (λ e. bytes_eq e.path item.name) es)
-    (and_left (is_file_name item.name) (list_any (λ e. is_item item (item_of e)) es) h)
-    (any_wider (λ e. is_item item (item_of e)) (λ e. bytes_eq e.path item.name)
+    (and_left (is_file_name item.name) (list_any (λ e. is_item item (shown_item_of e)) es) h)
+    (any_wider (λ e. is_item item (shown_item_of e)) (λ e. bytes_eq e.path item.name)
     (λ e is. and_left (bytes_eq e.path item.name) _ is) es
-    (and_right (is_file_name item.name) (list_any (λ e. is_item item (item_of e)) es) h))
+    (and_right (is_file_name item.name) (list_any (λ e. is_item item (shown_item_of e)) es) h))
 
 pub same_test : (a b : Bool) → (a ≡ true → b ≡ true) → (b ≡ true → a ≡ true) → a ≡ b
 same_test true b f g = sym (f refl)

@@ -20,7 +20,7 @@ use Rattle.folder_contents.specs.Entries.{is_inside, entry_of, entries_in, file_
 use Rattle.folder_contents.specs.UnderGate.{keeps_handles}
 use Rattle.folder_contents.proofs.Entries.{content_is}
 use Rattle.gate_reading.specs.Gate.{HasGate}
-use Rattle.gate_reading.specs.Files.{is_plain, FindsFrom, FilesStay, NoneComes}
+use Rattle.gate_reading.specs.Files.{is_outside_stage1, FindsFrom, FilesStay, NoneComes}
 use Rattle.gate_reading.proofs.OwnSteps.{stays_to}
 use Rattle.gate_reading.proofs.PlainPaths.{plain_own}
 
@@ -56,7 +56,7 @@ same_file s t inner k here there same =
 
 -- at each own step the file is that of the beginning
 pub finds : (trace : List Event) → IsConforming trace → (p : ℕ) (before more later : List Event) (spot : Spot) (path : List ℕ) (folder : ℕ) →
-    trace ≡ (before ++ more) ++ later → is_in Images spot.area ≡ true → is_plain path ≡ true → HasGate p before more →
+    trace ≡ (before ++ more) ++ later → is_in Images spot.area ≡ true → is_outside_stage1 path ≡ true → HasGate p before more →
     folder_at (state_after before).namespace spot ≡ Some folder →
     FindsFrom p (inner_at spot path) (file_at (state_after before) (inner_at spot path)) before (before ++ more)
 finds trace conforming p before more later spot path folder whole is plain gate at x rest step split own =

@@ -10,7 +10,7 @@ use Rattle.dir_model.specs.Calls.{event}
 use Rattle.dir_model.specs.State.{DirState, folder_at}
 use Rattle.dir_model.specs.Trace.{state_after}
 use Rattle.dir_model.specs.Trees.{bytes_of}
-use Rattle.dir_model.specs.Replies.{is_reply, is_state_reply, is_any_reply, is_read, is_apps_request, refused_in, file_refusal}
+use Rattle.dir_model.specs.Replies.{is_reply, is_state_reply, is_any_reply, is_read_answer, is_apps_request, refused_in, file_refusal}
 use Rattle.dir_rules.specs.declared.seen.Entry.{Entry}
 use Rattle.lifecycle.proofs.Deletions.{reply_at}
 use Rattle.lifecycle.proofs.Draws.{conforming_left}
@@ -49,7 +49,7 @@ read_by path es None so is = cc
 read_where : (s : DirState) (p : ℕ) (inner : Inner) (at room : ℕ) (bytes : List ℕ) → is_apps_request s (ReadIn inner at room) ≡ false →
     is_reply s p (ReadIn inner at room) (Read bytes) ≡ true → (folder : ℕ) × (folder_at s.namespace inner.spot ≡ Some folder)
 read_where s p inner at room bytes plain is =
-    read_by inner.path s.entries (folder_at s.namespace inner.spot) (is_read s (ReadIn inner at room) bytes)
+    read_by inner.path s.entries (folder_at s.namespace inner.spot) (is_read_answer s (ReadIn inner at room) bytes)
     (sym (ap (λ b. cond b (is_any_reply s p (ReadIn inner at room) (Read bytes)) (is_state_reply s p (ReadIn inner at room) (Read bytes))) plain) ∙ is)
 
 pub pods_read : (trace : List Event) → IsLegal trace → PodsReadAsMade trace

@@ -29,7 +29,7 @@ use Rattle.dir_rules.specs.declared.standing.Held.{Held}
 use Rattle.dir_rules.specs.declared.standing.Standing.{Standing}
 use Rattle.dir_rules.specs.declared.seen.Seen.{Seen}
 use Rattle.dir_rules.specs.declared.seen.ShownArea.{ShownArea}
-use Rattle.dir_rules.specs.Standing.{closes_gate}
+use Rattle.dir_rules.specs.Standing.{excludes_area}
 use Rattle.dir_rules.specs.LockRules.{is_removal_held, is_removal_target, may_remove}
 use Rattle.dir_rules.specs.Seen.{with_items, with_names}
 use Rattle.dir_rules.specs.Conforms.{seen_replied, seen_listed, IsTied}
@@ -38,7 +38,7 @@ use Rattle.dir_trait.specs.DirCalls.{DirAt, ListCall, HeldBetween}
 use Rattle.dir_files.proofs.Folders.{tells_present, tells_absent}
 use Rattle.dir_trait.specs.Knowledge.{SameHandles, Knows}
 use Rattle.dir_files.specs.Reads.{inner_at, OnlyReads, may_read, reads_at}
-use Rattle.image_reading.specs.Places.{image_spot, image_inner, IsPresent, IsAbsent}
+use Rattle.image_reading.specs.Places.{image_spot, image_inner, IsPresent, IsImageAbsent}
 use Rattle.image_reading.specs.Looks.{reads_image, reads_images, OnlyReadsImage, OnlyReadsImages}
 
 -- a listing that left nothing is one call
@@ -95,9 +95,9 @@ module _ (s : Seen) (key : StoreKey) (may : may_read Images s.standing ≡ true)
   seen_items (Err e) = ap (λ (a : Bool). let x : Seen = record s { kept = a && (a && s.kept) } in x) may
 
 module _ (s : Seen) (may : may_read Images s.standing ≡ true) where
-  seen_names : (r : Result (List (List ℕ)) DirError) → (areas : List ShownArea) × (closes_gate Images s.standing ≡ false → areas ≡ s.areas) × (seen_listed s (ListArea Images) (names_reply r) ≡ record s { areas = areas })
+  seen_names : (r : Result (List (List ℕ)) DirError) → (areas : List ShownArea) × (excludes_area Images s.standing ≡ false → areas ≡ s.areas) × (seen_listed s (ListArea Images) (names_reply r) ≡ record s { areas = areas })
   seen_names (Ok names) =
-      let areas = cond (closes_gate Images s.standing) (with_names Images names s.areas) s.areas in
+      let areas = cond (excludes_area Images s.standing) (with_names Images names s.areas) s.areas in
       (areas, λ off. rw off refl, ap (λ (a : Bool). let x : Seen = record s { areas = areas; kept = a && (a && s.kept) } in x) may)
   seen_names (Err e) = (s.areas, λ off. refl, ap (λ (a : Bool). let x : Seen = record s { kept = a && (a && s.kept) } in x) may)
 
@@ -192,5 +192,5 @@ image_items_at {observed} {old} {new} key spot r same c = image_items key r (sub
 pub present_at : {observed : Bool} {old new : DirAt} {items : List Item} (key : StoreKey) (spot : Spot) → spot ≡ image_spot key → observed ≡ true → ListCall observed old (ListIn (inner_at spot [])) (Items items) new → HeldBetween old new (IsPresent key)
 present_at {observed} {old} {new} {items} key spot same t c = tells_present t (subst (λ (x : Spot). ListCall observed old (ListIn (inner_at x [])) (Items items) new) same c)
 
-pub absent_at : {observed : Bool} {old new : DirAt} (key : StoreKey) (spot : Spot) → spot ≡ image_spot key → observed ≡ true → ListCall observed old (ListIn (inner_at spot [])) (Refused Missing 0) new → HeldBetween old new (IsAbsent key)
+pub absent_at : {observed : Bool} {old new : DirAt} (key : StoreKey) (spot : Spot) → spot ≡ image_spot key → observed ≡ true → ListCall observed old (ListIn (inner_at spot [])) (Refused Missing 0) new → HeldBetween old new (IsImageAbsent key)
 absent_at {observed} {old} {new} key spot same t c = tells_absent t (subst (λ (x : Spot). ListCall observed old (ListIn (inner_at x [])) (Refused Missing 0) new) same c)

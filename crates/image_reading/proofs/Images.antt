@@ -11,11 +11,11 @@ use Rattle.image_reading.specs.declared.file.KeptManifest.{KeptManifest}
 use Rattle.image_reading.specs.Places.{stored_path, image_inner, manifest_name, id_name, tree_name, mark_name}
 use Rattle.image_reading.specs.Looks.{OnlyReadsImage}
 use Rattle.image_reading.specs.Refusals.{IsReadRefusal, IsDamaged}
-use Rattle.image_reading.specs.Files.{most_of_manifest, most_of_id, most_of_tree, IsNoManifest, IsNoId, IsNoListing, ReadsKept, ReadsManifest, LacksManifest, LacksId, LacksTree, LacksMoment}
-use Rattle.image_reading.specs.Images.{ReadsParts, ReadsImage, HasManifest, HasId, LacksInTurn, IsFirstLack, LacksImage, LacksDigest}
+use Rattle.image_reading.specs.Files.{most_of_manifest, most_of_id, most_of_tree, IsNoImageManifest, IsNoId, IsNoListing, ReadsKept, ReadsImageManifest, ReadsNoImageManifest, LacksId, LacksTree, LacksMoment}
+use Rattle.image_reading.specs.Images.{ReadsParts, ReadsImage, ReadsSomeManifest, ReadsSomeId, LacksInTurn, IsFirstLack, LacksImage, LacksDigest}
 use Rattle.image_reading.proofs.Widths.{held_after, file_after, file_before, lack_after, lack_before, marks_after, marks_before}
 
-pub manifest_kept : (key : StoreKey) {old new : DirAt} (kept : KeptManifest) → ReadsKept key kept old new → ReadsManifest key kept.manifest old new
+pub manifest_kept : (key : StoreKey) {old new : DirAt} (kept : KeptManifest) → ReadsKept key kept old new → ReadsImageManifest key kept.manifest old new
 manifest_kept key kept r = record { bytes = r.bytes; few = r.few; read = r.read; holds = r.holds.1 }
 
 module _ {observed : Bool} {asks : Request → Bool} {Keeps : DirAt → DirAt → Type 0} (t : observed ≡ true) where
@@ -23,8 +23,8 @@ module _ {observed : Bool} {asks : Request → Bool} {Keeps : DirAt → DirAt �
   moment_lack_after key c ab (inl absent) = inl (held_after t c ab absent)
   moment_lack_after key c ab (inr shown) = inr (marks_after t ab shown)
 
-  manifest_lack_after : (key : StoreKey) {a b : DirAt} (c : DirAt) → OnlyAsksAndKeeps observed asks Keeps a b → LacksManifest key b c → LacksManifest key a c
-  manifest_lack_after key c ab l = lack_after t (image_inner key manifest_name) most_of_manifest IsNoManifest c ab l
+  manifest_lack_after : (key : StoreKey) {a b : DirAt} (c : DirAt) → OnlyAsksAndKeeps observed asks Keeps a b → ReadsNoImageManifest key b c → ReadsNoImageManifest key a c
+  manifest_lack_after key c ab l = lack_after t (image_inner key manifest_name) most_of_manifest IsNoImageManifest c ab l
 
   pub id_lack_after : (key : StoreKey) {a b : DirAt} (c : DirAt) → OnlyAsksAndKeeps observed asks Keeps a b → LacksId key b c → LacksId key a c
   id_lack_after key c ab l = lack_after t (image_inner key id_name) most_of_id (IsNoId key) c ab l
@@ -57,15 +57,15 @@ module _ {observed : Bool} {asks : Request → Bool} {Keeps : DirAt → DirAt �
 
 -- the first of the three that an error tells of
 module _ (key : StoreKey) (third : List ℕ) (LacksThird : DirAt → DirAt → Type 0) {old new : DirAt} where
-  pub lacks_first : (e : StoreError) → IsReadRefusal (λ path. path ≡ stored_path key manifest_name) e → (IsDamaged e → LacksManifest key old new) → IsFirstLack key third LacksThird e old new
+  pub lacks_first : (e : StoreError) → IsReadRefusal (λ path. path ≡ stored_path key manifest_name) e → (IsDamaged e → ReadsNoImageManifest key old new) → IsFirstLack key third LacksThird e old new
   lacks_first (Damaged path) at lacks = inl (at, lacks tt)
   lacks_first e at lacks = tt
 
-  pub lacks_second : (e : StoreError) → HasManifest key old new → IsReadRefusal (λ path. path ≡ stored_path key id_name) e → (IsDamaged e → LacksId key old new) → IsFirstLack key third LacksThird e old new
+  pub lacks_second : (e : StoreError) → ReadsSomeManifest key old new → IsReadRefusal (λ path. path ≡ stored_path key id_name) e → (IsDamaged e → LacksId key old new) → IsFirstLack key third LacksThird e old new
   lacks_second (Damaged path) has at lacks = inr (inl (at, has, lacks tt))
   lacks_second e has at lacks = tt
 
-  pub lacks_third : (e : StoreError) → HasManifest key old new → HasId key old new → IsReadRefusal (λ path. path ≡ stored_path key third) e → (IsDamaged e → LacksThird old new) → IsFirstLack key third LacksThird e old new
+  pub lacks_third : (e : StoreError) → ReadsSomeManifest key old new → ReadsSomeId key old new → IsReadRefusal (λ path. path ≡ stored_path key third) e → (IsDamaged e → LacksThird old new) → IsFirstLack key third LacksThird e old new
   lacks_third (Damaged path) has both at lacks = inr (inr (at, has, both, lacks tt))
   lacks_third e has both at lacks = tt
 

@@ -16,7 +16,7 @@ use Rattle.ac_types.proofs.IdTexts.{read_text, read_are}
 use Rattle.dir_model.specs.Names.{is_name_byte, IsName}
 use Rattle.dir_model.specs.Paths.{is_path}
 use Rattle.dir_model.proofs.Lists.{and_both}
-use Rattle.image_reading.specs.Places.{manifest_name, id_name, tree_name, some_key, key_of}
+use Rattle.image_reading.specs.Places.{manifest_name, id_name, tree_name, some_key, key_of_name}
 
 digit_name : (i : ℕ) → i < 16 → is_name_byte (slice_index lower_digits i) ≡ true
 digit_name i small = AllPass-from_list_all is_name_byte lower_digits refl i 0 small
@@ -54,10 +54,10 @@ read_alone : (name : List ℕ) → length name ≤ 71 → key_read name ≡ id_r
 unfolding key_read
 read_alone name short = rw (no_id name short) refl
 
-pub name_key : (name : List ℕ) (key : StoreKey) → length name ≤ 71 → key_read name ≡ Some key.bytes → Some key ≡ key_of name
+pub name_key : (name : List ℕ) (key : StoreKey) → length name ≤ 71 → key_read name ≡ Some key.bytes → Some key ≡ key_of_name name
 name_key name key short is = ap some_key (sym is ∙ read_alone name short)
 
-pub name_no_key : (name : List ℕ) → length name ≤ 71 → key_read name ≡ None → None ≡ key_of name
+pub name_no_key : (name : List ℕ) → length name ≤ 71 → key_read name ≡ None → None ≡ key_of_name name
 name_no_key name short is = ap some_key (sym is ∙ read_alone name short)
 
 pub ascii_from : (bytes : List ℕ) → list_all (λ b. nat_lt b 128) bytes ≡ true → IsAscii bytes

@@ -5,7 +5,7 @@ use Rattle.image_reading.specs.declared.error.StoreError.{StoreError}
 use Rattle.image_reading.specs.declared.error.StoreError.TheVariants.{Damaged, NoImage, DirFault, NoMemory}
 use Rattle.ac_types.specs.declared.store_key.StoreKey.{StoreKey}
 use Rattle.image_reading.specs.Places.{stored_path, tree_name}
-use Rattle.image_reading.specs.Refusals.{IsOutside, IsReadRefusal, IsDamage, IsDamaged, IsTreeRefusal}
+use Rattle.image_reading.specs.Refusals.{IsStoreFailure, IsReadRefusal, IsDamage, IsDamaged, IsTreeRefusal}
 
 pub if_ok : {A E : Type 0} (P Q : A → Type 0) (r : Result A E) → ((a : A) → P a → Q a) → IfOk r P → IfOk r Q
 if_ok P Q (Ok a) f h = f a h
@@ -39,12 +39,12 @@ pub damage_why : (at : List ℕ) (Why : Type 0) (e : StoreError) → IsDamage at
 damage_why at Why (Damaged path) is damaged = is.1
 damage_why at Why e is damaged = absurd damaged
 
-pub outside_refusal : (AtPath : List ℕ → Type 0) (e : StoreError) → IsOutside e → IsReadRefusal AtPath e
+pub outside_refusal : (AtPath : List ℕ → Type 0) (e : StoreError) → IsStoreFailure e → IsReadRefusal AtPath e
 outside_refusal AtPath DirFault is = tt
 outside_refusal AtPath NoMemory is = tt
 outside_refusal AtPath e is = absurd is
 
-pub not_outside : (e : StoreError) → IsOutside e → IsDamaged e → ⊥
+pub not_outside : (e : StoreError) → IsStoreFailure e → IsDamaged e → ⊥
 not_outside (Damaged path) is damaged = is
 not_outside e is damaged = damaged
 

@@ -20,7 +20,7 @@ use Rattle.tree_digest.specs.declared.line.ListingLine.{ListingLine}
 use Rattle.tree_digest.specs.declared.listing_error.ListingError.TheVariants.{TooMany}
 use Rattle.tree_digest.specs.Listings.{listing_text, line_count}
 use Rattle.image_reading.specs.declared.file.KeptManifest.{KeptManifest}
-use Rattle.image_reading.specs.Files.{IsNoManifest, IsKeptOf, IsIdOf, IsNoId, IsListingOf, IsNoListing}
+use Rattle.image_reading.specs.Files.{IsNoImageManifest, IsKeptOf, IsIdOf, IsNoId, IsListingOf, IsNoListing}
 use Rattle.image_reading.proofs.Places.{text_length, ascii_from}
 
 take_short : (n : ℕ) (bytes : List ℕ) → nat_le (length bytes) n ≡ true → take (n + 1) bytes ≡ bytes
@@ -59,7 +59,7 @@ manifest_whole bytes read is = by (nat_le (length bytes) 1048576) refl
 pub manifest_front : (file : List ℕ) (kept : KeptManifest) → IsKeptOf kept (take 1048577 file) → IsKeptOf kept file
 manifest_front file kept is = (is.0 ∙ manifest_whole file (image_data kept.manifest) is.1, sym (manifest_so file) ∙ is.1)
 
-pub no_manifest_front : (file : List ℕ) → IsNoManifest (take 1048577 file) → IsNoManifest file
+pub no_manifest_front : (file : List ℕ) → IsNoImageManifest (take 1048577 file) → IsNoImageManifest file
 no_manifest_front file none = λ manifest is. none manifest (manifest_so file ∙ is)
 
 -- IDs

@@ -9,7 +9,7 @@ use Rattle.dir_trait.specs.DirCalls.{DirAt, HeldBetween}
 use Rattle.dir_trait.specs.Effects.{OnlyAsksAndKeeps}
 use Rattle.ac_types.specs.declared.store_key.StoreKey.{StoreKey}
 use Rattle.image_reading.specs.Within.{Within}
-use Rattle.image_reading.specs.Files.{ReadsFile, LacksFile, ShowsMarks}
+use Rattle.image_reading.specs.Files.{ReadsFile, LacksFile, ShowsImportMarks}
 
 pub within_self : {R : DirAt → DirAt → Type 0} {old new : DirAt} → R old new → Within R old new
 within_self {R} {old} {new} r = record { first = old; last = new; earlier = []; later = []; same = refl; begins = sym (append-nil old.trace); ends = sym (append-nil new.trace); told = r }
@@ -65,8 +65,8 @@ module _ {observed : Bool} {asks : Request → Bool} {Keeps : DirAt → DirAt �
   lack_before inner most P a same (inl missing) bc = inl (held_before a same missing bc)
   lack_before inner most P a same (inr read) bc = inr (file_before read bc)
 
-  pub marks_after : {key : StoreKey} {P : List ℕ → Type 0} {a b c : DirAt} → OnlyAsksAndKeeps observed asks Keeps a b → ShowsMarks key P b c → ShowsMarks key P a c
+  pub marks_after : {key : StoreKey} {P : List ℕ → Type 0} {a b c : DirAt} → OnlyAsksAndKeeps observed asks Keeps a b → ShowsImportMarks key P b c → ShowsImportMarks key P a c
   marks_after ab r = record { items = r.items; shown = told_after ab r.shown; holds = r.holds }
 
-  pub marks_before : {key : StoreKey} {P : List ℕ → Type 0} {a b c : DirAt} → ShowsMarks key P a b → OnlyAsksAndKeeps observed asks Keeps b c → ShowsMarks key P a c
+  pub marks_before : {key : StoreKey} {P : List ℕ → Type 0} {a b c : DirAt} → ShowsImportMarks key P a b → OnlyAsksAndKeeps observed asks Keeps b c → ShowsImportMarks key P a c
   marks_before r bc = record { items = r.items; shown = told_before r.shown bc; holds = r.holds }

@@ -7,12 +7,12 @@ use Rattle.dir_model.specs.declared.opening.Holding.{Holding}
 use Rattle.dir_model.specs.declared.request.Request.{Request}
 use Rattle.dir_model.specs.declared.request.Request.TheVariants.{ListArea, ListIn, ReadIn}
 use Rattle.dir_model.specs.declared.spot.Handle.{Handle}
-use Rattle.dir_model.specs.Local.{Local, is_number}
+use Rattle.dir_model.specs.Local.{Local, is_handle_of}
 use Rattle.dir_model.specs.Paths.{is_empty}
 use Rattle.dir_model.specs.State.{spot_eq}
 use Rattle.dir_rules.specs.declared.seen.Seen.{Seen}
 use Rattle.dir_rules.specs.declared.seen.ShownArea.{ShownArea}
-use Rattle.dir_rules.specs.Standing.{is_in, is_gate_of, closes_gate}
+use Rattle.dir_rules.specs.Standing.{is_in, is_gate_of, excludes_area}
 use Rattle.dir_trait.specs.DirCalls.{DirAt, ExtendsBy}
 use Rattle.dir_trait.specs.Knowledge.{Knows}
 use Rattle.dir_trait.specs.Effects.{OnlyAsksAndKeeps}
@@ -39,7 +39,7 @@ OnlyReadsImage observed key old new = OnlyAsksAndKeeps observed (reads_image key
 -- whatever the process knew, it knows; but where it holds the area's lock exclusively, other names may be noted
 pub record KnowsNamed (s : Seen) (new : DirAt) : Type 0 where
   pub areas : List ShownArea
-  pub shared : closes_gate Images s.standing ≡ false → areas ≡ s.areas
+  pub shared : excludes_area Images s.standing ≡ false → areas ≡ s.areas
   pub knows : Knows new (record s { areas = areas })
 
 abbrev pub KeepsNamed : DirAt → DirAt → Type 0
@@ -51,7 +51,7 @@ OnlyReadsImages observed old new = OnlyAsksAndKeeps observed reads_images KeepsN
 
 -- the handle is open on the lock of the area and holds it
 abbrev pub is_images_lock : Handle → Holding → Bool
-is_images_lock gate h = is_number gate h && (is_gate_of Images h.target && is_some h.lock)
+is_images_lock gate h = is_handle_of gate h && (is_gate_of Images h.target && is_some h.lock)
 
 abbrev pub HoldsImages : Local → Handle → Type 0
 HoldsImages m gate = list_any (is_images_lock gate) m.holdings ≡ true

@@ -24,7 +24,7 @@ use Rattle.dir_rules.specs.declared.standing.Held.{Held}
 use Rattle.dir_rules.specs.declared.standing.Standing.{Standing}
 use Rattle.dir_rules.specs.declared.seen.Seen.{Seen}
 use Rattle.dir_rules.specs.declared.seen.ShownItem.{ShownItem}
-use Rattle.dir_rules.specs.Standing.{is_in, is_gate_of, is_gate_exclusive, closes_gate, draws, uncover}
+use Rattle.dir_rules.specs.Standing.{is_in, is_gate_of, is_gate_exclusive, excludes_area, draws, uncover}
 use Rattle.dir_rules.specs.LockRules.{is_removal_target, is_removal_held}
 use Rattle.dir_rules.specs.Rules.{allows}
 use Rattle.dir_rules.specs.Conforms.{seen_replied}
@@ -36,7 +36,7 @@ use Rattle.dir_files.proofs.Locking.{number_is_new}
 use Rattle.folder_removal.specs.Known.{is_there, MayDelete, KnowsBut, KnowsDeleted, Deletes, OnlyTries}
 use Rattle.image_reading.specs.Places.{image_spot}
 use Rattle.image_removal.specs.Requests.{incoming_spot, removed_spot, away_spot, puts_away}
-use Rattle.image_removal.specs.Work.{HoldsArea, MayPutAway, StaysConforming, StaysBare, Stays}
+use Rattle.image_removal.specs.Work.{HoldsArea, MayPutAway, KeepsStandingAndRules, StaysBare, Stays}
 
 -- what is left of a list in which nothing passes a test
 pub none_of_filter : {X : Type 0} (q p : X → Bool) (xs : List X) → list_any q xs ≡ false → list_any q (filter p xs) ≡ false
@@ -153,22 +153,22 @@ deleted_stays {old} {new} name deletes s k may =
       knows = x.knows;
     }
 
-pub tried_stays : {old new : DirAt} (name : List ℕ) → OnlyTries (removed_spot name) old new → Stays (HoldsArea Removed) StaysConforming old new
+pub tried_stays : {old new : DirAt} (name : List ℕ) → OnlyTries (removed_spot name) old new → Stays (HoldsArea Removed) KeepsStandingAndRules old new
 tried_stays {old} {new} name tries s k may =
     let x : KnowsBut (removed_spot name) s new = tries s k (may_delete name may) in
     record { known = x.known; standing = ap (λ (z : Seen). z.standing) x.only.same; kept = ap (λ (z : Seen). z.kept) x.only.same; knows = x.knows }
 
 -- how such facts go on
-pub bare_conforms : {s : Seen} {new : DirAt} → StaysBare s new → StaysConforming s new
+pub bare_conforms : {s : Seen} {new : DirAt} → StaysBare s new → KeepsStandingAndRules s new
 bare_conforms x = record { known = x.known; standing = x.standing; kept = x.kept; knows = x.knows }
 
 pub holds_still : {area : Area} {s : Seen} {new : DirAt} → HoldsArea area s → (x : StaysBare s new) → HoldsArea area x.known
-holds_still {area} may x = record { held = ap (λ (z : Standing). closes_gate area z) x.standing ∙ may.held; bare = x.bare }
+holds_still {area} may x = record { held = ap (λ (z : Standing). excludes_area area z) x.standing ∙ may.held; bare = x.bare }
 
 pub bare_more : {s : Seen} {b c : DirAt} (x : StaysBare s b) → StaysBare x.known c → StaysBare s c
 bare_more x y = record { known = y.known; standing = y.standing ∙ x.standing; kept = y.kept ∙ x.kept; bare = y.bare; knows = y.knows }
 
-pub conforms_more : {s : Seen} {b c : DirAt} (x : StaysBare s b) → StaysConforming x.known c → StaysConforming s c
+pub conforms_more : {s : Seen} {b c : DirAt} (x : StaysBare s b) → KeepsStandingAndRules x.known c → KeepsStandingAndRules s c
 conforms_more x y = record { known = y.known; standing = y.standing ∙ x.standing; kept = y.kept ∙ x.kept; knows = y.knows }
 
 pub stays_none : {area : Area} {d : DirAt} → Stays (HoldsArea area) StaysBare d d
@@ -177,8 +177,8 @@ stays_none s k may = record { known = s; standing = refl; kept = refl; bare = ma
 pub stays_more : {area : Area} {a b c : DirAt} → Stays (HoldsArea area) StaysBare a b → Stays (HoldsArea area) StaysBare b c → Stays (HoldsArea area) StaysBare a c
 stays_more ab bc s k may = let x = ab s k may in bare_more x (bc x.known x.knows (holds_still may x))
 
-pub stays_then : {area : Area} {a b c : DirAt} → Stays (HoldsArea area) StaysBare a b → Stays (HoldsArea area) StaysConforming b c → Stays (HoldsArea area) StaysConforming a c
+pub stays_then : {area : Area} {a b c : DirAt} → Stays (HoldsArea area) StaysBare a b → Stays (HoldsArea area) KeepsStandingAndRules b c → Stays (HoldsArea area) KeepsStandingAndRules a c
 stays_then ab bc s k may = let x = ab s k may in conforms_more x (bc x.known x.knows (holds_still may x))
 
-pub stays_conform : {May : Seen → Type 0} {a b : DirAt} → Stays May StaysBare a b → Stays May StaysConforming a b
+pub stays_conform : {May : Seen → Type 0} {a b : DirAt} → Stays May StaysBare a b → Stays May KeepsStandingAndRules a b
 stays_conform ab s k may = bare_conforms (ab s k may)

@@ -23,8 +23,8 @@ use Rattle.dir_trait.specs.Knowledge.{SameHandles, Knows}
 use Rattle.dir_trait.specs.Effects.{OnlyAsks}
 use Rattle.image_removal.specs.declared.pass.Pass.{Pass}
 use Rattle.image_removal.specs.declared.pass.Pass.TheVariants.{PutAway, Delete}
-use Rattle.image_removal.specs.Requests.{lists}
-use Rattle.image_removal.specs.Passes.{area_of}
+use Rattle.image_removal.specs.Requests.{lists_store_area}
+use Rattle.image_removal.specs.Passes.{area_of_pass}
 use Rattle.image_removal.specs.Work.{HoldsArea, StaysBare, Stays}
 
 -- one that left nothing is one call
@@ -58,13 +58,13 @@ knows_list {observed} {old} {new} {s} area r t k c = record {
 
 -- what stands in incoming or removed may be listed by anyone
 pub list_stays : {observed : Bool} {old new : DirAt} (pass : Pass) (r : Result (List (List ℕ)) DirError) → observed ≡ true
-    → ListCall observed old (ListArea (area_of pass)) (names_reply r) new → Stays (HoldsArea (area_of pass)) StaysBare old new
+    → ListCall observed old (ListArea (area_of_pass pass)) (names_reply r) new → Stays (HoldsArea (area_of_pass pass)) StaysBare old new
 list_stays PutAway (Ok names) t c s k may = record { known = _; standing = refl; kept = refl; bare = may.bare; knows = knows_list Incoming (Ok names) t k c }
 list_stays PutAway (Err error) t c s k may = record { known = _; standing = refl; kept = refl; bare = may.bare; knows = knows_list Incoming (Err error) t k c }
 list_stays Delete (Ok names) t c s k may = record { known = _; standing = refl; kept = refl; bare = may.bare; knows = knows_list Removed (Ok names) t k c }
 list_stays Delete (Err error) t c s k may = record { known = _; standing = refl; kept = refl; bare = may.bare; knows = knows_list Removed (Err error) t k c }
 
-pub only_lists : {me : ℕ} {old new : List Event} {reply : Reply} (area : Area) → ListStep me old (ListArea area) reply new → Extends (lists area) me old new
+pub only_lists : {me : ℕ} {old new : List Event} {reply : Reply} (area : Area) → ListStep me old (ListArea area) reply new → Extends (lists_store_area area) me old new
 only_lists area step = list_extends (same_self (rank area)) step
 
 local_names : (m : Local) (area : Area) (r : Result (List (List ℕ)) DirError) → local_replied m (ListArea area) (names_reply r) ≡ m
@@ -72,5 +72,5 @@ local_names m area (Ok names) = refl
 local_names m area (Err e) = refl
 
 pub worked_list : {observed : Bool} {old new : DirAt} (area : Area) (r : Result (List (List ℕ)) DirError) → ListCall observed old (ListArea area) (names_reply r) new
-    → OnlyAsks observed (lists area) old new
+    → OnlyAsks observed (lists_store_area area) old new
 worked_list {observed} {old} area r c = record { same = c.same; faults = c.faults; local = c.local ∙ local_names old.local area r; extends = λ t. only_lists area (c.step t) }

@@ -14,7 +14,7 @@ use Rattle.dir_model.specs.declared.request.Reply.{Reply}
 use Rattle.dir_model.specs.declared.request.Reply.TheVariants.{Done, Begun, Names, Opened, Refused}
 use Rattle.dir_model.specs.Areas.{rank}
 use Rattle.dir_model.specs.Calls.{is_begin, is_kill, is_foreign, event, Listing, ListStep, TookPlace, LeftNothing}
-use Rattle.dir_model.specs.Listings.{has_name, is_of, is_listing, noted, noted_by, begun}
+use Rattle.dir_model.specs.Listings.{has_name, is_listing_of, is_listing, listing_noted, noted_by, listing_begun}
 use Rattle.dir_model.specs.State.{DirState, lives, folder_at, spot_eq, stands}
 use Rattle.dir_model.specs.Trace.{state_after}
 use Rattle.dir_model.specs.Trees.{name_in, names_in}
@@ -23,7 +23,7 @@ use Rattle.dir_model.proofs.Lists.{all_right, not_true, or_last, or_map, all_wea
 use Rattle.dir_model.proofs.Moments.{some_number}
 use Rattle.dir_rules.specs.declared.seen.Seen.{Seen}
 use Rattle.dir_rules.specs.declared.standing.Standing.{Standing}
-use Rattle.dir_rules.specs.Conforms.{nothing_seen, saw, seen_after, seen_of, seen_replied}
+use Rattle.dir_rules.specs.Conforms.{nothing_seen, seen_after_event, seen_after, seen_of, seen_replied}
 use Rattle.dir_rules.specs.LockRules.{may_remove}
 use Rattle.dir_rules.specs.Rules.{root_of}
 use Rattle.dir_rules.specs.Standing.{standing_replied}
@@ -117,7 +117,7 @@ never_begins : (spot : Spot) (request : Request) (reply : Reply) → leaves_ther
 never_begins spot (Begin intent) reply on = cc
 never_begins spot request reply on = refl
 
-begun_own : (st : DirState) (q : ℕ) (request : Request) (l : OpenListing) → begun st q request ≡ Some l → (l.process ≡ q) × (is_kill request ≡ false)
+begun_own : (st : DirState) (q : ℕ) (request : Request) (l : OpenListing) → listing_begun st q request ≡ Some l → (l.process ≡ q) × (is_kill request ≡ false)
 begun_own st q (ListArea a) l is = (cc, refl)
 begun_own st q (ListIn inner) l is = (cc, refl)
 begun_own st q request l is = cc
@@ -139,13 +139,13 @@ module _ (me : ℕ) (name : List ℕ) where
   abbrev Found : List Event → Type 0
   Found h = (l : OpenListing) → In l (state_after h).listings → l.process ≡ me → missing_by (root_of spot) l.listed ≡ false
 
-  found_on : (h : List Event) (e : Event) → ((l : OpenListing) → e.reply ≡ Begun → begun (state_after h) e.process e.request ≡ Some l → l.process ≡ me → missing_by (root_of spot) l.listed ≡ false) → Found h → Found (h ++ e ∷ [])
+  found_on : (h : List Event) (e : Event) → ((l : OpenListing) → e.reply ≡ Begun → listing_begun (state_after h) e.process e.request ≡ Some l → l.process ≡ me → missing_by (root_of spot) l.listed ≡ false) → Found h → Found (h ++ e ∷ [])
   found_on h e begins was l i mine = by (listing_from st e.process e.request e.reply l (subst (λ (s : DirState). In l s.listings) (state_after-push h e) i))
     where
       st : DirState
       st = state_after h
 
-      by : (In l st.listings ⊎ ((l0 : OpenListing) × (In l0 st.listings × (l ≡ noted_by st l0)))) ⊎ ((e.reply ≡ Begun) × (begun st e.process e.request ≡ Some l)) → missing_by (root_of spot) l.listed ≡ false
+      by : (In l st.listings ⊎ ((l0 : OpenListing) × (In l0 st.listings × (l ≡ noted_by st l0)))) ⊎ ((e.reply ≡ Begun) × (listing_begun st e.process e.request ≡ Some l)) → missing_by (root_of spot) l.listed ≡ false
       by (inl (inl j)) = was l j mine
       by (inl (inr x)) =
           ap (λ (z : OpenListing). missing_by (root_of spot) z.listed) x.1.1 ∙ (noted_missing st (root_of spot) x.0.listed
@@ -155,7 +155,7 @@ module _ (me : ℕ) (name : List ℕ) where
   found_foreign : (h : List Event) (e : Event) → is_foreign me e ≡ true → Found h → Found (h ++ e ∷ [])
   found_foreign h e foreign was = found_on h e begins was
     where
-      begins : (l : OpenListing) → e.reply ≡ Begun → begun (state_after h) e.process e.request ≡ Some l → l.process ≡ me → missing_by (root_of spot) l.listed ≡ false
+      begins : (l : OpenListing) → e.reply ≡ Begun → listing_begun (state_after h) e.process e.request ≡ Some l → l.process ≡ me → missing_by (root_of spot) l.listed ≡ false
       begins l is b mine =
           let x = begun_own (state_after h) e.process e.request l b in
           let own : e.process ≡ me = sym x.0 ∙ mine in
@@ -238,9 +238,9 @@ module _ (me : ℕ) (name : List ℕ) where
       s = steps front b begun_law refl refl
 
       none : Found front
-      none z i mine = clash (is_listing (state_after front) me) (in_any (is_of me) z (state_after front).listings i (ap (λ p. p == me) mine ∙ same_self me)) (not_true (is_listing (state_after front) me) s.is)
+      none z i mine = clash (is_listing (state_after front) me) (in_any (is_listing_of me) z (state_after front).listings i (ap (λ p. p == me) mine ∙ same_self me)) (not_true (is_listing (state_after front) me) s.is)
 
-      begins : (z : OpenListing) → b.reply ≡ Begun → begun (state_after front) me (ListArea Removed) ≡ Some z → z.process ≡ me → missing_by (root_of spot) z.listed ≡ false
+      begins : (z : OpenListing) → b.reply ≡ Begun → listing_begun (state_after front) me (ListArea Removed) ≡ Some z → z.process ≡ me → missing_by (root_of spot) z.listed ≡ false
       begins z is q mine = subst (λ (w : OpenListing). missing_by (root_of spot) w.listed ≡ false) (some_same q) refl
 
       was : Found g
@@ -274,9 +274,9 @@ module _ (me : ℕ) (name : List ℕ) where
 
   same_after : (s : Seen) (es : List Event) → AllByRecursion LeavesIt es → (seen_after me s es).standing ≡ s.standing
   same_after s [] all = refl
-  same_after s (e ∷ es) all = same_after (saw me s e) es all.1 ∙ by (is_foreign me e) refl all.0
+  same_after s (e ∷ es) all = same_after (seen_after_event me s e) es all.1 ∙ by (is_foreign me e) refl all.0
     where
-      by : (b : Bool) → is_foreign me e ≡ b → (b || leaves_there spot e.request e.reply) ≡ true → (saw me s e).standing ≡ s.standing
+      by : (b : Bool) → is_foreign me e ≡ b → (b || leaves_there spot e.request e.reply) ≡ true → (seen_after_event me s e).standing ≡ s.standing
       by true f q = ap (λ b. (cond b s (seen_replied s e.request e.reply)).standing) f
       by false f q = ap (λ b. (cond b s (seen_replied s e.request e.reply)).standing) f ∙ same_standing spot s.standing e.request e.reply q
 

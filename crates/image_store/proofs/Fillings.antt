@@ -15,13 +15,13 @@ use Rattle.dir_trait.specs.Knowledge.{Knows}
 use Rattle.dir_trait.specs.Effects.{OnlyAsks}
 use Rattle.folder_building.specs.declared.plan.PlanEntry.{PlanEntry}
 use Rattle.folder_building.specs.Plans.{AreMade, are_in_turn}
-use Rattle.folder_building.specs.Making.{IsSite, MayFill, CarriesOut, Begins}
+use Rattle.folder_building.specs.Making.{IsSite, MayFill, CarriesOut, BeginsPlan}
 use Rattle.folder_building.specs.Sources.{SourceAt}
 use Rattle.folder_building.specs.Work.{either, builds_at}
 use Rattle.folder_building.proofs.Working.{worked_wider}
 use Rattle.image_store.specs.Requests.{building_spot, takes_lock, brings, imports_at, makes_image}
 use Rattle.image_reading.specs.Looks.{reads_images}
-use Rattle.image_store.specs.Work.{at_work, holding, HasOwnFolder, HasFilled}
+use Rattle.image_store.specs.Work.{seen_importing, holding, HasImportFolder, HasFilledImport}
 use Rattle.image_store.proofs.Steps.{same_spot}
 
 -- the changes of its folder are among what is asked for to build an image, and that is among an import's requests
@@ -55,7 +55,7 @@ module _ (draw : PodId) (intent : Intent) (hs : List Held) (plan : List PlanEntr
   Here = building_spot draw
 
   abbrev Base : Seen
-  Base = at_work intent hs true None
+  Base = seen_importing intent hs true None
 
   abbrev Empty : Making
   Empty = holding Here []
@@ -66,13 +66,13 @@ module _ (draw : PodId) (intent : Intent) (hs : List Held) (plan : List PlanEntr
   fill : source.may Base.standing ≡ true → MayFill source Here plan Base Empty
   fill may = record { fresh = record { clean = refl; entries = refl; unsynced = refl }; may = may; turn = any_turn Base [] plan }
 
-  pub has_filled : {observed : Bool} {spot : Spot} {old new : DirAt} → spot ≡ Here → observed ≡ true → Knows old (at_work intent hs true (Some Empty)) → CarriesOut observed source spot plan old new → source.may Base.standing ≡ true → HasFilled (AreMade plan) draw intent hs new
+  pub has_filled : {observed : Bool} {spot : Spot} {old new : DirAt} → spot ≡ Here → observed ≡ true → Knows old (seen_importing intent hs true (Some Empty)) → CarriesOut observed source spot plan old new → source.may Base.standing ≡ true → HasFilledImport (AreMade plan) draw intent hs new
   has_filled {observed} {spot} {old} {new} is t k c may =
       let d = subst (λ (s : Spot). CarriesOut observed source s plan old new) is c in
       record { entries = d.entries; made = d.made; knows = d.knows t Base Empty k site (fill may) }
 
-  pub has_begun : {old new : DirAt} (spot : Spot) → spot ≡ Here → Knows old (at_work intent hs true (Some Empty)) → Begins source spot plan old new → source.may Base.standing ≡ true → HasOwnFolder draw intent hs new
+  pub has_begun : {old new : DirAt} (spot : Spot) → spot ≡ Here → Knows old (seen_importing intent hs true (Some Empty)) → BeginsPlan source spot plan old new → source.may Base.standing ≡ true → HasImportFolder draw intent hs new
   has_begun {old} {new} spot is k b may =
-      let d = subst (λ (s : Spot). Begins source s plan old new) is b in
+      let d = subst (λ (s : Spot). BeginsPlan source s plan old new) is b in
       let g = d Base Empty k site (fill may) in
       record { stored = true; making = Some g.making; own = g.is.stands; knows = g.knows }

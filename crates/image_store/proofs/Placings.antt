@@ -23,8 +23,8 @@ use Rattle.image_reading.specs.declared.error.StoreError.{StoreError}
 use Rattle.image_reading.specs.Places.{image_spot}
 use Rattle.image_reading.specs.Looks.{reads_image, OnlyReadsImage}
 use Rattle.image_store.specs.Requests.{imports_at}
-use Rattle.image_store.specs.Work.{at_work, Unbrought}
-use Rattle.image_store.specs.Imports.{key_of}
+use Rattle.image_store.specs.Work.{seen_importing, Unbrought}
+use Rattle.image_store.specs.Imports.{key_of_image}
 
 -- looks at images are among an import's requests
 reads_import : (spot : Spot) (key : StoreKey) (request : Request) → reads_image key request ≡ true → imports_at spot request ≡ true
@@ -40,7 +40,7 @@ pub worked_reads : {observed : Bool} (spot : Spot) (key : StoreKey) {old new : D
 worked_reads {observed} spot key r = record { same = r.same; faults = r.faults; local = r.local; extends = λ t. extends_wider (reads_import spot key) (r.extends t) }
 
 -- under the lock of images it may read there
-pub may_read_there : (intent : Intent) (hs : List Held) (stored : Bool) (making : Option Making) → list_any (is_gate_shared Images) hs ≡ true → may_read Images (at_work intent hs stored making).standing ≡ true
+pub may_read_there : (intent : Intent) (hs : List Held) (stored : Bool) (making : Option Making) → list_any (is_gate_shared Images) hs ≡ true → may_read Images (seen_importing intent hs stored making).standing ≡ true
 may_read_there intent hs stored making images = rw images refl
 
 pub unbrought_any : (r : Result Bool StoreError) (Left : Type 0) → Left → Unbrought r Left
@@ -48,5 +48,5 @@ unbrought_any (Ok false) Left left = tt
 unbrought_any (Ok true) Left left = left
 unbrought_any (Err e) Left left = left
 
-pub same_key : (key : StoreKey) (image : BundleImage) → key.bytes ≡ take 32 image.id.bytes → key ≡ key_of image
+pub same_key : (key : StoreKey) (image : BundleImage) → key.bytes ≡ take 32 image.id.bytes → key ≡ key_of_image image
 same_key key image is = ap (λ (b : List ℕ). let k : StoreKey = record { bytes = b } in k) is

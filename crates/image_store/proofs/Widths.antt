@@ -12,7 +12,7 @@ use Rattle.image_reading.specs.declared.error.StoreError.{StoreError}
 use Rattle.image_reading.specs.Within.{Within}
 use Rattle.image_reading.proofs.Widths.{within_after, within_before}
 use Rattle.bundle_image.proofs.Reading.{rose_later, rose_still}
-use Rattle.image_store.specs.Causes.{Source, StrayCause, Conflicts, DamagedInTurn, FoundInTurn, LacksPart, UnlikeListed, ImportCause}
+use Rattle.image_store.specs.Causes.{Source, StrayCause, Conflicts, DamagedInTurn, FoundInTurn, FindsLackingPart, UnlikeListed, ImportCause}
 
 -- calls, whatever they leave open
 pub record Follows (observed : Bool) (old new : DirAt) : Type 0 where
@@ -58,11 +58,11 @@ conflict_after {observed} {key} {other} {digest} {stored} {fresh} {a} {b} {c} ab
 pub conflict_before : {observed : Bool} {key other : StoreKey} {digest stored fresh : List ℕ} {a b c : DirAt} → b.process ≡ a.process → Conflicts observed key other digest stored fresh a b → Follows observed b c → Conflicts observed key other digest stored fresh a c
 conflict_before {observed} {key} {other} {digest} {stored} {fresh} {a} {b} {c} same x bc = record { key_is = x.key_is; new_is = x.new_is; differ = x.differ; there = λ t. told_before a b c same bc t (x.there t) }
 
-part_after : (observed : Bool) (key : StoreKey) (path : List ℕ) (lines : List ListingLine) (source : Source) (a b c : DirAt) → Follows observed a b → LacksPart observed key path b c ⊎ UnlikeListed source lines path → LacksPart observed key path a c ⊎ UnlikeListed source lines path
+part_after : (observed : Bool) (key : StoreKey) (path : List ℕ) (lines : List ListingLine) (source : Source) (a b c : DirAt) → Follows observed a b → FindsLackingPart observed key path b c ⊎ UnlikeListed source lines path → FindsLackingPart observed key path a c ⊎ UnlikeListed source lines path
 part_after observed key path lines source a b c ab (inl l) = inl (λ t. told_after a b c ab t (l t))
 part_after observed key path lines source a b c ab (inr u) = inr u
 
-part_before : (observed : Bool) (key : StoreKey) (path : List ℕ) (lines : List ListingLine) (source : Source) (a b c : DirAt) → b.process ≡ a.process → LacksPart observed key path a b ⊎ UnlikeListed source lines path → Follows observed b c → LacksPart observed key path a c ⊎ UnlikeListed source lines path
+part_before : (observed : Bool) (key : StoreKey) (path : List ℕ) (lines : List ListingLine) (source : Source) (a b c : DirAt) → b.process ≡ a.process → FindsLackingPart observed key path a b ⊎ UnlikeListed source lines path → Follows observed b c → FindsLackingPart observed key path a c ⊎ UnlikeListed source lines path
 part_before observed key path lines source a b c same (inl l) bc = inl (λ t. told_before a b c same bc t (l t))
 part_before observed key path lines source a b c same (inr u) bc = inr u
 

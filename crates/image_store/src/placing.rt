@@ -7,8 +7,8 @@ ghost use Rattle.image_reading.specs.Places.{image_spot};
 ghost use Rattle.image_reading.specs.Looks.{OnlyReadsImage};
 ghost use Rattle.image_store.specs.Refusals.{move_answer};
 ghost use Rattle.image_store.specs.Requests.{building_spot, imports_at};
-ghost use Rattle.image_store.specs.Work.{at_work, holding, FromFilled, IsPlaced, Unbrought};
-ghost use Rattle.image_store.specs.Causes.{ChangeCause, WasTaken, WasThere, CompareCause, PlaceCause};
+ghost use Rattle.image_store.specs.Work.{seen_importing, holding, WhereImportFilled, IsImagePlaced, Unbrought};
+ghost use Rattle.image_store.specs.Causes.{ChangeCause, KeyWasTaken, WasThere, CompareCause, PlaceCause};
 ghost use Rattle.image_store.specs.Moves.{Moves};
 
 use crate::building::building_spot;
@@ -35,11 +35,11 @@ fn bring<D: Dir>(alloc: Global, dir: &mut D, draw: PodId, key: StoreKey) -> Resu
     ensures worked { OnlyAsks D.observed (imports_at (building_spot draw)) (D.shown dir.old) (D.shown dir.new) }
     ensures still { D.observed ≡ true → Moves (building_spot draw) key result (D.shown dir.old) (D.shown dir.new) }
     ensures cause { IfErr result (λ e. ChangeCause D.observed e (D.shown dir.old) (D.shown dir.new)) }
-    ensures taken { result ≡ Ok true → D.observed ≡ true → WasTaken key (D.shown dir.old) (D.shown dir.new) }
-    ensures placed { result ≡ Ok false → D.observed ≡ true → FromFilled draw (D.shown dir.old)
-        (λ intent hs entries. IsPlaced draw (image_spot key) intent hs entries (D.shown dir.old) (D.shown dir.new)) }
-    ensures left { Unbrought result (D.observed ≡ true → FromFilled draw (D.shown dir.old)
-        (λ intent hs entries. Knows (D.shown dir.new) (at_work intent hs true (Some (holding (building_spot draw) entries))))) }
+    ensures taken { result ≡ Ok true → D.observed ≡ true → KeyWasTaken key (D.shown dir.old) (D.shown dir.new) }
+    ensures placed { result ≡ Ok false → D.observed ≡ true → WhereImportFilled draw (D.shown dir.old)
+        (λ intent hs entries. IsImagePlaced draw (image_spot key) intent hs entries (D.shown dir.old) (D.shown dir.new)) }
+    ensures left { Unbrought result (D.observed ≡ true → WhereImportFilled draw (D.shown dir.old)
+        (λ intent hs entries. Knows (D.shown dir.new) (seen_importing intent hs true (Some (holding (building_spot draw) entries))))) }
 {
     let from = building_spot(draw);
     let to = spot_of(alloc, key)?;
@@ -84,10 +84,10 @@ pub(crate) fn place<D: Dir>(
     ensures still { D.observed ≡ true → Moves (building_spot draw) key result (D.shown dir.old) (D.shown dir.new) }
     ensures cause { IfErr result (λ e. PlaceCause D.observed key digest.now e (D.shown dir.old) (D.shown dir.new)) }
     ensures there { result ≡ Ok true → D.observed ≡ true → WasThere key digest.now (D.shown dir.old) (D.shown dir.new) }
-    ensures placed { result ≡ Ok false → D.observed ≡ true → FromFilled draw (D.shown dir.old)
-        (λ intent hs entries. IsPlaced draw (image_spot key) intent hs entries (D.shown dir.old) (D.shown dir.new)) }
-    ensures left { Unbrought result (D.observed ≡ true → FromFilled draw (D.shown dir.old)
-        (λ intent hs entries. Knows (D.shown dir.new) (at_work intent hs true (Some (holding (building_spot draw) entries))))) }
+    ensures placed { result ≡ Ok false → D.observed ≡ true → WhereImportFilled draw (D.shown dir.old)
+        (λ intent hs entries. IsImagePlaced draw (image_spot key) intent hs entries (D.shown dir.old) (D.shown dir.new)) }
+    ensures left { Unbrought result (D.observed ≡ true → WhereImportFilled draw (D.shown dir.old)
+        (λ intent hs entries. Knows (D.shown dir.new) (seen_importing intent hs true (Some (holding (building_spot draw) entries))))) }
 {
     match bring(alloc, dir, draw, key) {
         Ok(false) => Ok(false),

@@ -21,7 +21,7 @@ use Rattle.dir_rules.specs.declared.seen.Making.{Making}
 use Rattle.dir_rules.specs.declared.seen.Seen.{Seen}
 use Rattle.dir_rules.specs.Seen.{makes_at, is_making_area}
 use Rattle.dir_rules.specs.Anomalies.{folder_of}
-use Rattle.dir_rules.specs.Rules.{allows, may_bring_between}
+use Rattle.dir_rules.specs.Rules.{allows, contents_allow_move}
 use Rattle.dir_rules.specs.Conforms.{seen_of}
 use Rattle.lifecycle.specs.Executions.{IsConforming}
 use Rattle.lifecycle.proofs.Handles.{clash, nat_same}
@@ -42,7 +42,7 @@ abbrev HasRun : Namespace → ℕ → Type 0
 HasRun n k = (y : Option Spot) × ((slice_get n.folders k ≡ Some y) × (has_run y ≡ true))
 
 -- from run a move leads on
-runs_on : (s : Seen) (from to : Spot) (a b : Area) → may_bring_between s from to a b ≡ true → is_run_or_later a ≡ true → is_run_or_later b ≡ true
+runs_on : (s : Seen) (from to : Spot) (a b : Area) → contents_allow_move s from to a b ≡ true → is_run_or_later a ≡ true → is_run_or_later b ≡ true
 runs_on s from to area.Run area.ExitedGarbage h r = refl
 runs_on s from to area.Run b h r = cc
 runs_on s from to area.ExitedGarbage b h r = cc

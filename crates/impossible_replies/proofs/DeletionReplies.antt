@@ -29,7 +29,7 @@ use Rattle.dir_rules.specs.Anomalies.{most_path, loses_directory, is_foreign_wri
 use Rattle.dir_rules.specs.Conforms.{seen_of}
 use Rattle.dir_rules.specs.LockRules.{may_remove, is_removal_held, is_removal_target}
 use Rattle.dir_rules.specs.Marks.{path_in}
-use Rattle.dir_rules.specs.Rules.{deletes, is_deleting, is_file_item, shows}
+use Rattle.dir_rules.specs.Rules.{deletes, is_deleting, is_file_item, is_item_shown}
 use Rattle.dir_rules.specs.Seen.{is_item_at}
 use Rattle.dir_rules.specs.Standing.{is_in, is_own_held, is_garbage, area_of}
 use Rattle.lifecycle.specs.Executions.{IsConforming}
@@ -44,7 +44,7 @@ use Rattle.impossible_replies.proofs.Removers.{under_lock}
 
 -- a directory that a listing had shown is missing
 pub listing_at_app : (h : List Event) (p : ℕ) (inner : Inner) (left : ℕ) → IsConforming (h ++ event p (ListIn inner) (Refused Missing left) ∷ []) →
-    shows (λ k. not (is_file_item k)) inner (seen_of p h).items ≡ true → is_foreign_write (state_after h) (seen_of p h) (ListIn inner) (Refused Missing left) ≡ true
+    is_item_shown (λ k. not (is_file_item k)) inner (seen_of p h).items ≡ true → is_foreign_write (state_after h) (seen_of p h) (ListIn inner) (Refused Missing left) ≡ true
 listing_at_app h p inner left c shown = by (is_apps_request (state_after h) (ListIn inner)) refl
   where
     x : Steps h p (ListIn inner) (Refused Missing left)
@@ -95,7 +95,7 @@ listing_at_app h p inner left c shown = by (is_apps_request (state_after h) (Lis
 
     by : (b : Bool) → is_apps_request (state_after h) (ListIn inner) ≡ b → is_foreign_write (state_after h) (seen_of p h) (ListIn inner) (Refused Missing left) ≡ true
     by false plain = absurd (directory_found h p (all_told h x.conforming p x.living) x.conforming inner left plain x.is shown)
-    by true app = foreign (and_both (deletes (seen_of p h) inner.spot.name) (shows (λ k. not (is_file_item k)) inner (seen_of p h).items) (deleting (later app)) shown)
+    by true app = foreign (and_both (deletes (seen_of p h) inner.spot.name) (is_item_shown (λ k. not (is_file_item k)) inner (seen_of p h).items) (deleting (later app)) shown)
       where
         foreign : loses_directory (seen_of p h) (ListIn inner) (Refused Missing left) ≡ true → is_foreign_write (state_after h) (seen_of p h) (ListIn inner) (Refused Missing left) ≡ true
         foreign l = ap (λ (b : Bool). (true && false) || (b || false)) l

@@ -23,7 +23,7 @@ use Rattle.dir_model.specs.declared.request.Reply.{Reply}
 use Rattle.dir_model.specs.declared.request.Reply.TheVariants.{Done, Begun, Opened, Names, Items, Read, Refused}
 use Rattle.dir_model.specs.Paths.{is_empty, behind, is_directly_in, lies_below}
 use Rattle.dir_model.specs.Trees.{is_dir, is_entry, is_dir_entry, is_file_entry, has_dir, has_file, has_children, has_parent, is_parent_entry, kind_of, items_in, is_apps_own, is_within, without_path}
-use Rattle.dir_model.specs.Listings.{is_listing_request, is_listing, is_of, is_named, has_named, has_item, is_item, kind_number, is_inner, noted, noted_by, noted_all, begun, begun_at, without_listing, listing_of, shows_items, shows_inside, item_names, ascend}
+use Rattle.dir_model.specs.Listings.{is_listing_request, is_listing, is_listing_of, is_named, has_named, has_item, is_item, kind_number, is_inner, listing_noted, noted_by, noted_all, listing_begun, begun_at, without_listing, listing_of, shows_items, shows_inside, item_names, ascend}
 use Rattle.dir_model.specs.State.{DirState, folder_at, spot_eq, lives, has_begun}
 use Rattle.dir_model.specs.Trace.{state_next, state_after, listings_replied, listings_ended, removed_in, app_started}
 use Rattle.dir_model.specs.Replies.{is_reply, is_any_reply, is_apps_request, is_own_at, refused_in, file_refusal, dir_refusal}
@@ -34,11 +34,11 @@ use Rattle.dir_rules.specs.declared.seen.Entry.{Entry}
 use Rattle.dir_rules.specs.declared.seen.Seen.{Seen}
 use Rattle.dir_rules.specs.declared.seen.ShownItem.{ShownItem}
 use Rattle.dir_rules.specs.Marks.{parent, path_in}
-use Rattle.dir_rules.specs.Seen.{learned, inner_eq, is_item_at, stands_in, shown_in, with_items}
+use Rattle.dir_rules.specs.Seen.{learned, inner_eq, is_item_at, is_item_in, shown_in, with_items}
 use Rattle.dir_rules.specs.Standing.{gives_up}
 use Rattle.dir_rules.specs.LockRules.{may_remove, is_removal_held}
 use Rattle.dir_rules.specs.Rules as rules
-use Rattle.dir_rules.specs.Rules.{allows, may_change, is_file_item}
+use Rattle.dir_rules.specs.Rules.{allows, content_rules_allow, is_file_item}
 use Rattle.dir_rules.specs.Conforms.{seen_of, seen_replied, nothing_seen}
 use Rattle.lifecycle.specs.Executions.{IsConforming}
 use Rattle.lifecycle.proofs.Lists.{In, in_map, map_in, in_filter, filter_in, any_in, in_any, find_in, or_left}
@@ -135,7 +135,7 @@ module _ (st : DirState) (e : Event) where
       let y = still here.spot f may x.there in
       told_on st next here f through ever y.0 y.1 x
 
-pub noted_open : (st : DirState) → Shape st.entries → (s : Seen) (l : Listed) → OpenTold st s l → OpenTold st s (noted st l)
+pub noted_open : (st : DirState) → Shape st.entries → (s : Seen) (l : Listed) → OpenTold st s l → OpenTold st s (listing_noted st l)
 noted_open st shape s (listed.Area a through ever) t = tt
 noted_open st shape s (listed.Missing here) t = t
 noted_open st shape s (listed.Inside here f through ever) t = λ may. noted_told st shape here f through ever (t may)
@@ -143,9 +143,9 @@ noted_open st shape s (listed.Inside here f through ever) t = λ may. noted_told
 -- who asks for a removal there may remove there
 remover : (g : Seen) (here : Spot) (request : Request) → removes_at here request ≡ true → allows g request ≡ true →
     (may_remove g.standing here ≡ true) × ((is_kill request ≡ false) × (is_begin request ≡ false))
-remover g here (RemoveFileIn i) at may = (subst (λ (z : Spot). may_remove g.standing z ≡ true) (sym (one_location here i.spot at)) (and_left (may_remove g.standing i.spot) (may_change g (RemoveFileIn i)) may), (refl, refl))
-remover g here (RemoveDirIn i) at may = (subst (λ (z : Spot). may_remove g.standing z ≡ true) (sym (one_location here i.spot at)) (and_left (may_remove g.standing i.spot) (may_change g (RemoveDirIn i)) may), (refl, refl))
-remover g here (RemoveFolder gone) at may = (subst (λ (z : Spot). may_remove g.standing z ≡ true) (sym (one_location here gone at)) (and_left (may_remove g.standing gone) (may_change g (RemoveFolder gone)) may), (refl, refl))
+remover g here (RemoveFileIn i) at may = (subst (λ (z : Spot). may_remove g.standing z ≡ true) (sym (one_location here i.spot at)) (and_left (may_remove g.standing i.spot) (content_rules_allow g (RemoveFileIn i)) may), (refl, refl))
+remover g here (RemoveDirIn i) at may = (subst (λ (z : Spot). may_remove g.standing z ≡ true) (sym (one_location here i.spot at)) (and_left (may_remove g.standing i.spot) (content_rules_allow g (RemoveDirIn i)) may), (refl, refl))
+remover g here (RemoveFolder gone) at may = (subst (λ (z : Spot). may_remove g.standing z ≡ true) (sym (one_location here gone at)) (and_left (may_remove g.standing gone) (content_rules_allow g (RemoveFolder gone)) may), (refl, refl))
 remover g here request at may = cc
 
 no_kill_removal : (here : Spot) (request : Request) → is_kill request ≡ true → removes_at here request ≡ false
@@ -156,7 +156,7 @@ abbrev process_of : Option OpenListing → ℕ
 process_of None = 0
 process_of (Some l) = l.process
 
-begun_by : (st : DirState) (q : ℕ) (request : Request) (l : OpenListing) → begun st q request ≡ Some l → (l.process ≡ q) × (is_kill request ≡ false)
+begun_by : (st : DirState) (q : ℕ) (request : Request) (l : OpenListing) → listing_begun st q request ≡ Some l → (l.process ≡ q) × (is_kill request ≡ false)
 begun_by st q (ListArea a) l is = (ap (λ (o : Option OpenListing). process_of o) (sym is), refl)
 begun_by st q (ListIn inner) l is = (ap (λ (o : Option OpenListing). process_of o) (sym is), refl)
 begun_by st q request l is = cc
@@ -200,11 +200,11 @@ module _ (h : List Event) (e : Event) (c : IsConforming (h ++ e ∷ [])) (p : �
   }
     where
       by : (l : OpenListing) → l.process ≡ p → (In l st.listings ⊎ ((l0 : OpenListing) × (In l0 st.listings × (l ≡ noted_by st l0)))) ⊎
-          ((e.reply ≡ Begun) × (begun st e.process e.request ≡ Some l)) → OpenTold (state_next st e) s l.listed
+          ((e.reply ≡ Begun) × (listing_begun st e.process e.request ≡ Some l)) → OpenTold (state_next st e) s l.listed
       by l is (inl (inl i)) = open_on st e s still l.listed (told.opened l i is)
       by l is (inl (inr (l0, (i, same)))) =
           subst (λ (z : OpenListing). OpenTold (state_next st e) s z.listed) (sym same)
-          (open_on st e s still (noted st l0.listed) (noted_open st (shaped h x.conforming) s l0.listed
+          (open_on st e s still (listing_noted st l0.listed) (noted_open st (shaped h x.conforming) s l0.listed
           (told.opened l0 i (ap (λ (z : OpenListing). z.process) (sym same) ∙ is))))
       by l is (inr (begins, opens)) =
           let b = begun_by st e.process e.request l opens in
@@ -279,7 +279,7 @@ standing_entry : (k : ItemKind) (path : List ℕ) (es : List Entry) → stands_a
     (y : Entry) × (In y es × ((y.path ≡ path) × (((is_file_item k && not (rules.is_dir y.node)) || (not (is_file_item k) && rules.is_dir y.node)) ≡ true)))
 standing_entry k path es h = by (is_file_item k) refl h
   where
-    by : (b : Bool) → is_file_item k ≡ b → cond b (rules.has_file path es) (rules.has_dir path es) ≡ true →
+    by : (b : Bool) → is_file_item k ≡ b → cond b (rules.has_file_among path es) (rules.has_dir_among path es) ≡ true →
         (y : Entry) × (In y es × ((y.path ≡ path) × (((b && not (rules.is_dir y.node)) || (not b && rules.is_dir y.node)) ≡ true)))
     by true e h =
         let y = any_in (λ e. not (rules.is_dir e.node) && bytes_eq e.path path) es h in
@@ -294,7 +294,7 @@ entry_stands : (k : ItemKind) (path : List ℕ) (es : List Entry) (y : Entry) �
     ((is_file_item k && not (rules.is_dir y.node)) || (not (is_file_item k) && rules.is_dir y.node)) ≡ true → stands_as k path es ≡ true
 entry_stands k path es y i same kind = by (is_file_item k) kind
   where
-    by : (b : Bool) → ((b && not (rules.is_dir y.node)) || (not b && rules.is_dir y.node)) ≡ true → cond b (rules.has_file path es) (rules.has_dir path es) ≡ true
+    by : (b : Bool) → ((b && not (rules.is_dir y.node)) || (not b && rules.is_dir y.node)) ≡ true → cond b (rules.has_file_among path es) (rules.has_dir_among path es) ≡ true
     by true h = in_any (λ e. not (rules.is_dir e.node) && bytes_eq e.path path) y es i
         (and_both (not (rules.is_dir y.node)) (bytes_eq y.path path) (left (not (rules.is_dir y.node)) h) (same_name y.path path same))
       where
@@ -629,7 +629,7 @@ module _ (h : List Event) (p : ℕ) (told : Told (state_after h) p (seen_of p h)
         opened : (o : Option OpenListing) → listing_of st1 p ≡ o → shows_inside inner new o ≡ true → Answer
         opened None e shows = cc
         opened (Some l) e shows =
-            let f = find_in (is_of p) l (noted_all st1 st1.listings) e in
+            let f = find_in (is_listing_of p) l (noted_all st1 st1.listings) e in
             let g = in_map (noted_by st1) st1.listings l f.0 in
             inside l.listed
             (subst (λ (z : OpenListing). OpenTold st1 s1 z.listed) (sym g.1.1)
@@ -687,7 +687,7 @@ module _ (h : List Event) (p : ℕ) (told : Told (state_after h) p (seen_of p h)
         by (inr (only, all)) = inr (λ y i direct.
             let item = all y i direct in
             in_any (item_at inner.spot y.path) (shown_in inner item.0) listed_items
-            (in_last (shown_in inner item.0) (filter (λ i. not (stands_in inner i)) s1.items) (map (shown_in inner) new) (map_in (shown_in inner) item.0 new item.1.0))
+            (in_last (shown_in inner item.0) (filter (λ i. not (is_item_in inner i)) s1.items) (map (shown_in inner) new) (map_in (shown_in inner) item.0 new item.1.0))
             (and_both (spot_eq inner.spot inner.spot) (bytes_eq (path_in inner.path item.0.name) y.path) (spot_self inner.spot)
             (same_name (path_in inner.path item.0.name) y.path item.1.1)))
 
@@ -698,10 +698,10 @@ module _ (h : List Event) (p : ℕ) (told : Told (state_after h) p (seen_of p h)
       told = by t.folder t.told;
     }
       where
-        stays : (y : Entry) → is_directly_in other.path y.path ≡ true → (w : ShownItem) → item_at other.spot y.path w ≡ true → not (stands_in inner w) ≡ true
-        stays y direct w hit = on (stands_in inner w) refl
+        stays : (y : Entry) → is_directly_in other.path y.path ≡ true → (w : ShownItem) → item_at other.spot y.path w ≡ true → not (is_item_in inner w) ≡ true
+        stays y direct w hit = on (is_item_in inner w) refl
           where
-            on : (b : Bool) → stands_in inner w ≡ b → not b ≡ true
+            on : (b : Bool) → is_item_in inner w ≡ b → not b ≡ true
             on false e = refl
             on true e =
                 let a = at_parts (record { spot = other.spot; path = y.path }) w hit in
@@ -715,21 +715,21 @@ module _ (h : List Event) (p : ℕ) (told : Told (state_after h) p (seen_of p h)
             (is_apps_own st1.apps f other.path ≡ true) ⊎ ShowsAll st1 f listed_items other
         by f (inl own) = inl own
         by f (inr all) = inr (λ y i direct.
-            any_more (item_at other.spot y.path) (filter (λ i. not (stands_in inner i)) s1.items) (map (shown_in inner) new)
-            (any_filter (item_at other.spot y.path) (λ i. not (stands_in inner i)) (stays y direct) s1.items (all y i direct)))
+            any_more (item_at other.spot y.path) (filter (λ i. not (is_item_in inner i)) s1.items) (map (shown_in inner) new)
+            (any_filter (item_at other.spot y.path) (λ i. not (is_item_in inner i)) (stays y direct) s1.items (all y i direct)))
 
     pub listing_told : ToldAfter (ListIn inner) (Items new)
     listing_told = (
-      λ i j. item_by i (in_two i (filter (λ i. not (stands_in inner i)) s1.items) (map (shown_in inner) new)
+      λ i j. item_by i (in_two i (filter (λ i. not (is_item_in inner i)) s1.items) (map (shown_in inner) new)
           (subst (λ (b : Bool). In i (cond b (with_items inner new s1.items) s1.items)) may j)),
       λ other j.
           subst (λ (b : Bool). DirTold listed_after (cond b (with_items inner new s1.items) s1.items) other) (sym may)
           (dir_by other (subst (λ (b : Bool). In other (cond b (inner ∷ s1.listed) s1.listed)) may j)),
     )
       where
-        item_by : (i : ShownItem) → In i (filter (λ i. not (stands_in inner i)) s1.items) ⊎ In i (map (shown_in inner) new) → ItemStands listed_after i
+        item_by : (i : ShownItem) → In i (filter (λ i. not (is_item_in inner i)) s1.items) ⊎ In i (map (shown_in inner) new) → ItemStands listed_after i
         item_by i (inl j) =
-            let t = told.items i (in_filter (λ i. not (stands_in inner i)) i s1.items j).0 in
+            let t = told.items i (in_filter (λ i. not (is_item_in inner i)) i s1.items j).0 in
             item_on st1 (event p (ListIn inner) (Items new)) i t (list_still i.inner.spot t.folder t.there)
         item_by i (inr j) =
             let y = in_map (shown_in inner) new i j in
@@ -861,11 +861,11 @@ module _ (h : List Event) (p : ℕ) (told : Told (state_after h) p (seen_of p h)
     where
       over : (request : Request) (l : OpenListing) → is_listing_request request ≡ true → In l (listings_ended st1 p request) → l.process ≡ p → ⊥
       over request l on i same = clash (l.process == p) (ap (λ q. q == p) same ∙ same_self p)
-          (not_true (l.process == p) (in_filter (λ z. not (is_of p z)) l st1.listings (subst (λ (b : Bool). In l (cond b (without_listing p st1.listings) st1.listings)) on i)).1)
+          (not_true (l.process == p) (in_filter (λ z. not (is_listing_of p z)) l st1.listings (subst (λ (b : Bool). In l (cond b (without_listing p st1.listings) st1.listings)) on i)).1)
   ends request (Items items) l on lists is i same = clash (l.process == p) (ap (λ q. q == p) same ∙ same_self p)
-      (not_true (l.process == p) (in_filter (λ z. not (is_of p z)) l st1.listings (subst (λ (b : Bool). In l (cond b (without_listing p st1.listings) st1.listings)) on i)).1)
+      (not_true (l.process == p) (in_filter (λ z. not (is_listing_of p z)) l st1.listings (subst (λ (b : Bool). In l (cond b (without_listing p st1.listings) st1.listings)) on i)).1)
   ends request (Refused error left) l on lists is i same = clash (l.process == p) (ap (λ q. q == p) same ∙ same_self p)
-      (not_true (l.process == p) (in_filter (λ z. not (is_of p z)) l st1.listings (subst (λ (b : Bool). In l (cond b (without_listing p st1.listings) st1.listings)) on i)).1)
+      (not_true (l.process == p) (in_filter (λ z. not (is_listing_of p z)) l st1.listings (subst (λ (b : Bool). In l (cond b (without_listing p st1.listings) st1.listings)) on i)).1)
   ends request Begun l on lists is i same = by (is_apps_request st1 request) is
     where
       by : (b : Bool) → cond b (is_listing_request request && not (is_listing st1 p)) (is_listing_request request && not (is_listing st1 p)) ≡ true → ⊥
@@ -931,10 +931,10 @@ module _ (h : List Event) (p : ℕ) (told : Told (state_after h) p (seen_of p h)
             ),
           )
           on (inr there) =
-              let dirs : rules.has_dir inner.path (entries_in f st1.entries) ≡ true =
-              subst (λ (q : List ℕ). rules.has_dir q (entries_in f st1.entries) ≡ true) same.1
-              (subst (λ (g : ℕ). rules.has_dir z.inner.path (entries_in g st1.entries) ≡ true) number
-              (sym (ap (λ b. cond b (rules.has_file z.inner.path (entries_in t.folder st1.entries)) (rules.has_dir z.inner.path (entries_in t.folder st1.entries))) dir) ∙ there)) in
+              let dirs : rules.has_dir_among inner.path (entries_in f st1.entries) ≡ true =
+              subst (λ (q : List ℕ). rules.has_dir_among q (entries_in f st1.entries) ≡ true) same.1
+              (subst (λ (g : ℕ). rules.has_dir_among z.inner.path (entries_in g st1.entries) ≡ true) number
+              (sym (ap (λ b. cond b (rules.has_file_among z.inner.path (entries_in t.folder st1.entries)) (rules.has_dir_among z.inner.path (entries_in t.folder st1.entries))) dir) ∙ there)) in
               clash (has_dir st1.entries f inner.path)
               (or_last (is_empty inner.path) (list_any (is_dir_entry f inner.path) st1.entries) (dir_of f inner.path st1.entries ∙ dirs)) off
 
@@ -945,7 +945,7 @@ module _ (h : List Event) (p : ℕ) (told : Told (state_after h) p (seen_of p h)
           (ap (entries_in f) (append-nil st1.entries)) (begun_told st1 shape1 inner f e)
       by false d = λ may. lost d
 
-  open_new : (request : Request) (l : OpenListing) → begun st1 p request ≡ Some l →
+  open_new : (request : Request) (l : OpenListing) → listing_begun st1 p request ≡ Some l →
       OpenTold (state_next st1 (event p request Begun)) (seen_replied s1 request Begun) l.listed
   open_new (ListArea a) l is = subst (λ (o : Option OpenListing). listed_by (ListArea a) o) is tt
   open_new (ListIn inner) l is = subst (λ (o : Option OpenListing). listed_by (ListIn inner) o) is (open_inside inner (folder_at st1.namespace inner.spot) refl)
@@ -957,10 +957,10 @@ module _ (h : List Event) (p : ℕ) (told : Told (state_after h) p (seen_of p h)
   open_by request reply x once l i same = by (is_listing st1 p) refl
     where
       listing : (l : OpenListing) → In l st1.listings → l.process ≡ p → is_listing st1 p ≡ true
-      listing l i same = in_any (is_of p) l st1.listings i (ap (λ q. q == p) same ∙ same_self p)
+      listing l i same = in_any (is_listing_of p) l st1.listings i (ap (λ q. q == p) same ∙ same_self p)
 
       from : is_listing st1 p ≡ false → (In l st1.listings ⊎ ((l0 : OpenListing) × (In l0 st1.listings × (l ≡ noted_by st1 l0)))) ⊎
-          ((reply ≡ Begun) × (begun st1 p request ≡ Some l)) → OpenTold (state_next st1 (event p request reply)) (seen_replied s1 request reply) l.listed
+          ((reply ≡ Begun) × (listing_begun st1 p request ≡ Some l)) → OpenTold (state_next st1 (event p request reply)) (seen_replied s1 request reply) l.listed
       from off (inl (inl j)) = clash (is_listing st1 p) (listing l j same) off
       from off (inl (inr (l0, (j, e)))) = clash (is_listing st1 p) (listing l0 j (ap (λ (z : OpenListing). z.process) (sym e) ∙ same)) off
       from off (inr (is, opens)) = subst (λ (r : Reply). OpenTold (state_next st1 (event p request r)) (seen_replied s1 request r) l.listed) (sym is) (open_new request l opens)

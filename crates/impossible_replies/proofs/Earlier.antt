@@ -11,7 +11,7 @@ use Rattle.dir_model.specs.State.{Namespace, DirState, lives, has_begun, has_end
 use Rattle.dir_model.specs.Trace.{namespace_replied, without_process, state_next, states_next}
 use Rattle.dir_model.proofs.Lists.{and_both, and_left, and_right, any_push, not_true}
 use Rattle.dir_rules.specs.declared.seen.Seen.{Seen}
-use Rattle.dir_rules.specs.Conforms.{saw, seen_after, seen_replied}
+use Rattle.dir_rules.specs.Conforms.{seen_after_event, seen_after, seen_replied}
 use Rattle.dir_rules.proofs.Tied.{lived_before}
 use Rattle.folder_contents.proofs.Knowledge.{same_intent}
 use Rattle.lifecycle.proofs.Handles.{clash}
@@ -47,8 +47,8 @@ lives_earlier p s (e ∷ es) all now = by (is_foreign p e) refl all.0 (lives_ear
 -- and what it began as stays
 pub intent_kept : (p : ℕ) (s : Seen) (es : List Event) → AllByRecursion (λ e. (is_foreign p e || not (is_begin e.request)) ≡ true) es → (seen_after p s es).standing.intent ≡ s.standing.intent
 intent_kept p s [] all = refl
-intent_kept p s (e ∷ es) all = intent_kept p (saw p s e) es all.1 ∙ by (is_foreign p e) refl all.0
+intent_kept p s (e ∷ es) all = intent_kept p (seen_after_event p s e) es all.1 ∙ by (is_foreign p e) refl all.0
   where
-    by : (b : Bool) → is_foreign p e ≡ b → (b || not (is_begin e.request)) ≡ true → (saw p s e).standing.intent ≡ s.standing.intent
+    by : (b : Bool) → is_foreign p e ≡ b → (b || not (is_begin e.request)) ≡ true → (seen_after_event p s e).standing.intent ≡ s.standing.intent
     by true f off = ap (λ b. (cond b s (seen_replied s e.request e.reply)).standing.intent) f
     by false f off = ap (λ b. (cond b s (seen_replied s e.request e.reply)).standing.intent) f ∙ same_intent s.standing e.request e.reply (not_true (is_begin e.request) off)

@@ -15,7 +15,7 @@ use Rattle.dir_model.specs.declared.request.Request.TheVariants.{ListIn, RemoveF
 use Rattle.dir_model.specs.declared.request.Reply.TheVariants.{Refused}
 use Rattle.dir_model.specs.Paths.{is_directly_in}
 use Rattle.dir_model.specs.Trees.{has_file, is_dir_entry, has_children, holds_any, is_child, is_apps_own}
-use Rattle.dir_model.specs.Listings.{is_of, is_inner, noted_by, noted_all, listing_of, shows_missing}
+use Rattle.dir_model.specs.Listings.{is_listing_of, is_inner, noted_by, noted_all, listing_of, shows_missing}
 use Rattle.dir_model.specs.State.{DirState, folder_at, spot_eq}
 use Rattle.dir_model.specs.Trace.{state_after}
 use Rattle.dir_model.specs.Replies.{is_reply, is_any_reply, is_apps_request, is_own_at, refusal, refused_in, file_refusal, dir_refusal, folder_refusal}
@@ -24,10 +24,10 @@ use Rattle.dir_model.proofs.Spots.{spot_self}
 use Rattle.dir_rules.specs.declared.seen.Seen.{Seen}
 use Rattle.dir_rules.specs.declared.seen.ShownItem.{ShownItem}
 use Rattle.dir_rules.specs.Marks.{parent}
-use Rattle.dir_rules.specs.Seen.{inner_eq, is_item_at, stands_in}
-use Rattle.dir_rules.specs.LockRules.{may_ask, may_remove}
+use Rattle.dir_rules.specs.Seen.{inner_eq, is_item_at, is_item_in}
+use Rattle.dir_rules.specs.LockRules.{lock_rules_allow, may_remove}
 use Rattle.dir_rules.specs.Rules as rules
-use Rattle.dir_rules.specs.Rules.{allows, may_change, may_remove_file, may_remove_dir, is_file_item, shows, is_emptied, root_of}
+use Rattle.dir_rules.specs.Rules.{allows, content_rules_allow, may_remove_file, may_remove_dir, is_file_item, is_item_shown, is_emptied, root_of}
 use Rattle.dir_rules.specs.Anomalies.{is_place_error}
 use Rattle.dir_rules.specs.Conforms.{seen_of}
 use Rattle.lifecycle.specs.Executions.{IsConforming}
@@ -89,7 +89,7 @@ module _ (h : List Event) (p : ℕ) (knows : Told (state_after h) p (seen_of p h
           (is_apps_own st.apps f i.path ≡ true) ⊎ (cond k (has_file st.entries f i.path) (list_any (is_dir_entry f i.path) st.entries) ≡ true)
       by f (inl own) = inl (subst (λ (q : List ℕ). is_apps_own st.apps f q ≡ true) same.1 own)
       by f (inr there) = inr (ap₂ (λ a b. cond k a b) (file_of f i.path st.entries) (dir_of f i.path st.entries)
-          ∙ (ap (λ b. cond b (rules.has_file i.path (entries_in f st.entries)) (rules.has_dir i.path (entries_in f st.entries))) (sym kind)
+          ∙ (ap (λ b. cond b (rules.has_file_among i.path (entries_in f st.entries)) (rules.has_dir_among i.path (entries_in f st.entries))) (sym kind)
           ∙ subst (λ (q : List ℕ). stands_as z.kind q (entries_in f st.entries) ≡ true) same.1 there))
 
   owned : (i : Inner) (f : ℕ) → folder_at st.namespace i.spot ≡ Some f → is_apps_own st.apps f i.path ≡ true → is_own_at st i.path (folder_at st.namespace i.spot) ≡ true
@@ -99,12 +99,12 @@ module _ (h : List Event) (p : ℕ) (knows : Told (state_after h) p (seen_of p h
   no_child : (inner : Inner) (f : ℕ) → folder_at st.namespace inner.spot ≡ Some f → is_emptied s inner ≡ true →
       (is_apps_own st.apps f inner.path ≡ true) ⊎ (has_children st.entries f inner.path ≡ false)
   no_child inner f at emptied =
-      let x = both (list_any (inner_eq inner) s.listed) (not (list_any (stands_in inner) s.items)) emptied in
+      let x = both (list_any (inner_eq inner) s.listed) (not (list_any (is_item_in inner) s.items)) emptied in
       let l = any_in (inner_eq inner) s.listed x.0 in
       let y = both (spot_eq inner.spot l.0.spot) (bytes_eq inner.path l.0.path) l.1.1 in
-      on l.0 (one_location inner.spot l.0.spot y.0) (name_same inner.path l.0.path y.1) (knows.dirs l.0 l.1.0) (not_true (list_any (stands_in inner) s.items) x.1)
+      on l.0 (one_location inner.spot l.0.spot y.0) (name_same inner.path l.0.path y.1) (knows.dirs l.0 l.1.0) (not_true (list_any (is_item_in inner) s.items) x.1)
     where
-      on : (other : Inner) → inner.spot ≡ other.spot → inner.path ≡ other.path → DirTold st s.items other → list_any (stands_in inner) s.items ≡ false →
+      on : (other : Inner) → inner.spot ≡ other.spot → inner.path ≡ other.path → DirTold st s.items other → list_any (is_item_in inner) s.items ≡ false →
           (is_apps_own st.apps f inner.path ≡ true) ⊎ (has_children st.entries f inner.path ≡ false)
       on other spot path t none = by t.told
         where
@@ -125,15 +125,15 @@ module _ (h : List Event) (p : ℕ) (knows : Told (state_after h) p (seen_of p h
                   (subst (λ (q : List ℕ). is_directly_in q c.0.path ≡ true) path w.1) in
                   let z = any_in (item_at other.spot c.0.path) s.items i in
                   let a = at_parts (record { spot = other.spot; path = c.0.path }) z.0 z.1.1 in
-                  clash (list_any (stands_in inner) s.items)
-                  (in_any (stands_in inner) z.0 s.items z.1.0
+                  clash (list_any (is_item_in inner) s.items)
+                  (in_any (is_item_in inner) z.0 s.items z.1.0
                   (and_both (spot_eq z.0.inner.spot inner.spot) (bytes_eq (parent z.0.inner.path) inner.path)
                   (subst (λ (q : Spot). spot_eq z.0.inner.spot q ≡ true) (a.0 ∙ sym spot) (spot_self z.0.inner.spot))
                   (same_name (parent z.0.inner.path) inner.path (ap parent a.1 ∙ direct_parent inner.path c.0.path w.1)))) none
 
   file_removed : (i : Inner) → allows s (RemoveFileIn i) ≡ true → is_apps_request st (RemoveFileIn i) ≡ false → refusal st p (RemoveFileIn i) ≡ None
   file_removed i may plain =
-      let z = any_in (λ z. is_item_at i z && is_file_item z.kind) s.items (and_right (may_ask s.standing (RemoveFileIn i)) (may_remove_file s i) may) in
+      let z = any_in (λ z. is_item_at i z && is_file_item z.kind) s.items (and_right (lock_rules_allow s.standing (RemoveFileIn i)) (may_remove_file s i) may) in
       let w = both (is_item_at i z.0) (is_file_item z.0.kind) z.1.1 in
       let t = shown_stands true i z.0 z.1.0 w.0 w.1 in
       by t.folder t.there t.stands
@@ -144,7 +144,7 @@ module _ (h : List Event) (p : ℕ) (knows : Told (state_after h) p (seen_of p h
 
   dir_removed : (i : Inner) → allows s (RemoveDirIn i) ≡ true → is_apps_request st (RemoveDirIn i) ≡ false → refusal st p (RemoveDirIn i) ≡ None
   dir_removed i may plain =
-      let y = both (shows (λ k. not (is_file_item k)) i s.items) (is_emptied s i) (and_right (may_ask s.standing (RemoveDirIn i)) (may_remove_dir s i) may) in
+      let y = both (is_item_shown (λ k. not (is_file_item k)) i s.items) (is_emptied s i) (and_right (lock_rules_allow s.standing (RemoveDirIn i)) (may_remove_dir s i) may) in
       let z = any_in (λ z. is_item_at i z && not (is_file_item z.kind)) s.items y.0 in
       let w = both (is_item_at i z.0) (not (is_file_item z.0.kind)) z.1.1 in
       let t = shown_stands false i z.0 z.1.0 w.0 (not_true (is_file_item z.0.kind) w.1) in
@@ -161,8 +161,8 @@ module _ (h : List Event) (p : ℕ) (knows : Told (state_after h) p (seen_of p h
 
   folder_removed : (spot : Spot) → allows s (RemoveFolder spot) ≡ true → refusal st p (RemoveFolder spot) ≡ None
   folder_removed spot may =
-      let e = and_right (may_ask s.standing (RemoveFolder spot)) (is_emptied s (root_of spot)) may in
-      let l = any_in (inner_eq (root_of spot)) s.listed (and_left (list_any (inner_eq (root_of spot)) s.listed) (not (list_any (stands_in (root_of spot)) s.items)) e) in
+      let e = and_right (lock_rules_allow s.standing (RemoveFolder spot)) (is_emptied s (root_of spot)) may in
+      let l = any_in (inner_eq (root_of spot)) s.listed (and_left (list_any (inner_eq (root_of spot)) s.listed) (not (list_any (is_item_in (root_of spot)) s.items)) e) in
       let t = knows.dirs l.0 l.1.0 in
       let at = subst (λ (z : Spot). folder_at st.namespace z ≡ Some t.folder)
       (sym (one_location spot l.0.spot (and_left (spot_eq spot l.0.spot) (bytes_eq [] l.0.path) l.1.1))) t.there in
@@ -190,7 +190,7 @@ module _ (h : List Event) (p : ℕ) (knows : Told (state_after h) p (seen_of p h
 
   -- a directory that a listing showed is found
   pub directory_found : (inner : Inner) (left : ℕ) → is_apps_request st (ListIn inner) ≡ false → is_reply st p (ListIn inner) (Refused Missing left) ≡ true →
-      shows (λ k. not (is_file_item k)) inner s.items ≡ true → ⊥
+      is_item_shown (λ k. not (is_file_item k)) inner s.items ≡ true → ⊥
   directory_found inner left plain is shown =
       let z = any_in (λ z. is_item_at inner z && not (is_file_item z.kind)) s.items shown in
       let w = both (is_item_at inner z.0) (not (is_file_item z.0.kind)) z.1.1 in
@@ -219,7 +219,7 @@ module _ (h : List Event) (p : ℕ) (knows : Told (state_after h) p (seen_of p h
           is_file_item z.kind ≡ false → ⊥
       by None e m z i here dir = cc
       by (Some l) e m z i here dir =
-          let f = find_in (is_of p) l (noted_all st st.listings) e in
+          let f = find_in (is_listing_of p) l (noted_all st st.listings) e in
           let g = in_map (noted_by st) st.listings l f.0 in
           at z i here dir l.listed
           (subst (λ (q : OpenListing). OpenTold st s q.listed) (sym g.1.1)

@@ -20,8 +20,8 @@ use Rattle.dir_rules.specs.declared.seen.Making.{Making}
 use Rattle.dir_rules.specs.declared.standing.Standing.{Standing}
 use Rattle.dir_rules.specs.Seen.{makes_at, is_making_area}
 use Rattle.dir_rules.specs.Standing.{is_in}
-use Rattle.dir_rules.specs.LockRules.{may_ask, may_remove, is_removal_held, is_removal_target}
-use Rattle.dir_rules.specs.Rules.{allows, may_change}
+use Rattle.dir_rules.specs.LockRules.{lock_rules_allow, may_remove, is_removal_held, is_removal_target}
+use Rattle.dir_rules.specs.Rules.{allows, content_rules_allow}
 use Rattle.lifecycle.proofs.Lists.{any_in}
 use Rattle.lifecycle.proofs.Handles.{both, clash}
 use Rattle.dir_model.proofs.Lists.{and_left, and_right}
@@ -108,8 +108,8 @@ run_change s q g (AppendIn i piece) (Refused error left) k here run at may = by 
     by false false z e = inl (rw z (placed_away s.namespace k here i.spot i.path (Piece (take left piece)) s.entries at e))
 run_change s q g (RemoveFileIn i) Done k here run at may =
     inl (removed_away s.namespace k here i.spot i.path s.entries at (elsewhere here i.spot run
-    (removal_elsewhere g.standing i.spot (and_left (may_ask g.standing (RemoveFileIn i)) (may_change g (RemoveFileIn i)) (may refl)))))
+    (removal_elsewhere g.standing i.spot (and_left (lock_rules_allow g.standing (RemoveFileIn i)) (content_rules_allow g (RemoveFileIn i)) (may refl)))))
 run_change s q g (RemoveDirIn i) Done k here run at may =
     inl (removed_away s.namespace k here i.spot i.path s.entries at (elsewhere here i.spot run
-    (removal_elsewhere g.standing i.spot (and_left (may_ask g.standing (RemoveDirIn i)) (may_change g (RemoveDirIn i)) (may refl)))))
+    (removal_elsewhere g.standing i.spot (and_left (lock_rules_allow g.standing (RemoveDirIn i)) (content_rules_allow g (RemoveDirIn i)) (may refl)))))
 run_change s q g request reply k here run at may = inl (ap (entries_in k) (append-nil s.entries))

@@ -37,12 +37,12 @@ pub begin_knows : (u : List ℕ) (n : Namespace) (s : PodState) (p : ℕ) (inten
     (standing_done nothing_standing (Begin intent))
 begin_knows u n s p intent sound unborn = record {
   linked = sym (unborn_mine n p sound unborn);
-  gated = λ g d. absurd (cc);
+  embryo_under_lock = λ g d. absurd (cc);
   gates = λ g. absurd (cc);
   owned = λ e x. absurd (cc);
   covered = λ h i o c. absurd i;
   looked = λ a x. absurd (cc);
-  cleared = λ x. absurd (cc);
+  seen_unowned_under_claim = λ x. absurd (cc);
 }
 
 pub knows_begun : (u : List ℕ) (n : Namespace) (b : Start) (q : ℕ) (s : PodState) (k : Standing) → Knows u q n s k →

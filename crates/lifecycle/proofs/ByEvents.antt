@@ -21,7 +21,7 @@ use Rattle.lifecycle.specs.declared.machine.PodState.{PodState}
 use Rattle.lifecycle.specs.declared.machine.PodState.TheVariants.{Absent}
 use Rattle.lifecycle.specs.declared.machine.Transition.{Transition}
 use Rattle.lifecycle.specs.declared.machine.Transition.TheVariants as turn
-use Rattle.lifecycle.specs.PodMachine.{turned, transition, if_so, on_opening, is_deleter, is_grip, is_owner, is_gone}
+use Rattle.lifecycle.specs.PodMachine.{after_transition, transition, transition_if, on_opening, is_deleter, is_exclusive_own, is_owner, is_gone}
 use Rattle.lifecycle.proofs.Lists.{In}
 use Rattle.lifecycle.proofs.Handles.{Sound, both, clash, handle_meet, held}
 use Rattle.dir_model.specs.declared.event.Event.{Event}
@@ -211,11 +211,11 @@ read_none u n s p request x = refl
 watched_same : (u : List ℕ) (n : Namespace) (s : PodState) (p : ℕ) (request : Request) (reply : Reply) → Sound n →
     watched u s (ours u n.openings) p request reply ≡ transition u n s p request reply
 watched_same u n s p (TryLock h Exclusive) Done sound =
-    ap (λ b. if_so (not (is_gone s) && b) turn.BeginDelete)
+    ap (λ b. transition_if (not (is_gone s) && b) turn.BeginDelete)
     (sym (find_ours u p h (is_deleter u) (λ g. g.in_garbage) n.openings sound.unique (λ o. refl)))
 watched_same u n s p (Close h) Done sound =
-    ap (λ b. if_so (is_owner p s && b) turn.End)
-    (sym (find_ours u p h (is_grip u) (λ g. g.exclusive) n.openings sound.unique (λ o. refl)))
+    ap (λ b. transition_if (is_owner p s && b) turn.End)
+    (sym (find_ours u p h (is_exclusive_own u) (λ g. g.exclusive) n.openings sound.unique (λ o. refl)))
 watched_same u n s p (TryLock h Shared) Done sound = refl
 watched_same u n s p request Done sound = refl
 watched_same u n s p request (Refused e left) sound = refused_none u n s p request e left
@@ -235,7 +235,7 @@ watch_is_from u (e ∷ es) n s sound run =
     let next : watch_next u (record { state = s; grips = ours u n.namespace.openings }) e ≡ record
     { state = pod_state_next u n.namespace s e; grips = ours u (state_next n e).namespace.openings } =
     ap (λ (o : Option Transition). record {
-      state = turned o e.process s;
+      state = after_transition o e.process s;
       grips =
           grips_replied u (ours u n.namespace.openings) e.process e.request e.reply;
     })

@@ -13,7 +13,7 @@ use Rattle.dir_model.specs.State.{DirState, empty_state, has_begun, lives}
 use Rattle.dir_model.specs.Trace.{state_next, states_next, state_after}
 use Rattle.dir_model.specs.Replies.{is_reply}
 use Rattle.dir_model.specs.Calls.{is_begin, is_kill, is_foreign, is_allowed, is_run_from, IsRun, may_step}
-use Rattle.dir_rules.specs.Standing.{nothing_standing, draws, draws_by, holds_gate, find_held, held_in, looked_by, standing_replied, stood, standing_from, standing_of}
+use Rattle.dir_rules.specs.Standing.{nothing_standing, draws, draws_by, shares_area, find_held, held_with_mode, looked_by, standing_replied, stood, standing_from, standing_of}
 use Rattle.dir_model.specs.Areas.{is_stage}
 use Rattle.dir_model.proofs.Chains.{run_from-left, run_from-right, run-left}
 use Rattle.lifecycle.specs.Executions.{IsConforming}
@@ -38,12 +38,12 @@ same_intent s (Begin intent) reply off = cc
 same_intent s request (Refused e left) off = refl
 same_intent s (MakeFolder spot) Done off = by (is_stage spot.area)
   where
-    by : (b : Bool) → (cond b (record s { made = true; gated = holds_gate area.Embryo s }) s).intent ≡ s.intent
+    by : (b : Bool) → (cond b (record s { made = true; embryo_under_lock = shares_area area.Embryo s }) s).intent ≡ s.intent
     by true = refl
     by false = refl
 same_intent s (TryLock h Shared) Done off = by (find_held h s)
   where
-    by : (o : Option Held) → (looked_by o (record s { holdings = map (held_in h Shared) s.holdings })).intent ≡ s.intent
+    by : (o : Option Held) → (looked_by o (record s { holdings = map (held_with_mode h Shared) s.holdings })).intent ≡ s.intent
     by None = refl
     by (Some x) = refl
 same_intent s (TryLock h Exclusive) Done off = refl

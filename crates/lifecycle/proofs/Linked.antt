@@ -13,7 +13,7 @@ use Rattle.dir_model.specs.declared.request.Reply.TheVariants.{Done, Opened, Ref
 use Rattle.dir_model.specs.Locks.{is_handle}
 use Rattle.dir_model.specs.State.{Namespace}
 use Rattle.dir_model.specs.Trace.{namespace_replied, locked, opened, opened_gate}
-use Rattle.dir_rules.specs.Standing.{find_held, held_in, is_number, looked_by, recover, standing_replied, uncover}
+use Rattle.dir_rules.specs.Standing.{find_held, held_with_mode, is_handle_held, looked_by, uncovered_by_close, standing_replied, uncover}
 use Rattle.dir_model.specs.Areas.{is_stage}
 use Rattle.dir_rules.specs.declared.standing.Held.{Held}
 use Rattle.dir_rules.specs.declared.standing.Standing.{Standing}
@@ -147,25 +147,25 @@ bare_map : (f : Held → Held) (hs : List Held) → ((h : Held) → bare (f h) �
 bare_map f [] same = refl
 bare_map f (x ∷ hs) same = rw (same x, bare_map f hs same) refl
 
-bare_held : (h : Handle) (m : Mode) (hs : List Held) → map bare (map (held_in h m) hs) ≡ map (tie h m) (map bare hs)
+bare_held : (h : Handle) (m : Mode) (hs : List Held) → map bare (map (held_with_mode h m) hs) ≡ map (tie h m) (map bare hs)
 bare_held h m [] = refl
 bare_held h m (x ∷ hs) = by (x.handle.number == h.number) (bare_held h m hs)
   where
-    by : (b : Bool) → map bare (map (held_in h m) hs) ≡ map (tie h m) (map bare hs) →
+    by : (b : Bool) → map bare (map (held_with_mode h m) hs) ≡ map (tie h m) (map bare hs) →
         bare (cond b (record { handle = x.handle; target = x.target; lock = Some m; covered = x.covered }) x) ∷ map bare
-        (map (held_in h m) hs) ≡ cond b (record { handle = x.handle; target = x.target; lock = Some m }) (bare x) ∷ map
+        (map (held_with_mode h m) hs) ≡ cond b (record { handle = x.handle; target = x.target; lock = Some m }) (bare x) ∷ map
         (tie h m) (map bare hs)
     by true go = ap (λ (l : List Bare). record { handle = x.handle; target = x.target; lock = Some m } ∷ l) go
     by false go = ap (λ (l : List Bare). bare x ∷ l) go
 
-bare_filter : (h : Handle) (hs : List Held) → map bare (filter (λ g. not (is_number h g)) hs) ≡ filter
+bare_filter : (h : Handle) (hs : List Held) → map bare (filter (λ g. not (is_handle_held h g)) hs) ≡ filter
     (λ b. not (b.handle.number == h.number)) (map bare hs)
 bare_filter h [] = refl
 bare_filter h (x ∷ hs) = by (x.handle.number == h.number) (bare_filter h hs)
   where
-    by : (b : Bool) → map bare (filter (λ g. not (is_number h g)) hs) ≡ filter (λ b. not (b.handle.number == h.number))
-        (map bare hs) → map bare (cond (not b) (x ∷ filter (λ g. not (is_number h g)) hs)
-        (filter (λ g. not (is_number h g)) hs)) ≡ cond (not b) (bare x ∷ filter (λ b. not (b.handle.number == h.number))
+    by : (b : Bool) → map bare (filter (λ g. not (is_handle_held h g)) hs) ≡ filter (λ b. not (b.handle.number == h.number))
+        (map bare hs) → map bare (cond (not b) (x ∷ filter (λ g. not (is_handle_held h g)) hs)
+        (filter (λ g. not (is_handle_held h g)) hs)) ≡ cond (not b) (bare x ∷ filter (λ b. not (b.handle.number == h.number))
         (map bare hs)) (filter (λ b. not (b.handle.number == h.number)) (map bare hs))
     by true go = go
     by false go = ap (λ (l : List Bare). bare x ∷ l) go
@@ -234,7 +234,7 @@ linked_own p n s (TryLock h Shared) Done on l =
 linked_own p n s (TryLock h Exclusive) Done on l =
     bare_held h Exclusive s.holdings ∙ (ap (map (tie h Exclusive)) l ∙ sym (lock_own p h Exclusive n.openings))
 linked_own p n s (Close h) Done on l =
-    bare_map (recover h s.holdings) (filter (λ g. not (is_number h g)) s.holdings) (λ g. refl)
+    bare_map (uncovered_by_close h s.holdings) (filter (λ g. not (is_handle_held h g)) s.holdings) (λ g. refl)
     ∙ (bare_filter h s.holdings ∙ (ap (filter (λ b. not (b.handle.number == h.number))) l
     ∙ sym (close_own p h n.openings)))
 linked_own p n s Finish Done on l = cc

@@ -9,9 +9,9 @@ use Rattle.dir_model.specs.declared.request.Reply.TheVariants.{Done, Opened, Ref
 use Rattle.dir_model.specs.State.{DirState, lives, has_begun, empty_state}
 use Rattle.dir_model.specs.Replies.{is_reply}
 use Rattle.dir_model.specs.Calls.{may_step, is_kill, is_begin, is_foreign, is_allowed, is_run_from, event}
-use Rattle.dir_rules.specs.Standing.{draws, find_held, held_in, holds_gate, looked_by, nothing_standing, standing_from, standing_of, standing_replied, stood}
+use Rattle.dir_rules.specs.Standing.{draws, find_held, held_with_mode, shares_area, looked_by, nothing_standing, standing_from, standing_of, standing_replied, stood}
 use Rattle.dir_model.specs.Areas.{is_stage}
-use Rattle.dir_rules.specs.LockRules.{keeps_from, may_ask}
+use Rattle.dir_rules.specs.LockRules.{keeps_lock_rules_from, lock_rules_allow}
 use Rattle.dir_model.specs.Trace.{state_next, states_next, state_after}
 use Rattle.lifecycle.specs.declared.machine.PodState.{PodState}
 use Rattle.lifecycle.specs.declared.machine.PodState.TheVariants.{Absent}
@@ -49,14 +49,14 @@ kept_draw u k request (Opened g) on h = h
 kept_draw u k (Begin intent) Done on h = cc
 kept_draw u k (MakeFolder spot) Done on h = by (is_stage spot.area)
   where
-    by : (b : Bool) → (draws u (cond b (record k { made = true; gated = holds_gate area.Embryo k }) k) ≡ true) ×
-        ((cond b (record k { made = true; gated = holds_gate area.Embryo k }) k).made ≡ true)
+    by : (b : Bool) → (draws u (cond b (record k { made = true; embryo_under_lock = shares_area area.Embryo k }) k) ≡ true) ×
+        ((cond b (record k { made = true; embryo_under_lock = shares_area area.Embryo k }) k).made ≡ true)
     by true = (h.0, refl)
     by false = h
 kept_draw u k (TryLock g Shared) Done on h = by (find_held g k)
   where
-    by : (o : Option Held) → (draws u (looked_by o (record k { holdings = map (held_in g Shared) k.holdings })) ≡ true)
-        × ((looked_by o (record k { holdings = map (held_in g Shared) k.holdings })).made ≡ true)
+    by : (o : Option Held) → (draws u (looked_by o (record k { holdings = map (held_with_mode g Shared) k.holdings })) ≡ true)
+        × ((looked_by o (record k { holdings = map (held_with_mode g Shared) k.holdings })).made ≡ true)
     by None = h
     by (Some x) = h
 kept_draw u k (TryLock g Exclusive) Done on h = h
@@ -137,7 +137,7 @@ next_good u n s σ e g =
 -- what is left of a conforming execution, from a state
 pub record ConformingFrom (u : List ℕ) (n : DirState) (σ : ℕ → Standing) (es : List Event) : Type 0 where
   pub run : is_run_from n es ≡ true
-  pub rules : (p : ℕ) → keeps_from p (σ p) es ≡ true
+  pub rules : (p : ℕ) → keeps_lock_rules_from p (σ p) es ≡ true
   pub distinct : (before later : List Event) → es ≡ before ++ later → (p q : ℕ) →
       draws u (standing_from p (σ p) before) ≡ true → draws u (standing_from q (σ q) before) ≡ true → p ≡ q
 
@@ -152,21 +152,21 @@ given u n s σ e es good conforming =
       unborn = good.unborn;
       may = c.1;
       is = b.1;
-      rule = λ alive. ruled (both (is_foreign e.process e || may_ask (σ e.process) e.request)
-          (keeps_from e.process (stood e.process (σ e.process) e) es) (conforming.rules e.process)).0
+      rule = λ alive. ruled (both (is_foreign e.process e || lock_rules_allow (σ e.process) e.request)
+          (keeps_lock_rules_from e.process (stood e.process (σ e.process) e) es) (conforming.rules e.process)).0
           (ap (λ c. not c || is_kill e.request) (same_self e.process) ∙ alive);
       distinct = conforming.distinct [] (e ∷ es) refl;
     }
   where
-    ruled : (is_foreign e.process e || may_ask (σ e.process) e.request) ≡ true → is_foreign e.process e ≡ false →
-        may_ask (σ e.process) e.request ≡ true
-    ruled h off = ap (λ c. c || may_ask (σ e.process) e.request) (sym off) ∙ h
+    ruled : (is_foreign e.process e || lock_rules_allow (σ e.process) e.request) ≡ true → is_foreign e.process e ≡ false →
+        lock_rules_allow (σ e.process) e.request ≡ true
+    ruled h off = ap (λ c. c || lock_rules_allow (σ e.process) e.request) (sym off) ∙ h
 
 pub conforming_tail : (u : List ℕ) (n : DirState) (σ : ℕ → Standing) (e : Event) (es : List Event) →
     ConformingFrom u n σ (e ∷ es) → ConformingFrom u (state_next n e) (λ q. stood q (σ q) e) es
 conforming_tail u n σ e es conforming = record {
   run = (both (is_allowed n e) (is_run_from (state_next n e) es) conforming.run).1;
-  rules = λ p. (both (is_foreign p e || may_ask (σ p) e.request) (keeps_from p (stood p (σ p) e) es) (conforming.rules p)).1;
+  rules = λ p. (both (is_foreign p e || lock_rules_allow (σ p) e.request) (keeps_lock_rules_from p (stood p (σ p) e) es) (conforming.rules p)).1;
   distinct = λ before later is. conforming.distinct (e ∷ before) later (ap (λ (l : List Event). e ∷ l) is);
 }
 

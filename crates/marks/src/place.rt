@@ -2,7 +2,7 @@
 ghost use Rattle.std.specs.Prelude.{◌≡◌};
 ghost use Rattle.dir_model.specs.Areas.{rank, is_stage};
 ghost use Rattle.dir_model.specs.State.{spot_eq};
-ghost use Rattle.dir_rules.specs.Standing.{is_in, is_garbage, is_of};
+ghost use Rattle.dir_rules.specs.Standing.{is_in, is_garbage, is_spot_of_pod};
 ghost use Rattle.dir_rules.specs.Seen.{inner_eq};
 
 use dir_model::{Area, Inner, Name, Spot};
@@ -55,7 +55,7 @@ pub fn is_garbage(area: Area) -> bool
 
 /// Whether it is a place of the pod with this name.
 pub fn is_of(name: &Name, spot: &Spot) -> bool
-    ensures { result ≡ is_of name.now spot.now }
+    ensures { result ≡ is_spot_of_pod name.now spot.now }
 {
     is_stage(spot.area) && spot.name == *name
 }

@@ -18,16 +18,16 @@ use Rattle.metadata_reply.specs.Views.{HasReading, image_bytes}
 use Rattle.pod_files.specs.Looks.{OnlyReadsPod}
 use Rattle.pod_files.specs.Places.{pod_file}
 use Rattle.pod_files.proofs.Reading.{taken_so, not_taken}
-use Rattle.metadata.specs.PodViews.{image_path, ReadsImage, LacksImage, ReadsImages, LacksImageOf}
-use Rattle.metadata.specs.Images.{names, IsImageOf, TellsImage, IfReads}
+use Rattle.metadata.specs.PodViews.{image_path, ReadsAppImage, LacksAppImage, ReadsAppImages, LacksImageOf}
+use Rattle.metadata.specs.Images.{names, IsImageFromBytes, TellsImage, IfReads}
 use Rattle.metadata.proofs.Wider.{wider_after, wider_before, reads_wider, lacks_wider, images_wider}
 
 -- what the bytes tell
-pub tells_image : {observed : Bool} {old new : DirAt} (pod : PodId) (app bytes : List ℕ) → length bytes ≤ most_of_manifest → (observed ≡ true → ReadsUp (pod_file pod (image_path app)) most_of_manifest old new bytes) → (found : Option ImageBytes) → IsImageOf bytes found → observed ≡ true → TellsImage pod app found old new
+pub tells_image : {observed : Bool} {old new : DirAt} (pod : PodId) (app bytes : List ℕ) → length bytes ≤ most_of_manifest → (observed ≡ true → ReadsUp (pod_file pod (image_path app)) most_of_manifest old new bytes) → (found : Option ImageBytes) → IsImageFromBytes bytes found → observed ≡ true → TellsImage pod app found old new
 tells_image pod app bytes few read None is = not_taken (pod_file pod (image_path app)) most_of_manifest bytes bytes refl few read (λ b. HasReading b → ⊥) is
 tells_image pod app bytes few read (Some image) is = taken_so (pod_file pod (image_path app)) most_of_manifest bytes bytes refl few read (λ b. (b ≡ image.bytes) × HasReading b) is
 
-pub image_reads : (bytes : List ℕ) (found : Option ImageBytes) → IsImageOf bytes found → IfReads found
+pub image_reads : (bytes : List ℕ) (found : Option ImageBytes) → IsImageFromBytes bytes found → IfReads found
 image_reads bytes None is = tt
 image_reads bytes (Some image) is = subst HasReading is.0 is.1
 
@@ -49,7 +49,7 @@ pub data_names : (apps : List RuntimeApp) → map (λ (a : RuntimeAppData). a.na
 data_names [] = refl
 data_names (app ∷ apps) = ap (λ (l : List (List ℕ)). app.name ∷ l) (data_names apps)
 
-push_image : (pod : PodId) (a c : DirAt) (apps images : List (List ℕ)) (app image : List ℕ) → ReadsImages pod apps images a c → ReadsImage pod app image a c → ReadsImages pod (apps ++ app ∷ []) (images ++ image ∷ []) a c
+push_image : (pod : PodId) (a c : DirAt) (apps images : List (List ℕ)) (app image : List ℕ) → ReadsAppImages pod apps images a c → ReadsAppImage pod app image a c → ReadsAppImages pod (apps ++ app ∷ []) (images ++ image ∷ []) a c
 push_image pod a c [] [] app image are read = (read, tt)
 push_image pod a c [] (r ∷ images) app image are read = absurd are
 push_image pod a c (n ∷ apps) [] app image are read = absurd are
@@ -57,16 +57,16 @@ push_image pod a c (n ∷ apps) (r ∷ images) app image are read = (are.0, push
 
 module _ {observed : Bool} (t : observed ≡ true) (pod : PodId) (a b c : DirAt) (ab : OnlyReadsPod observed pod a b) (bc : OnlyReadsPod observed pod b c) (apps : List RuntimeApp) (i : ℕ) (app : RuntimeApp) (h : i < length apps) (is : app ≡ get_or apps i app) where
   -- one image more was read
-  pub images_next : (before after : List ImageBytes) (image : ImageBytes) → after ≡ before ++ image ∷ [] → ReadsImages pod (names (take i apps)) (map image_bytes before) a b → ReadsImage pod app.name image.bytes b c → ReadsImages pod (names (take (i + 1) apps)) (map image_bytes after) a c
+  pub images_next : (before after : List ImageBytes) (image : ImageBytes) → after ≡ before ++ image ∷ [] → ReadsAppImages pod (names (take i apps)) (map image_bytes before) a b → ReadsAppImage pod app.name image.bytes b c → ReadsAppImages pod (names (take (i + 1) apps)) (map image_bytes after) a c
   images_next before after image added are read =
-      subst (λ (ns : List (List ℕ)). ReadsImages pod ns (map image_bytes after) a c) (sym (names_more apps i app h is))
-      (subst (λ (l : List (List ℕ)). ReadsImages pod (names (take i apps) ++ app.name ∷ []) l a c) (sym (ap (map image_bytes) added ∙ map_push image_bytes before image))
+      subst (λ (ns : List (List ℕ)). ReadsAppImages pod ns (map image_bytes after) a c) (sym (names_more apps i app h is))
+      (subst (λ (l : List (List ℕ)). ReadsAppImages pod (names (take i apps) ++ app.name ∷ []) l a c) (sym (ap (map image_bytes) added ∙ map_push image_bytes before image))
       (push_image pod a c (names (take i apps)) (map image_bytes before) app.name image.bytes
       (images_wider (wider_before a b c (bc.extends t)) pod (names (take i apps)) (map image_bytes before) are)
       (reads_wider (wider_after a b c ab.same (ab.extends t)) read)))
 
   -- or there was none
-  pub image_lacks : LacksImage pod app.name b c → LacksImageOf pod (names apps) a c
+  pub image_lacks : LacksAppImage pod app.name b c → LacksImageOf pod (names apps) a c
   image_lacks lacks = record {
     before = names (take i apps);
     app = app.name;
@@ -75,7 +75,7 @@ module _ {observed : Bool} (t : observed ≡ true) (pod : PodId) (a b c : DirAt)
     lacks = lacks_wider (wider_after a b c ab.same (ab.extends t)) (pod_file pod (image_path app.name)) most_of_manifest (λ bytes. HasReading bytes → ⊥) lacks;
   }
 
-pub images_none : (pod : PodId) (apps images : List (List ℕ)) (d : DirAt) → apps ≡ [] → images ≡ [] → ReadsImages pod apps images d d
+pub images_none : (pod : PodId) (apps images : List (List ℕ)) (d : DirAt) → apps ≡ [] → images ≡ [] → ReadsAppImages pod apps images d d
 images_none pod apps images d no_apps no_images = rw (no_apps, no_images) tt
 
 -- each has a reading

@@ -9,10 +9,10 @@ use Rattle.dir_model.specs.declared.opening.Target.TheVariants.{Own, Gate}
 use Rattle.dir_model.specs.declared.pod.PodId.{PodId}
 use Rattle.dir_model.specs.declared.spot.Handle.{Handle}
 use Rattle.dir_model.specs.declared.spot.Mode.TheVariants.{Shared, Exclusive}
-use Rattle.dir_model.specs.Local.{Local, is_number, held_in, with_handle, with_lock, without, is_open_among, IsUnopened}
+use Rattle.dir_model.specs.Local.{Local, is_handle_of, held_in, with_handle, with_lock, without, is_open_among, IsUnopened}
 use Rattle.dir_model.proofs.Lists.{same_self, map_push, any_push, any_last, any_fewer, filter_all, filter_push, filter_past}
 use Rattle.dir_model.proofs.Holdings.{closed_after_lock}
-use Rattle.dir_files.specs.AreaLocks.{and_lock}
+use Rattle.dir_files.specs.AreaLocks.{and_area_lock}
 use Rattle.dir_files.proofs.Locking.{unlocked_same}
 use Rattle.pod_build.specs.declared.make_error.MakeError.{MakeError}
 use Rattle.pod_build.specs.MakingRequests.{pod_at}
@@ -20,7 +20,7 @@ use Rattle.pod_build.specs.Progress.{and_own, with_own}
 
 none_locked : (h : Handle) (hs : List Holding) → is_open_among h hs ≡ false → map (held_in h Exclusive) hs ≡ hs
 none_locked h [] none = refl
-none_locked h (x ∷ xs) none = by (is_number h x) none (λ rest. none_locked h xs rest)
+none_locked h (x ∷ xs) none = by (is_handle_of h x) none (λ rest. none_locked h xs rest)
   where
     by : (b : Bool) → (b || is_open_among h xs) ≡ false → (is_open_among h xs ≡ false → map (held_in h Exclusive) xs ≡ xs) → cond b (record x { lock = Some Exclusive }) x ∷ map (held_in h Exclusive) xs ≡ x ∷ xs
     by true none rest = cc
@@ -42,8 +42,8 @@ not_twice : (b : Bool) → not (not b) ≡ true → b ≡ true
 not_twice true h = refl
 not_twice false h = cc
 
-none_given : (g : Handle) (hs : List Holding) → is_open_among g hs ≡ false → filter (λ x. not (is_number g x)) hs ≡ hs
-none_given g hs none = filter_all (λ x. not (is_number g x)) hs (any_fewer (λ x. not (not (is_number g x))) (is_number g) (λ x is. not_twice (is_number g x) is) hs none)
+none_given : (g : Handle) (hs : List Holding) → is_open_among g hs ≡ false → filter (λ x. not (is_handle_of g x)) hs ≡ hs
+none_given g hs none = filter_all (λ x. not (is_handle_of g x)) hs (any_fewer (λ x. not (not (is_handle_of g x))) (is_handle_of g) (λ x is. not_twice (is_handle_of g x) is) hs none)
 
 -- what isn't open with more isn't open without it, and isn't that
 none_before : {X : Type 0} (t : X → Bool) (xs : List X) (y : X) → list_any t (xs ++ y ∷ []) ≡ false → list_any t xs ≡ false
@@ -69,22 +69,22 @@ gate_holding g area = record { handle = g; target = Gate area; lock = Some Share
 abbrev own_holding : PodId → Handle → Holding
 own_holding draw h = record { handle = h; target = Own (pod_at Embryo draw); lock = Some Exclusive }
 
-module _ (m : Local) (g h : Handle) (area : Area) (new : IsUnopened (and_lock m g area Shared) h) where
+module _ (m : Local) (g h : Handle) (area : Area) (new : IsUnopened (and_area_lock m g area Shared) h) where
   pub still_unopened : IsUnopened m h
-  still_unopened = none_before (is_number h) m.holdings (gate_holding g area) new
+  still_unopened = none_before (is_handle_of h) m.holdings (gate_holding g area) new
 
   pub other_number : (h.number == g.number) ≡ false
-  other_number = flipped g.number h.number (none_last (is_number h) m.holdings (gate_holding g area) new)
+  other_number = flipped g.number h.number (none_last (is_handle_of h) m.holdings (gate_holding g area) new)
 
   -- the area's lock is given back, and the pod's own is kept
-  pub gate_closed : (draw : PodId) → IsUnopened m g → without (and_own (and_lock m g area Shared) draw h) g ≡ and_own m draw h
+  pub gate_closed : (draw : PodId) → IsUnopened m g → without (and_own (and_area_lock m g area Shared) draw h) g ≡ and_own m draw h
   gate_closed draw unopened = ap (λ (hs : List Holding). let r : Local = record m { holdings = hs } in r)
-      (filter_push (λ x. not (is_number g x)) (m.holdings ++ gate_holding g area ∷ []) (own_holding draw h) (ap not other_number)
-      ∙ (ap (λ (l : List Holding). l ++ own_holding draw h ∷ []) (filter_past (λ x. not (is_number g x)) m.holdings (gate_holding g area) (ap not (same_self g.number)))
+      (filter_push (λ x. not (is_handle_of g x)) (m.holdings ++ gate_holding g area ∷ []) (own_holding draw h) (ap not other_number)
+      ∙ (ap (λ (l : List Holding). l ++ own_holding draw h ∷ []) (filter_past (λ x. not (is_handle_of g x)) m.holdings (gate_holding g area) (ap not (same_self g.number)))
       ∙ ap (λ (l : List Holding). l ++ own_holding draw h ∷ []) (none_given g m.holdings unopened)))
 
 -- once the lock of embryo is given back
-pub gate_given_local : {late new : Local} (m : Local) (g : Handle) (draw : PodId) (r : Result Handle MakeError) → IsUnopened m g → IfOk r (λ own. IsUnopened (and_lock m g Embryo Shared) own)
-    → late ≡ with_own (and_lock m g Embryo Shared) draw r → new ≡ without late g → new ≡ with_own m draw r
+pub gate_given_local : {late new : Local} (m : Local) (g : Handle) (draw : PodId) (r : Result Handle MakeError) → IsUnopened m g → IfOk r (λ own. IsUnopened (and_area_lock m g Embryo Shared) own)
+    → late ≡ with_own (and_area_lock m g Embryo Shared) draw r → new ≡ without late g → new ≡ with_own m draw r
 gate_given_local m g draw (Ok h) unopened fresh is close_is = close_is ∙ (ap (λ (x : Local). without x g) is ∙ gate_closed m g h Embryo fresh draw unopened)
 gate_given_local m g draw (Err e) unopened fresh is close_is = unlocked_same m g Embryo Shared unopened is close_is

@@ -17,7 +17,7 @@ use Rattle.dir_model.proofs.Lists.{or_last}
 use Rattle.dir_model.proofs.Holdings.{tried_by}
 use Rattle.dir_trait.specs.DirCalls.{DirAt, DirCall, ExtendsBy}
 use Rattle.dir_trait.specs.Effects.{OnlyAsks, LeavesOpen}
-use Rattle.dir_files.specs.AreaLocks.{takes, closes, and_lock}
+use Rattle.dir_files.specs.AreaLocks.{is_taking_area, closes, and_area_lock}
 use Rattle.folder_building.proofs.Working.{at_spot}
 use Rattle.pod_build.specs.declared.make_error.MakeError.{MakeError}
 use Rattle.pod_build.specs.MakingRequests.{pod_at, begins_pod, fills_pod, hands_pod, finishes_pod, makes_pod}
@@ -31,9 +31,9 @@ use Rattle.pod_build.proofs.Times.{Follows}
 pub record Shares (observed : Bool) (g : Handle) (old new : DirAt) : Type 0 where
   pub same : new.process ≡ old.process
   pub faults : old.faults ≤ new.faults
-  pub held : new.local ≡ and_lock old.local g Embryo Shared
+  pub held : new.local ≡ and_area_lock old.local g Embryo Shared
   pub unopened : IsUnopened old.local g
-  pub extends : observed ≡ true → ExtendsBy (takes Embryo Shared) old new
+  pub extends : observed ≡ true → ExtendsBy (is_taking_area Embryo Shared) old new
 
 -- and given back
 pub record GivesBack (observed : Bool) (g : Handle) (old new : DirAt) : Type 0 where
@@ -42,7 +42,7 @@ pub record GivesBack (observed : Bool) (g : Handle) (old new : DirAt) : Type 0 w
   pub local : new.local ≡ without old.local g
   pub extends : observed ≡ true → ExtendsBy (closes g) old new
 
-takes_begins : (draw : PodId) (request : Request) → takes Embryo Shared request ≡ true → begins_pod draw request ≡ true
+takes_begins : (draw : PodId) (request : Request) → is_taking_area Embryo Shared request ≡ true → begins_pod draw request ≡ true
 takes_begins draw (OpenArea area) is = is
 takes_begins draw (TryLock handle mode) is = refl
 takes_begins draw (Close handle) is = refl
@@ -53,7 +53,7 @@ closes_begins draw g (Close handle) is = refl
 closes_begins draw g request is = cc
 
 -- the lock of embryo was refused
-pub went_refused : {observed : Bool} {a b : DirAt} (draw : PodId) → b.process ≡ a.process → a.faults ≤ b.faults → b.local ≡ a.local → (observed ≡ true → ExtendsBy (takes Embryo Shared) a b) → LeavesOpen observed (begins_pod draw) a.local a b
+pub went_refused : {observed : Bool} {a b : DirAt} (draw : PodId) → b.process ≡ a.process → a.faults ≤ b.faults → b.local ≡ a.local → (observed ≡ true → ExtendsBy (is_taking_area Embryo Shared) a b) → LeavesOpen observed (begins_pod draw) a.local a b
 went_refused draw same faults local extends = record { same = same; faults = faults; local_is = local; extends = λ t. extends_wider (takes_begins draw) (extends t) }
 
 -- work under that lock
@@ -135,7 +135,7 @@ pub ok_both : {X E : Type 0} (P Q R : X → Type 0) (r : Result X E) → ((x : X
 ok_both P Q R (Ok x) f p q = f x p q
 ok_both P Q R (Err e) f p q = tt
 
-pub apart_from : {b : Local} (a : Local) (g own : Handle) → b ≡ and_lock a g Embryo Shared → IsUnopened b own → (own.number == g.number) ≡ false
+pub apart_from : {b : Local} (a : Local) (g own : Handle) → b ≡ and_area_lock a g Embryo Shared → IsUnopened b own → (own.number == g.number) ≡ false
 apart_from a g own is h = other_number a g own Embryo (subst (λ (m : Local). IsUnopened m own) is h)
 
 -- the same error in another answer

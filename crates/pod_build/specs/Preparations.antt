@@ -30,8 +30,8 @@ use Rattle.pod_plan.specs.Choices.{IsChoice}
 use Rattle.pod_manifest.specs.Wishes.{Wishes}
 use Rattle.pod_plan.specs.FaithfulPods.{PlansFaithfully}
 use Rattle.pod_build.specs.MakingRequests.{pod_at, makes_pod}
-use Rattle.pod_build.specs.Progress.{at_work, handed, nothing_made}
-use Rattle.pod_build.specs.Work.{leads_to, From}
+use Rattle.pod_build.specs.Progress.{seen_making, handed, nothing_made}
+use Rattle.pod_build.specs.Work.{leads_to, WhereMakingPod}
 use Rattle.pod_build.specs.Makings.{HasMade}
 use Rattle.pod_build.specs.Handovers.{BeforeHandingOver, KnewMade}
 use Rattle.pod_build.specs.FaithfulBuild.{IsFaithfulBuild, HandsOverFaithfully}
@@ -75,7 +75,7 @@ HandsOverPlanned refs options draw now to intent old new = BeforeHandingOver (Re
 
 -- it knows the pod in the area to which it brought it, and has these handles
 abbrev pub KnowsPrepared : PodId → Area → Intent → List Held → DirAt → Type 0
-KnowsPrepared draw to intent hs new = (entries : List Entry) × Knows new (at_work intent hs (handed draw to entries))
+KnowsPrepared draw to intent hs new = (entries : List Entry) × Knows new (seen_making intent hs (handed draw to entries))
 
 -- the pod came to the area by an own Ok move, and just before that it was made faithfully
 pub record IsHandedOver (me : ℕ) (draw : PodId) (to : Area) (old new : List Event) : Type 0 where
@@ -104,4 +104,4 @@ pub record IsPrepared (refs : List ImageRef) (options : Wishes) (me : ℕ) (draw
 
 -- in every run: whatever a process hands over that has begun so, and has made nothing, it made faithfully
 abbrev pub MakesFaithfully : Area → Draw → ℕ → DirAt → DirAt → Type 0
-MakesFaithfully to draw now old new = IsRun new.trace → From (Began to draw now) IsAlone nothing_made old (λ intent hs. HandsOverFaithfully old.process old.trace new.trace)
+MakesFaithfully to draw now old new = IsRun new.trace → WhereMakingPod (Began to draw now) IsAlone nothing_made old (λ intent hs. HandsOverFaithfully old.process old.trace new.trace)

@@ -18,17 +18,17 @@ use Rattle.dir_model.specs.Local.{Local, local_replied}
 use Rattle.dir_model.specs.Replies.{names_reply, may_refuse}
 use Rattle.dir_rules.specs.declared.seen.Seen.{Seen}
 use Rattle.dir_rules.specs.Standing.{standing_replied}
-use Rattle.dir_rules.specs.Rules.{may_look}
+use Rattle.dir_rules.specs.Rules.{may_read_area}
 use Rattle.dir_rules.specs.Conforms.{seen_replied, seen_listed, IsTied}
 use Rattle.dir_rules.proofs.Tied.{tied_step, tied_unbegun}
 use Rattle.dir_trait.specs.DirCalls.{DirAt, ListCall}
 use Rattle.dir_trait.specs.Knowledge.{SameHandles, Knows}
 use Rattle.dir_trait.specs.Effects.{OnlyAsks, Given}
 use Rattle.folder_removal.proofs.Calls.{list_extends}
-use Rattle.pod_locks.specs.Holding.{Keeps, KeepsReady}
-use Rattle.pod_gc.specs.Requests.{lists}
+use Rattle.pod_locks.specs.Holding.{KeepsHoldings, KeepsReady}
+use Rattle.pod_gc.specs.Requests.{lists_pod_area}
 use Rattle.pod_gc.specs.Causes.{listing_fault, GcCause}
-use Rattle.pod_gc.specs.Sweeping.{MayPass}
+use Rattle.pod_gc.specs.Sweeping.{MayPassPods}
 
 left_step : {me : ℕ} {old new : List Event} {request : Request} {reply : Reply} → Unlisted me old request reply new → CallStep me old request reply new
 left_step u = record { before = u.before; meanwhile = u.meanwhile; own = inr u.late; run = u.run }
@@ -49,18 +49,18 @@ knows_list {observed} {old} {new} {s} place r t k c = record {
     by (Ok names) is = subst (λ (m : Local). SameHandles s.standing.holdings m.holdings) (sym is) k.handles
     by (Err error) is = subst (λ (m : Local). SameHandles s.standing.holdings m.holdings) (sym is) k.handles
 
-looks_there : (s : Seen) (place : Area) → is_stage place ≡ true → may_look s place ≡ true
+looks_there : (s : Seen) (place : Area) → is_stage place ≡ true → may_read_area s place ≡ true
 looks_there s area.Images is = cc
 looks_there s _ is = refl
 
-listing_keeps : {place : Area} {now expire : ℕ} (s : Seen) (r : Result (List (List ℕ)) DirError) → is_stage place ≡ true → MayPass place now expire s → Keeps s (seen_listed s (ListArea place) (names_reply r))
+listing_keeps : {place : Area} {now expire : ℕ} (s : Seen) (r : Result (List (List ℕ)) DirError) → is_stage place ≡ true → MayPassPods place now expire s → KeepsHoldings s (seen_listed s (ListArea place) (names_reply r))
 listing_keeps {place} s (Ok names) stage m = record { intent = refl; holdings = refl; kept = ap (λ b. b && (b && s.kept)) (looks_there s place stage); bare = m.sweeps.may.bare }
 listing_keeps {place} s (Err e) stage m = record { intent = refl; holdings = refl; kept = ap (λ b. b && (b && s.kept)) (looks_there s place stage); bare = m.sweeps.may.bare }
 
-pub ready_area : {observed : Bool} {now expire : ℕ} {old new : DirAt} (place : Area) (r : Result (List (List ℕ)) DirError) → is_stage place ≡ true → ListCall observed old (ListArea place) (names_reply r) new → observed ≡ true → Given (MayPass place now expire) old (λ s. KeepsReady s new)
+pub ready_area : {observed : Bool} {now expire : ℕ} {old new : DirAt} (place : Area) (r : Result (List (List ℕ)) DirError) → is_stage place ≡ true → ListCall observed old (ListArea place) (names_reply r) new → observed ≡ true → Given (MayPassPods place now expire) old (λ s. KeepsReady s new)
 ready_area place r stage x t s k m = record { known = _; keeps = listing_keeps s r stage m; knows = knows_list place r t k x }
 
-pub worked_area : {observed : Bool} {old new : DirAt} (place : Area) (r : Result (List (List ℕ)) DirError) → ListCall observed old (ListArea place) (names_reply r) new → OnlyAsks observed (lists place) old new
+pub worked_area : {observed : Bool} {old new : DirAt} (place : Area) (r : Result (List (List ℕ)) DirError) → ListCall observed old (ListArea place) (names_reply r) new → OnlyAsks observed (lists_pod_area place) old new
 worked_area {observed} {old} {new} place r x = record { same = x.same; faults = x.faults; local = by r x; extends = λ t. list_extends (same_self (rank place)) (x.step t) }
   where
     by : (r : Result (List (List ℕ)) DirError) → ListCall observed old (ListArea place) (names_reply r) new → new.local ≡ old.local

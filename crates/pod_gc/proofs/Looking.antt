@@ -19,8 +19,8 @@ use Rattle.phase_read.specs.Read.{pod_spot}
 use Rattle.pod_locks.specs.declared.setback.Setback.TheVariants as stop
 use Rattle.pod_locks.specs.Setbacks.{look_setback}
 use Rattle.pod_locks.specs.Requests.{looks_at}
-use Rattle.pod_locks.specs.Causes.{Stopped, IsAbsentAt}
-use Rattle.pod_gc.specs.RemovalCauses.{StopsAlone}
+use Rattle.pod_locks.specs.Causes.{StepWasStopped, IsAbsentAt}
+use Rattle.pod_gc.specs.RemovalCauses.{RemovalStopsAlone}
 
 look_kinds : (pod : PodId) (a : Area) (r : Request) → is_look_at (spot_eq (pod_spot pod a)) r ≡ true → looks_at pod a r ≡ true
 look_kinds pod a (Open here which) is = is
@@ -38,21 +38,21 @@ worked_look {observed} {spot} pod a old new is same faults local extends = recor
 }
 
 module _ {observed : Bool} {spot : Spot} (pod : PodId) (old new : DirAt) (is : spot ≡ pod_spot pod Prepared) where
-  pub alone_there : (observed ≡ true → HeldBetween old new (λ s. stands s.namespace spot ≡ true)) → StopsAlone observed pod stop.NoManifest old new
+  pub alone_there : (observed ≡ true → HeldBetween old new (λ s. stands s.namespace spot ≡ true)) → RemovalStopsAlone observed pod stop.NoManifest old new
   alone_there there = record { calm = refl; fault = λ e. cc; missing = λ e. cc; there = λ e t. subst (λ (x : Spot). HeldBetween old new (λ s. stands s.namespace x ≡ true)) is (there t) }
 
-  pub alone_missing : (observed ≡ true → HeldBetween old new (λ s. stands s.namespace spot ≡ false)) → StopsAlone observed pod stop.Missing old new
+  pub alone_missing : (observed ≡ true → HeldBetween old new (λ s. stands s.namespace spot ≡ false)) → RemovalStopsAlone observed pod stop.Missing old new
   alone_missing absent = record { calm = refl; fault = λ e. cc; missing = λ e t. subst (λ (x : Spot). HeldBetween old new (λ s. stands s.namespace x ≡ false)) is (absent t); there = λ e. cc }
 
-pub alone_failed : {observed : Bool} (pod : PodId) (old new : DirAt) (e : LookError) → (e ≡ look.DirFault → Rose old.faults new.faults) → StopsAlone observed pod (look_setback e) old new
+pub alone_failed : {observed : Bool} (pod : PodId) (old new : DirAt) (e : LookError) → (e ≡ look.DirFault → Rose old.faults new.faults) → RemovalStopsAlone observed pod (look_setback e) old new
 alone_failed pod old new look.DirFault rose = record { calm = refl; fault = λ is. rose refl; missing = λ is. cc; there = λ is. cc }
 alone_failed pod old new _ rose = record { calm = refl; fault = λ is. cc; missing = λ is. cc; there = λ is. cc }
 
 -- the folder was missing, or the look failed
-pub missing_stops : {observed : Bool} {spot : Spot} (pod : PodId) (a : Area) (old new : DirAt) → spot ≡ pod_spot pod a → (observed ≡ true → HeldBetween old new (λ s. stands s.namespace spot ≡ false)) → Stopped observed pod (IsAbsentAt pod a) stop.Missing old new
+pub missing_stops : {observed : Bool} {spot : Spot} (pod : PodId) (a : Area) (old new : DirAt) → spot ≡ pod_spot pod a → (observed ≡ true → HeldBetween old new (λ s. stands s.namespace spot ≡ false)) → StepWasStopped observed pod (IsAbsentAt pod a) stop.Missing old new
 missing_stops pod a old new is absent = record { fault = λ e. cc; missing = λ e t. subst (λ (x : Spot). HeldBetween old new (λ s. stands s.namespace x ≡ false)) is (absent t); manifest = λ e. cc; stray = λ e. cc }
 
-pub failed_stops : {observed : Bool} {pod : PodId} {Missed : DirState → Type 0} {old new : DirAt} (e : LookError) → (e ≡ look.DirFault → Rose old.faults new.faults) → Stopped observed pod Missed (look_setback e) old new
+pub failed_stops : {observed : Bool} {pod : PodId} {Missed : DirState → Type 0} {old new : DirAt} (e : LookError) → (e ≡ look.DirFault → Rose old.faults new.faults) → StepWasStopped observed pod Missed (look_setback e) old new
 failed_stops look.DirFault rose = record { fault = λ is. rose refl; missing = λ is. cc; manifest = λ is. cc; stray = λ is. cc }
 failed_stops _ rose = record { fault = λ is. cc; missing = λ is. cc; manifest = λ is. cc; stray = λ is. cc }
 

@@ -11,7 +11,7 @@ use Rattle.dir_model.specs.Paths.{is_path, is_directly_in, lies_below}
 use Rattle.dir_model.proofs.Lists.{and_both, all_both}
 use Rattle.dir_rules.specs.Marks.{has_slash, digits, marked_mark}
 use Rattle.folder_removal.proofs.Paths.{path_of}
-use Rattle.gate_reading.specs.Files.{is_plain}
+use Rattle.gate_reading.specs.Files.{is_outside_stage1}
 use Rattle.folder_building.proofs.Marks.{IsPlain, file_bytes, plain_digits, no_slashes, letter}
 
 plain_front : AllByRecursion IsPlain (codes "marked-")
@@ -48,5 +48,5 @@ pub marked_directly : (now : ℕ) → is_directly_in [] (marked_mark now) ≡ tr
 marked_directly now = one_name 109 (codes "arked-" ++ digits 20 now) (no_slashes (marked_mark now) (plain_mark now))
 
 -- not below `stage1`
-pub marked_plain : (now : ℕ) → is_plain (marked_mark now) ≡ true
+pub marked_plain : (now : ℕ) → is_outside_stage1 (marked_mark now) ≡ true
 marked_plain now = refl

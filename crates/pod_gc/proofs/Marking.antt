@@ -27,7 +27,7 @@ use Rattle.dir_rules.specs.Marks.{created_moment}
 use Rattle.dir_rules.specs.declared.seen.Created.{Created}
 use Rattle.dir_rules.specs.declared.seen.Seen.{Seen}
 use Rattle.dir_rules.specs.LockRules.{is_removal_held, is_removal_target, may_remove}
-use Rattle.dir_rules.specs.Rules.{root_of, may_look, is_gate}
+use Rattle.dir_rules.specs.Rules.{root_of, may_read_area, is_gate}
 use Rattle.dir_rules.specs.Seen.{later, created_among, note_created, with_items}
 use Rattle.dir_rules.specs.Conforms.{seen_listed}
 use Rattle.dir_rules.proofs.Looks.{same_bytes}
@@ -39,7 +39,7 @@ use Rattle.folder_removal.proofs.Calls.{list_extends, knows_list}
 use Rattle.phase_read.specs.Read.{pod_spot}
 use Rattle.pod_locks.specs.ClaimHolding.{is_on_folder}
 use Rattle.pod_locks.proofs.Traces.{grown_none}
-use Rattle.pod_locks.specs.Holding.{is_in_garbage, Keeps, KeepsReady}
+use Rattle.pod_locks.specs.Holding.{is_in_garbage, KeepsHoldings, KeepsReady}
 use Rattle.pod_locks.specs.Causes.{IsAbsentAt}
 use Rattle.pod_gc.specs.RemovalHolding.{MayRemove}
 use Rattle.pod_gc.specs.Requests.{counts_time, lists_marks}
@@ -87,7 +87,7 @@ listing_cause spot path Locked other may rose = cc
 
 -- what is known after it
 
-looks_there : (s : Seen) (area : Area) → counts_time area ≡ true → may_look s area ≡ true
+looks_there : (s : Seen) (area : Area) → counts_time area ≡ true → may_read_area s area ≡ true
 looks_there s Prepared is = refl
 looks_there s ExitedGarbage is = refl
 looks_there s _ is = cc
@@ -103,7 +103,7 @@ no_removal : {now : ℕ} {s : Seen} (pod : PodId) (area : Area) → counts_time 
 no_removal {now} {s} pod area place m = any_fewer (is_removal_held (pod_spot pod area)) is_on_folder (λ h is. never_gate pod area place h.target (is_exclusive h.lock) is) s.standing.holdings m.apart
 
 module _ {now : ℕ} (pod : PodId) (area : Area) (place : counts_time area ≡ true) (s : Seen) (m : MayRemove now s) where
-  listing_keeps : (r : Result (List Item) DirError) → Keeps s (seen_listed s (ListIn (root_of (pod_spot pod area))) (items_reply r))
+  listing_keeps : (r : Result (List Item) DirError) → KeepsHoldings s (seen_listed s (ListIn (root_of (pod_spot pod area))) (items_reply r))
   listing_keeps (Ok items) = record {
     intent = refl;
     holdings = refl;

@@ -37,9 +37,9 @@ use Rattle.pod_locks.proofs.Times.{at_part, deeds_part}
 use Rattle.pod_locks.proofs.Traces.{grown_none, grown_more}
 use Rattle.pod_locks.specs.declared.setback.Setback.{Setback}
 use Rattle.pod_locks.specs.declared.setback.Setback.TheVariants as stop
-use Rattle.pod_locks.specs.Requests.{looks_at, moves, peeks_at}
+use Rattle.pod_locks.specs.Requests.{looks_at, moves_pod, peeks_at}
 use Rattle.pod_locks.specs.Holding.{MayLook, LooksFree, with_look, KeepsReady}
-use Rattle.pod_locks.specs.Causes.{Stopped, IsAbsentAt, Did, WasStray, BusyElsewhere, HeldByAnother, FreeOfOthers, FreeWhere}
+use Rattle.pod_locks.specs.Causes.{StepWasStopped, IsAbsentAt, Did, WasStrayStep, LockBusyElsewhere, PodHeldByAnother, FreeOfOthers, FreeIfObserved}
 use Rattle.pod_locks.proofs.Calls.{Follows, stray_part, rose_later}
 use Rattle.pod_gc.specs.RemovalRequests.{is_garbage_place, removes}
 use Rattle.pod_gc.specs.RemovalHolding.{MayRemove}
@@ -57,18 +57,18 @@ use Rattle.phase_read.proofs.Stages.{pod_spot_only}
 use Rattle.pod_gc.specs.declared.gc_error.GcError.{GcError}
 use Rattle.pod_gc.specs.declared.line.Deed.{Deed}
 use Rattle.pod_gc.specs.declared.line.Deed.TheVariants.{Moved, Deleted, Kept, Busy, Left}
-use Rattle.pod_gc.specs.Requests.{deals_with, lists_marks, goes_to, moves_pods, lets_be}
+use Rattle.pod_gc.specs.Requests.{deals_with_pod, lists_marks, goes_to, moves_pods, lets_be}
 use Rattle.pod_gc.specs.Causes.{deed_of, look_fault, GcCause}
 use Rattle.pod_gc.specs.declared.ages.Times.{Times}
 use Rattle.pod_gc.specs.Ages.{Showed, is_young}
-use Rattle.pod_gc.specs.Deeds.{IsGoneFrom, SaysThere, DoesNothing, DeedCause, refused_lock, RestsBy, RestedSo, is_under_claim, is_resting, busy_mode, asked_mode, LeftToAnother, LeavesToAnother, LeavesWhere}
+use Rattle.pod_gc.specs.Deeds.{IsGoneFrom, SaysThere, DoesNothing, DeedCause, refused_lock, RestsBy, RestedByAge, is_under_claim, is_resting, busy_mode, mode_of_deed, LeftToAnother, LeavesToAnother, LeavesIfObserved}
 
 -- the calls are of their kind
 
-pub removes_deal : (pod : PodId) (now : ℕ) (place : Area) (r : Request) → removes pod now r ≡ true → deals_with pod now place r ≡ true
+pub removes_deal : (pod : PodId) (now : ℕ) (place : Area) (r : Request) → removes pod now r ≡ true → deals_with_pod pod now place r ≡ true
 removes_deal pod now place r is = or_last (lists_marks pod place r) _ (or_last _ (removes pod now r) is)
 
-pub looks_deal : (pod : PodId) (now : ℕ) (place : Area) → rank place ≤ 5 → (r : Request) → looks_at pod place r ≡ true → deals_with pod now place r ≡ true
+pub looks_deal : (pod : PodId) (now : ℕ) (place : Area) → rank place ≤ 5 → (r : Request) → looks_at pod place r ≡ true → deals_with_pod pod now place r ≡ true
 looks_deal pod now place stage r is = removes_deal pod now place r (looks_remove pod now place stage r is)
 
 -- why a step was set back, told of the place of the pass
@@ -76,9 +76,9 @@ pub record SetBackAt (observed : Bool) (pod : PodId) (place : Area) (e : Setback
   pub fault : e ≡ stop.DirFault → Rose old.faults new.faults
   pub gone : e ≡ stop.Missing → observed ≡ true → HeldBetween old new (IsGoneFrom pod place)
   pub lacking : e ≡ stop.NoManifest → observed ≡ true → HeldBetween old new (IsGoneFrom pod place)
-  pub stray : e ≡ stop.Stray → observed ≡ true → WasStray old.process old.trace new.trace
+  pub stray : e ≡ stop.Stray → observed ≡ true → WasStrayStep old.process old.trace new.trace
 
-pub set_stopped : {observed : Bool} {e : Setback} {old new : DirAt} (pod : PodId) (place : Area) → ((s : DirState) → IsAbsentAt pod place s → IsGoneFrom pod place s) → Stopped observed pod (IsAbsentAt pod place) e old new → SetBackAt observed pod place e old new
+pub set_stopped : {observed : Bool} {e : Setback} {old new : DirAt} (pod : PodId) (place : Area) → ((s : DirState) → IsAbsentAt pod place s → IsGoneFrom pod place s) → StepWasStopped observed pod (IsAbsentAt pod place) e old new → SetBackAt observed pod place e old new
 set_stopped pod place only x = record { fault = x.fault; gone = λ is t. at_weaker (IsGoneFrom pod place) only (x.missing is t); lacking = λ is t. absurd (x.manifest is); stray = x.stray }
 
 pub gone_garbage : (pod : PodId) (a : Area) → is_garbage_place a ≡ true → (s : DirState) → IsAbsentAt pod a s → IsGoneFrom pod a s
@@ -101,8 +101,8 @@ cause_busy which claimed = record { moved = λ to is. cc; deleted = λ is. cc; k
 
 pub cause_moved : {me : ℕ} {old new : List Event} (pod : PodId) (place to : Area) → moves_pods place ≡ true → to ≡ goes_to place → Did (MoveFolder (pod_spot pod place) (pod_spot pod to)) Done me old new
     → (place ≡ area.Prepared → FreeOfOthers pod place Claim Exclusive me old new) → (not (is_in area.Embryo place) ≡ true → LockTold me old new (pod_spot pod place) false) → DeedCause pod place (Moved to) me old new
-cause_moved {me} {old} {new} pod place to moves goes did claimed freed = record {
-  moved = λ other is. let same : to ≡ other = cc in (moves, sym same ∙ goes, subst (λ (a : Area). Did (MoveFolder (pod_spot pod place) (pod_spot pod a)) Done me old new) same did);
+cause_moved {me} {old} {new} pod place to moves_pod goes did claimed freed = record {
+  moved = λ other is. let same : to ≡ other = cc in (moves_pod, sym same ∙ goes, subst (λ (a : Area). Did (MoveFolder (pod_spot pod place) (pod_spot pod a)) Done me old new) same did);
   deleted = λ is. cc;
   kept = λ p is. cc;
   left = λ is. cc;
@@ -129,7 +129,7 @@ cause_kept {me} {old} {new} pod place p fits so freed = record {
 
 -- its own lock was refused in prepared
 abbrev pub ClaimsFirst : Bool → PodId → Area → Setback → DirAt → DirAt → Type 0
-ClaimsFirst observed pod place e old new = e ≡ stop.Busy Own → place ≡ area.Prepared → FreeWhere observed pod place Claim Exclusive old new
+ClaimsFirst observed pod place e old new = e ≡ stop.Busy Own → place ≡ area.Prepared → FreeIfObserved observed pod place Claim Exclusive old new
 
 own_alone : (which : Which) → is_under_claim (Busy which) ≡ true → stop.Busy which ≡ stop.Busy Own
 own_alone Own is = refl
@@ -150,9 +150,9 @@ left_gone = record { held = λ which is. cc; owner = λ conforming p is. cc }
 
 -- another process held the lock that was refused here
 abbrev pub BusyHere : PodId → Area → Setback → DirAt → DirAt → Type 0
-BusyHere pod place e old new = (which : Which) → e ≡ stop.Busy which → HeldByAnother pod place which (busy_mode place which) old.process old.trace new.trace
+BusyHere pod place e old new = (which : Which) → e ≡ stop.Busy which → PodHeldByAnother pod place which (busy_mode place which) old.process old.trace new.trace
 
-pub busy_garbage : (pod : PodId) (place : Area) (e : Setback) (old new : DirAt) → is_garbage_place place ≡ true → BusyElsewhere pod place Exclusive e old new → BusyHere pod place e old new
+pub busy_garbage : (pod : PodId) (place : Area) (e : Setback) (old new : DirAt) → is_garbage_place place ≡ true → LockBusyElsewhere pod place Exclusive e old new → BusyHere pod place e old new
 busy_garbage pod area.ExitedGarbage e old new garbage busy which is = busy which is
 busy_garbage pod area.Garbage e old new garbage busy which is = busy which is
 busy_garbage pod _ e old new garbage busy which is = cc
@@ -176,12 +176,12 @@ module _ (observed : Bool) (pod : PodId) (place : Area) (done : Deed) (old new :
   step_cause (Err stop.NoMemory) err = record { fault = λ is. cc; stray = λ is. cc }
 
   module _ (May : Seen → Type 0) (calm : (which : Which) → refused_lock done ≡ Some which → ⊥) (acts : (p : Phase) → done ≡ Kept p → ⊥) where
-    pub step_another : (r : Result (Unit {0}) Setback) → IfErr r (λ e. observed ≡ true → Given May old (λ s. BusyHere pod place e old new)) → IfOk (deed_of r done) (λ deed. LeavesWhere observed May pod place deed old new)
+    pub step_another : (r : Result (Unit {0}) Setback) → IfErr r (λ e. observed ≡ true → Given May old (λ s. BusyHere pod place e old new)) → IfOk (deed_of r done) (λ deed. LeavesIfObserved observed May pod place deed old new)
     step_another (Ok d) busy = λ t s k m. record { held = λ which is. absurd (calm which is); owner = λ conforming p is. absurd (acts p is) }
     step_another (Err stop.Missing) busy = λ t s k m. left_gone
     step_another (Err stop.NoManifest) busy = λ t s k m. left_gone
     step_another (Err (stop.Busy w)) busy = λ t s k m. record {
-      held = λ which is. let same : w ≡ which = cc in subst (λ (v : Which). HeldByAnother pod place v (busy_mode place w) old.process old.trace new.trace) same (busy t s k m w refl);
+      held = λ which is. let same : w ≡ which = cc in subst (λ (v : Which). PodHeldByAnother pod place v (busy_mode place w) old.process old.trace new.trace) same (busy t s k m w refl);
       owner = λ conforming p is. cc;
     }
     step_another (Err stop.DirFault) busy = tt
@@ -222,7 +222,7 @@ lock_kept d p (inr left) which is = let e : None ≡ Some which = sym (ap refuse
 
 -- by a phase that has no owner
 pub said_calm : (observed : Bool) (May : Seen → Type 0) (pod : PodId) (place : Area) (p : Phase) (old mid new : DirAt) → refused_lock (Kept p) ≡ None → is_owned_phase p ≡ false → (r : Result Deed GcError) → IfOk r (λ deed. SaysThere observed pod place p deed mid new)
-    → IfOk r (λ deed. LeavesWhere observed May pod place deed old new)
+    → IfOk r (λ deed. LeavesIfObserved observed May pod place deed old new)
 said_calm observed May pod place p old mid new free unowned (Err e) x = tt
 said_calm observed May pod place p old mid new free unowned (Ok deed) x = λ t s k m. record {
   held = λ which is. let e : None ≡ Some which = sym free ∙ lock_kept deed p x.is which is in cc;
@@ -237,7 +237,7 @@ own_kept kind.Deleting which is = cc
 own_kept _ which is = cc
 
 module _ (observed : Bool) (now : ℕ) (pod : PodId) (place : Area) (w : Which) (p : Phase) (old mid new : DirAt) (stage : rank place ≤ 5) (same : mid.process ≡ old.process) (bc : Follows observed mid new) (named : w ≡ Own)
-    (busy : observed ≡ true → Given (MayRemove now) old (λ s. BusyElsewhere pod place Shared (stop.Busy w) old mid)) (first : observed ≡ true → ExtendsBy (peeks_at pod place) old mid) (then : observed ≡ true → ExtendsBy (peeks_at pod place) mid new) where
+    (busy : observed ≡ true → Given (MayRemove now) old (λ s. LockBusyElsewhere pod place Shared (stop.Busy w) old mid)) (first : observed ≡ true → ExtendsBy (peeks_at pod place) old mid) (then : observed ≡ true → ExtendsBy (peeks_at pod place) mid new) where
   peeks_its : (r : Request) → peeks_at pod place r ≡ true → is_look_at (is_pod_spot pod) r ≡ true
   peeks_its (Open spot which) is = pod_spot_only pod (pod_spot pod place) spot stage refl is
   peeks_its (TryLock handle Shared) is = refl
@@ -245,18 +245,18 @@ module _ (observed : Bool) (now : ℕ) (pod : PodId) (place : Area) (w : Which) 
   peeks_its (Close handle) is = refl
   peeks_its _ is = cc
 
-  pub said_refused : (r : Result Deed GcError) → IfOk r (λ deed. SaysThere observed pod place p deed mid new) → IfOk r (λ deed. observed ≡ true → DeedCause pod place deed old.process old.trace new.trace) → IfOk r (λ deed. LeavesWhere observed (MayRemove now) pod place deed old new)
+  pub said_refused : (r : Result Deed GcError) → IfOk r (λ deed. SaysThere observed pod place p deed mid new) → IfOk r (λ deed. observed ≡ true → DeedCause pod place deed old.process old.trace new.trace) → IfOk r (λ deed. LeavesIfObserved observed (MayRemove now) pod place deed old new)
   said_refused (Err e) x cause = tt
   said_refused (Ok deed) x cause = λ t s k m. record {
-    held = λ which is. subst (λ (mode : Mode). HeldByAnother pod place which mode old.process old.trace new.trace) (kept_mode deed p x.is which is)
-        (subst (λ (l : Which). HeldByAnother pod place l Shared old.process old.trace new.trace) (named ∙ sym (own_kept p which (lock_kept deed p x.is which is)))
+    held = λ which is. subst (λ (mode : Mode). PodHeldByAnother pod place which mode old.process old.trace new.trace) (kept_mode deed p x.is which is)
+        (subst (λ (l : Which). PodHeldByAnother pod place l Shared old.process old.trace new.trace) (named ∙ sym (own_kept p which (lock_kept deed p x.is which is)))
         (held_within grown_none refl (bc.grown t) (busy t s k m w refl)));
     owner = λ conforming q is owned. met_elsewhere pod old new (extends_wider peeks_its (and_more (first t) same (then t))) conforming s k m.apart q place owned (((cause t).kept q is).1 conforming);
   }
     where
-      kept_mode : (d : Deed) (q : Phase) → (d ≡ Kept q) ⊎ (d ≡ Left) → (which : Which) → refused_lock d ≡ Some which → Shared ≡ asked_mode place d
-      kept_mode d q (inl kept) which is = ap (asked_mode place) (sym kept)
-      kept_mode d q (inr left) which is = ap (asked_mode place) (sym left)
+      kept_mode : (d : Deed) (q : Phase) → (d ≡ Kept q) ⊎ (d ≡ Left) → (which : Which) → refused_lock d ≡ Some which → Shared ≡ mode_of_deed place d
+      kept_mode d q (inl kept) which is = ap (mode_of_deed place) (sym kept)
+      kept_mode d q (inr left) which is = ap (mode_of_deed place) (sym left)
 
 pub cause_after : {observed : Bool} {e : GcError} {a b c : DirAt} → Follows observed a b → GcCause observed e b c → GcCause observed e a c
 cause_after {observed} {e} {a} {b} {c} ab x = record { fault = λ is. rose_later a.faults b.faults c.faults ab.faults (x.fault is); stray = λ is t. stray_part (ab.grown t) ab.same grown_none (x.stray is t) }
@@ -356,7 +356,7 @@ pub showed_longer : {pod : PodId} {place : Area} {text : List ℕ} {m : Option �
 showed_longer x more = record { items = x.items; after = x.after; only = x.only; shows = x.shows; last = grown_more x.last more; greatest = x.greatest }
 
 pub rested_so : {observed : Bool} {b c : DirAt} (times : Times) (pod : PodId) (a : DirAt) (m : Option ℕ) (deed : Deed) → observed ≡ true → Follows observed b c → Showed pod area.ExitedGarbage (codes "marked-") m a.process a.trace b.trace → RestsBy (is_young times.now times.grace m) deed
-    → RestedSo times pod deed a.process a.trace c.trace
+    → RestedByAge times pod deed a.process a.trace c.trace
 rested_so times pod a m deed t bc shows by = record { rests = λ p is. (m, showed_longer shows (bc.grown t), by.rests p is); over = λ is. (m, showed_longer shows (bc.grown t), by.over is) }
 
 deed_after : {pod : PodId} {place : Area} {deed : Deed} {me other : ℕ} {a b c : List Event} → Grew a b → other ≡ me → DeedCause pod place deed other b c → DeedCause pod place deed me a c
@@ -393,5 +393,5 @@ ready_later ab bc s k m =
 pub gone_deed : {observed : Bool} {pod : PodId} (old new : DirAt) (place : Area) → ((s : DirState) → IsAbsentAt pod place s → IsGoneFrom pod place s) → (observed ≡ true → HeldBetween old new (IsAbsentAt pod place)) → observed ≡ true → DeedCause pod place Left old.process old.trace new.trace
 gone_deed {observed} {pod} old new place only absent t = cause_left (at_weaker (IsGoneFrom pod place) only (absent t))
 
-pub lists_deal : (pod : PodId) (now : ℕ) (place : Area) (r : Request) → lists_marks pod place r ≡ true → deals_with pod now place r ≡ true
-lists_deal pod now place r is = ap (λ b. b || (moves pod area.Embryo area.Garbage r || removes pod now r)) is
+pub lists_deal : (pod : PodId) (now : ℕ) (place : Area) (r : Request) → lists_marks pod place r ≡ true → deals_with_pod pod now place r ≡ true
+lists_deal pod now place r is = ap (λ b. b || (moves_pod pod area.Embryo area.Garbage r || removes pod now r)) is

@@ -11,17 +11,17 @@ use Rattle.dir_rules.specs.declared.seen.Seen.{Seen}
 use Rattle.dir_rules.specs.LockRules.{is_open_on}
 use Rattle.dir_trait.specs.DirCalls.{DirAt}
 use Rattle.dir_trait.specs.Effects.{Given}
-use Rattle.pod_locks.specs.Holding.{Keeps, KeepsReady}
+use Rattle.pod_locks.specs.Holding.{KeepsHoldings, KeepsReady}
 use Rattle.pod_locks.proofs.Calls.{Follows}
 use Rattle.pod_gc.specs.declared.ages.Times.{Times}
 use Rattle.pod_gc.specs.declared.line.GcLine.{GcLine}
 use Rattle.pod_gc.specs.Sweeping.{MaySweepAll}
-use Rattle.pod_gc.specs.Told.{Knew, Passed, ArePassed, places, AddsPassed, AddsSwept, IsSweptBetween}
+use Rattle.pod_gc.specs.Told.{Knew, PassedOverPods, ArePassed, places, AddsPassed, AddsSwept, IsSweptBetween}
 use Rattle.pod_gc.proofs.InTurn.{sweep_kept}
 use Rattle.pod_gc.proofs.Telling.{knew_on}
 use Rattle.pod_gc.proofs.Gates.{passed_by}
 
-pub all_kept : {now expire : ℕ} {s z : Seen} → Keeps s z → MaySweepAll now expire s → MaySweepAll now expire z
+pub all_kept : {now expire : ℕ} {s z : Seen} → KeepsHoldings s z → MaySweepAll now expire s → MaySweepAll now expire z
 all_kept k m = record { sweeps = sweep_kept k m.sweeps; free = ap (λ (hs : List Held). not (is_open_on (Gate Embryo) hs)) k.holdings ∙ m.free }
 
 pub all_none : {now expire : ℕ} {d : DirAt} → Given (MaySweepAll now expire) d (λ s. KeepsReady s d)
@@ -33,13 +33,13 @@ all_more ab bc s k m =
     let y = bc x.known x.knows (all_kept x.keeps m) in
     record { known = y.known; keeps = record { intent = y.keeps.intent ∙ x.keeps.intent; holdings = y.keeps.holdings ∙ x.keeps.holdings; kept = y.keeps.kept ∙ x.keeps.kept; bare = y.keeps.bare }; knows = y.knows }
 
-passed_push : (Can : Type 0) (me : ℕ) (a b c : List Event) (times : Times) (before : List Area) (here : Area) (ls ms : List GcLine) → ArePassed Can times before ls me a b → Passed Can times here ms me b c → ArePassed Can times (before ++ here ∷ []) (ls ++ ms) me a c
+passed_push : (Can : Type 0) (me : ℕ) (a b c : List Event) (times : Times) (before : List Area) (here : Area) (ls ms : List GcLine) → ArePassed Can times before ls me a b → PassedOverPods Can times here ms me b c → ArePassed Can times (before ++ here ∷ []) (ls ++ ms) me a c
 passed_push Can me a b c times [] here ls ms x y = record {
   between = c;
   own = ms;
   others = [];
   lines_are = ap (λ (l : List GcLine). l ++ ms) x.0 ∙ sym (append-nil ms);
-  first = subst (λ (h : List Event). Passed Can times here ms me h c) x.1 y;
+  first = subst (λ (h : List Event). PassedOverPods Can times here ms me h c) x.1 y;
   rest = (refl, refl);
 }
 passed_push Can me a b c times (p ∷ ps) here ls ms x y = record {

@@ -24,10 +24,10 @@ use Rattle.phase_read.specs.Often.{begins_read, ReadsAtMost}
 use Rattle.phase_read.proofs.Often.{unread_by, opens_past}
 use Rattle.pod_locks.specs.declared.setback.Setback.{Setback}
 use Rattle.pod_locks.specs.declared.setback.Setback.TheVariants as stop
-use Rattle.pod_locks.specs.Requests.{looks_at, moves}
+use Rattle.pod_locks.specs.Requests.{looks_at, moves_pod}
 use Rattle.pod_locks.specs.Taking.{takes_away, TookNothing}
-use Rattle.pod_gc.specs.RemovalRequests.{is_garbage_place, marks_at, deletes_in, puts_aside, aside, place_of}
-use Rattle.pod_gc.specs.Removals.{round_of}
+use Rattle.pod_gc.specs.RemovalRequests.{is_garbage_place, marks_at, deletes_in, puts_aside, aside, area_of_phase}
+use Rattle.pod_gc.specs.Removals.{removal_round_of}
 use Rattle.pod_gc.specs.Found.{is_moved, PutAway, WasMissed, FoundAnd}
 
 -- reads
@@ -39,7 +39,7 @@ looks_unread : (pod : PodId) (a : Area) (n : ℕ) → rank a ≡ suc n → (r : 
 looks_unread pod a n is (Open spot which) looks = opens_past pod a n is spot looks which
 looks_unread pod a n is r looks = refl
 
-moves_unread : (pod : PodId) (from to : Area) (r : Request) → moves pod from to r ≡ true → begins_read pod r ≡ false
+moves_unread : (pod : PodId) (from to : Area) (r : Request) → moves_pod pod from to r ≡ true → begins_read pod r ≡ false
 moves_unread pod from to (Open spot which) moved = cc
 moves_unread pod from to r moved = refl
 
@@ -61,7 +61,7 @@ unread_looks pod area n is w = unread_by (looks_unread pod area n is) (λ t. w.e
 pub unread_took : {observed : Bool} {l : Local} {a b : DirAt} (pod : PodId) (area : Area) (n : ℕ) → rank area ≡ suc n → LeavesOpen observed (looks_at pod area) l a b → ReadsAtMost 0 observed pod a b
 unread_took pod area n is w = unread_by (looks_unread pod area n is) (λ t. w.extends t)
 
-pub unread_move : {observed : Bool} {a b : DirAt} (pod : PodId) (from to : Area) → OnlyAsks observed (moves pod from to) a b → ReadsAtMost 0 observed pod a b
+pub unread_move : {observed : Bool} {a b : DirAt} (pod : PodId) (from to : Area) → OnlyAsks observed (moves_pod pod from to) a b → ReadsAtMost 0 observed pod a b
 unread_move pod from to w = unread_by (moves_unread pod from to) (λ t. w.extends t)
 
 pub unread_mark : {observed : Bool} {a b : DirAt} (pod : PodId) (now : ℕ) → OnlyAsks observed (marks_at pod now) a b → ReadsAtMost 0 observed pod a b
@@ -113,7 +113,7 @@ pub kept_aside : (pod : PodId) (p : Phase) {me : ℕ} {a b : List Event} → Put
 kept_aside pod p {me} {a} {b} x = by (is_moved p) refl
   where
     by : (m : Bool) → is_moved p ≡ m → KeptFolders me a b
-    by true is = kept_by (aside_keep pod (place_of p) (aside p)) (x.only is)
+    by true is = kept_by (aside_keep pod (area_of_phase p) (aside p)) (x.only is)
     by false is = subst (λ (c : List Event). KeptFolders me a c) (sym (x.still is)) (record { more = []; grown = sym (append-nil a); kept = tt })
 
 pub kept_missed : (pod : PodId) {me : ℕ} {a b : List Event} → FoundAnd pod (WasMissed pod) me a b → KeptFolders me a b
@@ -124,7 +124,7 @@ kept_missed pod {me} {a} {b} x = kept_more (kept_read pod x.looks) refl (by x.so
     by (inr there) = kept_more (kept_aside pod x.phase there.1) refl (kept_untaken there.2.untaken)
 
 pub kept_round : {observed : Bool} (pod : PodId) (old mid new : DirAt) → (observed ≡ true → ExtendsBy (is_look_at (is_pod_spot pod)) old mid) → mid.process ≡ old.process
-    → (r : Result (Unit {0}) Setback) → IfErr r (λ e. observed ≡ true → KeepsFolders mid new) → IfErr (round_of pod r) (λ e. observed ≡ true → KeepsFolders old new)
+    → (r : Result (Unit {0}) Setback) → IfErr r (λ e. observed ≡ true → KeepsFolders mid new) → IfErr (removal_round_of pod r) (λ e. observed ≡ true → KeepsFolders old new)
 kept_round pod old mid new looks same (Ok done) kept = tt
 kept_round pod old mid new looks same (Err stop.Missing) kept = tt
 kept_round pod old mid new looks same (Err stop.NoManifest) kept = λ t. kept_more (kept_read pod (looks t)) same (kept t)

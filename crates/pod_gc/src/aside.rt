@@ -14,7 +14,7 @@ ghost use Rattle.phase_read.specs.Read.{pod_spot};
 ghost use Rattle.pod_gc.specs.RemovalRequests.{removes, marks_at, puts_aside};
 ghost use Rattle.pod_locks.specs.Holding.{KeepsReady};
 ghost use Rattle.pod_gc.specs.RemovalHolding.{MayRemove, MayMark, Marked};
-ghost use Rattle.pod_locks.specs.Causes.{Stopped, NeverStray, IsAbsentAt, BusyElsewhere, Did};
+ghost use Rattle.pod_locks.specs.Causes.{StepWasStopped, NeverStray, IsAbsentAt, LockBusyElsewhere, Did};
 ghost use Rattle.pod_locks.specs.Taking.{TakesNothing};
 ghost use Rattle.pod_gc.specs.RemovalCauses.{BusyByPeeks, IsMarkedBetween, MarkedFirst};
 
@@ -35,11 +35,11 @@ pub fn discard_aborted<D: Dir>(
     requires active { IsActive (D.shown dir.old).local }
     ensures worked { OnlyAsks D.observed (removes pod now) (D.shown dir.old) (D.shown dir.new) }
     ensures reads { ReadsAtMost 0 D.observed pod (D.shown dir.old) (D.shown dir.new) }
-    ensures stopped { IfErr result (λ e. Stopped D.observed pod (IsAbsentAt pod area.Prepare) e (D.shown dir.old) (D.shown dir.new)) }
+    ensures stopped { IfErr result (λ e. StepWasStopped D.observed pod (IsAbsentAt pod area.Prepare) e (D.shown dir.old) (D.shown dir.new)) }
     ensures lawful { IfErr result (λ e. NeverStray D.observed e (D.shown dir.new)) }
     ensures named { IfErr result (λ e. (which : Which) → e ≡ Setback.Busy which → which ≡ Own) }
-    ensures another { IfErr result (λ e. D.observed ≡ true → Given (MayRemove now) (D.shown dir.old)
-        (λ s. BusyElsewhere pod area.Prepare mode.Shared e (D.shown dir.old) (D.shown dir.new))) }
+    ensures by_other_process { IfErr result (λ e. D.observed ≡ true → Given (MayRemove now) (D.shown dir.old)
+        (λ s. LockBusyElsewhere pod area.Prepare mode.Shared e (D.shown dir.old) (D.shown dir.new))) }
     ensures owned { IfErr result (λ e. (which : Which) → e ≡ Setback.Busy which → D.observed ≡ true
         → LockToldBetween (D.shown dir.old) (D.shown dir.new) (pod_spot pod area.Prepare) true) }
     ensures done { IfOk result (λ done. D.observed ≡ true → Did (MoveFolder (pod_spot pod area.Prepare) (pod_spot pod area.Garbage)) Done
@@ -59,7 +59,7 @@ pub fn discard_aborted<D: Dir>(
 fn mark<D: Dir>(alloc: Global, dir: &mut D, pod: PodId, now: u64) -> Result<(), Setback>
     requires active { IsActive (D.shown dir.old).local }
     ensures worked { OnlyAsks D.observed (marks_at pod now) (D.shown dir.old) (D.shown dir.new) }
-    ensures stopped { IfErr result (λ e. Stopped D.observed pod (IsAbsentAt pod area.Run) e (D.shown dir.old) (D.shown dir.new)) }
+    ensures stopped { IfErr result (λ e. StepWasStopped D.observed pod (IsAbsentAt pod area.Run) e (D.shown dir.old) (D.shown dir.new)) }
     ensures never { IfErr result (λ e. e ≡ Setback.Stray → ⊥) }
     ensures calm { IfErr result (λ e. (which : Which) → e ≡ Setback.Busy which → ⊥) }
     ensures marked { IfOk result (λ done. D.observed ≡ true → Given (MayMark pod now) (D.shown dir.old) (λ s. Marked pod s (D.shown dir.new))) }
@@ -90,11 +90,11 @@ pub fn retire_exited<D: Dir>(
     requires active { IsActive (D.shown dir.old).local }
     ensures worked { OnlyAsks D.observed (removes pod now) (D.shown dir.old) (D.shown dir.new) }
     ensures reads { ReadsAtMost 0 D.observed pod (D.shown dir.old) (D.shown dir.new) }
-    ensures stopped { IfErr result (λ e. Stopped D.observed pod (IsAbsentAt pod area.Run) e (D.shown dir.old) (D.shown dir.new)) }
+    ensures stopped { IfErr result (λ e. StepWasStopped D.observed pod (IsAbsentAt pod area.Run) e (D.shown dir.old) (D.shown dir.new)) }
     ensures lawful { IfErr result (λ e. NeverStray D.observed e (D.shown dir.new)) }
     ensures named { IfErr result (λ e. (which : Which) → e ≡ Setback.Busy which → which ≡ Own) }
-    ensures another { IfErr result (λ e. D.observed ≡ true → Given (MayRemove now) (D.shown dir.old)
-        (λ s. BusyElsewhere pod area.Run mode.Shared e (D.shown dir.old) (D.shown dir.new))) }
+    ensures by_other_process { IfErr result (λ e. D.observed ≡ true → Given (MayRemove now) (D.shown dir.old)
+        (λ s. LockBusyElsewhere pod area.Run mode.Shared e (D.shown dir.old) (D.shown dir.new))) }
     ensures owned { IfErr result (λ e. (which : Which) → e ≡ Setback.Busy which → D.observed ≡ true
         → LockToldBetween (D.shown dir.old) (D.shown dir.new) (pod_spot pod area.Run) true) }
     ensures done { IfOk result (λ done. D.observed ≡ true → Did (MoveFolder (pod_spot pod area.Run) (pod_spot pod area.ExitedGarbage)) Done

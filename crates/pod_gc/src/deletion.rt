@@ -16,7 +16,7 @@ ghost use Rattle.phase_read.specs.Read.{pod_spot};
 ghost use Rattle.pod_gc.specs.RemovalRequests.{is_garbage_place, deletes_in, removes};
 ghost use Rattle.pod_locks.specs.Holding.{KeepsReady};
 ghost use Rattle.pod_gc.specs.RemovalHolding.{MayRemove, HasOwn, KeepsBut};
-ghost use Rattle.pod_locks.specs.Causes.{Stopped, StrayByApp, IsAbsentAt, BusyElsewhere, FreeWhere, Did};
+ghost use Rattle.pod_locks.specs.Causes.{StepWasStopped, StrayByApp, IsAbsentAt, LockBusyElsewhere, FreeIfObserved, Did};
 ghost use Rattle.pod_gc.specs.RemovalCauses.{BusyByLooks, StoppedDeleting, MissedUntaken};
 
 use dir_trait::{Area, Dir, PodId, Which};
@@ -61,7 +61,7 @@ fn delete_if_there<D: Dir>(
     requires active { IsActive (D.shown dir.old).local }
     requires garbage { is_garbage_place area ≡ true }
     ensures worked { OnlyAsks D.observed (deletes_in pod area) (D.shown dir.old) (D.shown dir.new) }
-    ensures stopped { IfErr result (λ e. Stopped D.observed pod (IsAbsentAt pod area) e (D.shown dir.old) (D.shown dir.new)) }
+    ensures stopped { IfErr result (λ e. StepWasStopped D.observed pod (IsAbsentAt pod area) e (D.shown dir.old) (D.shown dir.new)) }
     ensures lawful { IfErr result (λ e. StrayByApp D.observed e (HasOwn pod area) (D.shown dir.old) (D.shown dir.new)) }
     ensures calm { IfErr result (λ e. (which : Which) → e ≡ Setback.Busy which → ⊥) }
     ensures still { IfErr result (λ e. MissedUntaken D.observed e (D.shown dir.old) (D.shown dir.new)) }
@@ -95,14 +95,14 @@ pub fn delete_at<D: Dir>(
     requires garbage { is_garbage_place area ≡ true }
     ensures worked { OnlyAsks D.observed (removes pod now) (D.shown dir.old) (D.shown dir.new) }
     ensures reads { ReadsAtMost 0 D.observed pod (D.shown dir.old) (D.shown dir.new) }
-    ensures stopped { IfErr result (λ e. Stopped D.observed pod (IsAbsentAt pod area) e (D.shown dir.old) (D.shown dir.new)) }
+    ensures stopped { IfErr result (λ e. StepWasStopped D.observed pod (IsAbsentAt pod area) e (D.shown dir.old) (D.shown dir.new)) }
     ensures lawful { IfErr result (λ e. StrayByApp D.observed e (MayRemove now) (D.shown dir.old) (D.shown dir.new)) }
-    ensures another { IfErr result (λ e. D.observed ≡ true → Given (MayRemove now) (D.shown dir.old)
-        (λ s. BusyElsewhere pod area mode.Exclusive e (D.shown dir.old) (D.shown dir.new))) }
+    ensures by_other_process { IfErr result (λ e. D.observed ≡ true → Given (MayRemove now) (D.shown dir.old)
+        (λ s. LockBusyElsewhere pod area mode.Exclusive e (D.shown dir.old) (D.shown dir.new))) }
     ensures done { IfOk result (λ done. D.observed ≡ true
         → Did (RemoveFolder (pod_spot pod area)) Done (D.shown dir.old).process (D.shown dir.old).trace (D.shown dir.new).trace) }
     ensures named { IfErr result (λ e. (which : Which) → e ≡ Setback.Busy which → which ≡ Own) }
-    ensures free { IfOk result (λ done. FreeWhere D.observed pod area Own mode.Exclusive (D.shown dir.old) (D.shown dir.new)) }
+    ensures free { IfOk result (λ done. FreeIfObserved D.observed pod area Own mode.Exclusive (D.shown dir.old) (D.shown dir.new)) }
     ensures looks { IfErr result (λ e. BusyByLooks D.observed pod area e (D.shown dir.old) (D.shown dir.new)) }
     ensures still { IfErr result (λ e. MissedUntaken D.observed e (D.shown dir.old) (D.shown dir.new)) }
     ensures kept { IfErr result (λ e. D.observed ≡ true → KeepsFolders (D.shown dir.old) (D.shown dir.new)) }

@@ -10,7 +10,7 @@ ghost use Rattle.pod_locks.specs.Requests.{looks_at, peeks_at};
 ghost use Rattle.pod_locks.specs.Holding.{KeepsReady};
 ghost use Rattle.pod_gc.specs.RemovalHolding.{MayRemove};
 ghost use Rattle.pod_gc.specs.Causes.{GcCause};
-ghost use Rattle.pod_gc.specs.Deeds.{DeedCause, SaysThere, DoesNothing, LeavesWhere};
+ghost use Rattle.pod_gc.specs.Deeds.{DeedCause, SaysThere, DoesNothing, LeavesIfObserved};
 
 use crate::gc_error::{GcError, look_fault};
 use crate::line::{Deed, deed_of};
@@ -51,7 +51,7 @@ pub(crate) fn kept_exited<D: Dir>(alloc: Global, dir: &mut D, pod: PodId) -> Res
     ensures never { IfErr result (λ e. e ≡ GcError.Stray → ⊥) }
     ensures deed { IfOk result (λ deed. D.observed ≡ true → DeedCause pod area.ExitedGarbage deed (D.shown dir.old).process (D.shown dir.old).trace (D.shown dir.new).trace) }
     ensures rests { IfOk result (λ deed. DoesNothing deed) }
-    ensures another { IfOk result (λ deed. (now : ℕ) → LeavesWhere D.observed (MayRemove now) pod area.ExitedGarbage deed (D.shown dir.old) (D.shown dir.new)) }
+    ensures by_other_process { IfOk result (λ deed. (now : ℕ) → LeavesIfObserved D.observed (MayRemove now) pod area.ExitedGarbage deed (D.shown dir.old) (D.shown dir.new)) }
     ensures calm { IfOk result (λ deed. (which : Which) → deed ≡ Deed.Busy which → ⊥) }
     ensures ready { D.observed ≡ true → (now : ℕ) → Given (MayRemove now) (D.shown dir.old) (λ s. KeepsReady s (D.shown dir.new)) }
 {

@@ -5,9 +5,9 @@ ghost use Rattle.dir_trait.specs.Local.{IsActive};
 ghost use Rattle.dir_trait.specs.Effects.{OnlyAsks, Given};
 ghost use Rattle.pod_locks.specs.Holding.{KeepsReady};
 ghost use Rattle.pod_gc.specs.Requests.{sweeps};
-ghost use Rattle.pod_gc.specs.Causes.{GcCause, StrayByApp};
-ghost use Rattle.pod_gc.specs.Sweeping.{MayPass, MaySweepAll};
-ghost use Rattle.pod_gc.specs.Told.{deals_with_some, AddsTold, AddsShown, AddsPassed};
+ghost use Rattle.pod_gc.specs.Causes.{GcCause, GcStrayByApp};
+ghost use Rattle.pod_gc.specs.Sweeping.{MayPassPods, MaySweepAll};
+ghost use Rattle.pod_gc.specs.Told.{deals_with_pods, AddsTold, AddsShown, AddsPassed};
 ghost use Rattle.pod_gc.specs.Ended.{EndsAtPod, EndsAmongBetween, EndsListingBetween, EndsPassBetween};
 
 use crate::ages::Times;
@@ -40,12 +40,12 @@ fn deal_next<D: Dir>(
 ) -> Result<(), GcError>
     requires active { IsActive (D.shown dir.old).local }
     requires stage { is_stage place ≡ true }
-    ensures worked { OnlyAsks D.observed (deals_with_some times.now place (name.now ∷ [])) (D.shown dir.old) (D.shown dir.new) }
+    ensures worked { OnlyAsks D.observed (deals_with_pods times.now place (name.now ∷ [])) (D.shown dir.old) (D.shown dir.new) }
     ensures cause { IfErr result (λ e. GcCause D.observed e (D.shown dir.old) (D.shown dir.new)) }
-    ensures lawful { IfErr result (λ e. StrayByApp D.observed e (MayPass place times.now times.expire) (D.shown dir.old) (D.shown dir.new)) }
+    ensures lawful { IfErr result (λ e. GcStrayByApp D.observed e (MayPassPods place times.now times.expire) (D.shown dir.old) (D.shown dir.new)) }
     ensures told { IfOk result (λ done. D.observed ≡ true → AddsTold times place (name.now ∷ []) (D.shown dir.old) (D.shown dir.new) lines.old.items lines.new.items) }
     ensures ended { IfErr result (λ e. D.observed ≡ true → EndsAtPod times.now place name.now (D.shown dir.old).process (D.shown dir.old).trace (D.shown dir.new).trace) }
-    ensures ready { D.observed ≡ true → Given (MayPass place times.now times.expire) (D.shown dir.old) (λ s. KeepsReady s (D.shown dir.new)) }
+    ensures ready { D.observed ≡ true → Given (MayPassPods place times.now times.expire) (D.shown dir.old) (λ s. KeepsReady s (D.shown dir.new)) }
 {
     match PodId::parse(name.as_str()) {
         Some(id) => {
@@ -67,12 +67,12 @@ fn deal_each<D: Dir>(
 ) -> Result<(), GcError>
     requires active { IsActive (D.shown dir.old).local }
     requires stage { is_stage place ≡ true }
-    ensures worked { OnlyAsks D.observed (deals_with_some times.now place names.now) (D.shown dir.old) (D.shown dir.new) }
+    ensures worked { OnlyAsks D.observed (deals_with_pods times.now place names.now) (D.shown dir.old) (D.shown dir.new) }
     ensures cause { IfErr result (λ e. GcCause D.observed e (D.shown dir.old) (D.shown dir.new)) }
-    ensures lawful { IfErr result (λ e. StrayByApp D.observed e (MayPass place times.now times.expire) (D.shown dir.old) (D.shown dir.new)) }
+    ensures lawful { IfErr result (λ e. GcStrayByApp D.observed e (MayPassPods place times.now times.expire) (D.shown dir.old) (D.shown dir.new)) }
     ensures told { IfOk result (λ done. D.observed ≡ true → AddsTold times place names.now (D.shown dir.old) (D.shown dir.new) lines.old.items lines.new.items) }
     ensures ended { IfErr result (λ e. D.observed ≡ true → EndsAmongBetween times place names.now (D.shown dir.old) (D.shown dir.new)) }
-    ensures ready { D.observed ≡ true → Given (MayPass place times.now times.expire) (D.shown dir.old) (λ s. KeepsReady s (D.shown dir.new)) }
+    ensures ready { D.observed ≡ true → Given (MayPassPods place times.now times.expire) (D.shown dir.old) (λ s. KeepsReady s (D.shown dir.new)) }
 {
     'names: for name in names {
         deal_next(alloc, dir, place, name, times, lines)?;
@@ -92,10 +92,10 @@ fn pass_listed<D: Dir>(
     requires stage { is_stage place ≡ true }
     ensures worked { OnlyAsks D.observed (sweeps times.now) (D.shown dir.old) (D.shown dir.new) }
     ensures cause { IfErr result (λ e. GcCause D.observed e (D.shown dir.old) (D.shown dir.new)) }
-    ensures lawful { IfErr result (λ e. StrayByApp D.observed e (MayPass place times.now times.expire) (D.shown dir.old) (D.shown dir.new)) }
+    ensures lawful { IfErr result (λ e. GcStrayByApp D.observed e (MayPassPods place times.now times.expire) (D.shown dir.old) (D.shown dir.new)) }
     ensures told { IfOk result (λ done. D.observed ≡ true → AddsShown times place (D.shown dir.old) (D.shown dir.new) lines.old.items lines.new.items) }
     ensures ended { IfErr result (λ e. D.observed ≡ true → EndsListingBetween times place (D.shown dir.old) (D.shown dir.new)) }
-    ensures ready { D.observed ≡ true → Given (MayPass place times.now times.expire) (D.shown dir.old) (λ s. KeepsReady s (D.shown dir.new)) }
+    ensures ready { D.observed ≡ true → Given (MayPassPods place times.now times.expire) (D.shown dir.old) (λ s. KeepsReady s (D.shown dir.new)) }
 {
     match names_of(alloc, dir, place) {
         Ok(names) => deal_each(alloc, dir, place, names.as_slice(), times, lines),
@@ -113,7 +113,7 @@ fn pass_embryo<D: Dir>(
     requires active { IsActive (D.shown dir.old).local }
     ensures worked { OnlyAsks D.observed (sweeps times.now) (D.shown dir.old) (D.shown dir.new) }
     ensures cause { IfErr result (λ e. GcCause D.observed e (D.shown dir.old) (D.shown dir.new)) }
-    ensures lawful { IfErr result (λ e. StrayByApp D.observed e (MaySweepAll times.now times.expire) (D.shown dir.old) (D.shown dir.new)) }
+    ensures lawful { IfErr result (λ e. GcStrayByApp D.observed e (MaySweepAll times.now times.expire) (D.shown dir.old) (D.shown dir.new)) }
     ensures told { IfOk result (λ done. D.observed ≡ true → AddsPassed times Area.Embryo (D.shown dir.old) (D.shown dir.new) lines.old.items lines.new.items) }
     ensures ended { IfErr result (λ e. D.observed ≡ true → EndsPassBetween times Area.Embryo (D.shown dir.old) (D.shown dir.new)) }
     ensures ready { D.observed ≡ true → Given (MaySweepAll times.now times.expire) (D.shown dir.old) (λ s. KeepsReady s (D.shown dir.new)) }
@@ -149,7 +149,7 @@ pub(crate) fn pass<D: Dir>(
     requires stage { is_stage place ≡ true }
     ensures worked { OnlyAsks D.observed (sweeps times.now) (D.shown dir.old) (D.shown dir.new) }
     ensures cause { IfErr result (λ e. GcCause D.observed e (D.shown dir.old) (D.shown dir.new)) }
-    ensures lawful { IfErr result (λ e. StrayByApp D.observed e (MaySweepAll times.now times.expire) (D.shown dir.old) (D.shown dir.new)) }
+    ensures lawful { IfErr result (λ e. GcStrayByApp D.observed e (MaySweepAll times.now times.expire) (D.shown dir.old) (D.shown dir.new)) }
     ensures told { IfOk result (λ done. D.observed ≡ true → AddsPassed times place (D.shown dir.old) (D.shown dir.new) lines.old.items lines.new.items) }
     ensures ended { IfErr result (λ e. D.observed ≡ true → EndsPassBetween times place (D.shown dir.old) (D.shown dir.new)) }
     ensures ready { D.observed ≡ true → Given (MaySweepAll times.now times.expire) (D.shown dir.old) (λ s. KeepsReady s (D.shown dir.new)) }

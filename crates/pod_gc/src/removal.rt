@@ -10,8 +10,8 @@ ghost use Rattle.pod_locks.specs.Holding.{KeepsReady};
 ghost use Rattle.pod_gc.specs.RemovalHolding.{MayRemovePod};
 ghost use Rattle.impossible_replies.specs.Replies.{AppWroteOn};
 ghost use Rattle.lifecycle.specs.Executions.{IsConforming};
-ghost use Rattle.pod_gc.specs.Hindrances.{IsUnhinderedThroughout, IsFailure};
-ghost use Rattle.pod_gc.specs.Removals.{RemovedBetween, RemovedLater, RemoveCause, LaterCause, LaterByApp, RefusedByAnother};
+ghost use Rattle.pod_gc.specs.Hindrances.{IsUnhinderedThroughout, IsRemovalFailure};
+ghost use Rattle.pod_gc.specs.Removals.{RemovedBetween, RemovedLater, PodRemovalCause, LaterCause, LaterByApp, RemovalRefusedByAnother};
 ghost use Rattle.pod_gc.specs.Found.{RemovedFirst, RefusedFirst};
 
 use crate::attempt::{Round, attempt};
@@ -29,7 +29,7 @@ fn remove_later<D: Dir>(alloc: Global, dir: &mut D, pod: PodId, now: u64) -> Res
     ensures removed { IfOk result (λ done. D.observed ≡ true → RemovedLater pod (D.shown dir.old) (D.shown dir.new)) }
     ensures cause { IfErr result (λ e. LaterCause D.observed pod e (D.shown dir.old) (D.shown dir.new)) }
     ensures lawful { IfErr result (λ e. LaterByApp D.observed pod now e (D.shown dir.old) (D.shown dir.new)) }
-    ensures another { IfErr result (λ e. D.observed ≡ true → Given (MayRemovePod pod now) (D.shown dir.old) (λ s. RefusedByAnother pod e (D.shown dir.old) (D.shown dir.new))) }
+    ensures by_other_process { IfErr result (λ e. D.observed ≡ true → Given (MayRemovePod pod now) (D.shown dir.old) (λ s. RemovalRefusedByAnother pod e (D.shown dir.old) (D.shown dir.new))) }
     ensures kept { IfErr result (λ e. D.observed ≡ true → KeepsFolders (D.shown dir.old) (D.shown dir.new)) }
     ensures ready { D.observed ≡ true → Given (MayRemovePod pod now) (D.shown dir.old) (λ s. KeepsReady s (D.shown dir.new)) }
 {
@@ -65,17 +65,17 @@ pub fn remove_pod<D: Dir>(
     ensures worked { OnlyAsks D.observed (removes pod now) (D.shown dir.old) (D.shown dir.new) }
     ensures reads { ReadsAtMost 6 D.observed pod (D.shown dir.old) (D.shown dir.new) }
     ensures removed { IfOk result (λ done. D.observed ≡ true → RemovedBetween pod (D.shown dir.old) (D.shown dir.new)) }
-    ensures cause { IfErr result (λ e. RemoveCause D.observed pod e (D.shown dir.old) (D.shown dir.new)) }
+    ensures cause { IfErr result (λ e. PodRemovalCause D.observed pod e (D.shown dir.old) (D.shown dir.new)) }
     ensures lawful { IsErrOf result RemoveError.Stray → D.observed ≡ true → Given (MayRemovePod pod now) (D.shown dir.old) (λ s. IsConforming (D.shown dir.new).trace
         → AppWroteOn (D.shown dir.old).process (D.shown dir.old).trace (D.shown dir.new).trace) }
-    ensures another { IfErr result (λ e. D.observed ≡ true → Given (MayRemovePod pod now) (D.shown dir.old) (λ s. RefusedByAnother pod e (D.shown dir.old) (D.shown dir.new))) }
+    ensures by_other_process { IfErr result (λ e. D.observed ≡ true → Given (MayRemovePod pod now) (D.shown dir.old) (λ s. RemovalRefusedByAnother pod e (D.shown dir.old) (D.shown dir.new))) }
     ensures first { IfOk result (λ done. D.observed ≡ true → RemovedFirst pod (D.shown dir.old) (D.shown dir.new)) }
     ensures refused { IfErr result (λ e. D.observed ≡ true → Given (MayRemovePod pod now) (D.shown dir.old) (λ s. RefusedFirst pod e (D.shown dir.old) (D.shown dir.new))) }
     ensures kept { IfErr result (λ e. D.observed ≡ true → KeepsFolders (D.shown dir.old) (D.shown dir.new)) }
     ensures ready { D.observed ≡ true → Given (MayRemovePod pod now) (D.shown dir.old) (λ s. KeepsReady s (D.shown dir.new)) }
     ensures complete { IfErr result (λ e. D.observed ≡ true → Given (MayRemovePod pod now) (D.shown dir.old) (λ s. IsConforming (D.shown dir.new).trace
         → IsUnhinderedThroughout pod (D.shown dir.old).process (D.shown dir.old).trace (D.shown dir.new).trace
-        → IsFailure e (D.shown dir.old).process (D.shown dir.old).trace (D.shown dir.new).trace)) }
+        → IsRemovalFailure e (D.shown dir.old).process (D.shown dir.old).trace (D.shown dir.new).trace)) }
 {
     match attempt(alloc, dir, pod, now)? {
         Round::Gone => Err(RemoveError::NoPod),

@@ -6,7 +6,7 @@ ghost use Rattle.impossible_replies.specs.Replies.{AppWroteOn};
 ghost use Rattle.lifecycle.specs.Executions.{IsConforming};
 ghost use Rattle.pod_locks.specs.Holding.{KeepsReady};
 ghost use Rattle.pod_gc.specs.Requests.{sweeps};
-ghost use Rattle.pod_gc.specs.Causes.{GcCause, StrayByApp};
+ghost use Rattle.pod_gc.specs.Causes.{GcCause, GcStrayByApp};
 ghost use Rattle.pod_gc.specs.Sweeping.{MaySweepAll};
 ghost use Rattle.pod_gc.specs.Told.{places, AddsSwept, IsSweptBetween};
 ghost use Rattle.pod_gc.specs.Ended.{EndsSweepBetween};
@@ -37,7 +37,7 @@ fn pass_each<D: Dir>(
     requires active { IsActive (D.shown dir.old).local }
     ensures worked { OnlyAsks D.observed (sweeps times.now) (D.shown dir.old) (D.shown dir.new) }
     ensures cause { IfErr result (λ e. GcCause D.observed e (D.shown dir.old) (D.shown dir.new)) }
-    ensures lawful { IfErr result (λ e. StrayByApp D.observed e (MaySweepAll times.now times.expire) (D.shown dir.old) (D.shown dir.new)) }
+    ensures lawful { IfErr result (λ e. GcStrayByApp D.observed e (MaySweepAll times.now times.expire) (D.shown dir.old) (D.shown dir.new)) }
     ensures swept { IfOk result (λ done. D.observed ≡ true → AddsSwept times places (D.shown dir.old) (D.shown dir.new) lines.old.items lines.new.items) }
     ensures ended { IfErr result (λ e. D.observed ≡ true → EndsSweepBetween times (D.shown dir.old) (D.shown dir.new)) }
     ensures ready { D.observed ≡ true → Given (MaySweepAll times.now times.expire) (D.shown dir.old) (λ s. KeepsReady s (D.shown dir.new)) }

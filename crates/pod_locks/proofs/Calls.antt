@@ -19,7 +19,7 @@ use Rattle.dir_model.specs.declared.tree.TreeEntry.{TreeEntry}
 use Rattle.dir_model.specs.Calls.{CallStep, AtOwnStep}
 use Rattle.dir_model.specs.Causes.{Rose}
 use Rattle.dir_model.specs.declared.opening.Holding.{Holding}
-use Rattle.dir_model.specs.Local.{Local, is_number, held_in, with_handle, with_lock as locked_with, without, is_open_among, IsUnopened}
+use Rattle.dir_model.specs.Local.{Local, is_handle_of, held_in, with_handle, with_lock as locked_with, without, is_open_among, IsUnopened}
 use Rattle.dir_model.specs.Locks.{target_of}
 use Rattle.dir_model.specs.Replies.{may_refuse, refused_in, open_refusal, is_error, done_reply}
 use Rattle.dir_model.specs.State.{DirState, stands, folder_at}
@@ -36,19 +36,19 @@ use Rattle.pod_locks.specs.Work.{Grew}
 use Rattle.pod_locks.proofs.Times.{at_part, deeds_part}
 use Rattle.pod_locks.proofs.Traces.{grown_none, one_deed}
 use Rattle.pod_locks.specs.declared.setback.Setback.{Setback}
-use Rattle.pod_locks.specs.Setbacks.{set_back, lock_setback}
-use Rattle.pod_locks.specs.Requests.{looks_at, peeks_at, moves}
-use Rattle.pod_locks.specs.Holding.{and_lock}
+use Rattle.pod_locks.specs.Setbacks.{step_setback_of, step_lock_setback}
+use Rattle.pod_locks.specs.Requests.{looks_at, peeks_at, moves_pod}
+use Rattle.pod_locks.specs.Holding.{and_pod_lock}
 use Rattle.folder_removal.specs.Removal.{WasCalledFor}
 use Rattle.folder_removal.proofs.Strays.{called_within}
-use Rattle.pod_locks.specs.Causes.{Stopped, IsAbsentAt, CannotOpenAt, WasStray}
+use Rattle.pod_locks.specs.Causes.{StepWasStopped, IsAbsentAt, CannotOpenAt, WasStrayStep}
 use Rattle.pod_locks.proofs.ClaimCalls.{from_missing, is_missing}
 
 -- the calls are of their kind
 pub asks_open : (pod : PodId) (a : Area) (which : Which) → looks_at pod a (Open (pod_spot pod a) which) ≡ true
 asks_open pod a which = spot_self (pod_spot pod a)
 
-pub asks_move : (pod : PodId) (from to : Area) → moves pod from to (MoveFolder (pod_spot pod from) (pod_spot pod to)) ≡ true
+pub asks_move : (pod : PodId) (from to : Area) → moves_pod pod from to (MoveFolder (pod_spot pod from) (pod_spot pod to)) ≡ true
 asks_move pod from to = and_both _ _ (spot_self (pod_spot pod from)) (spot_self (pod_spot pod to))
 
 -- a lock was opened, asked for, and given up
@@ -78,13 +78,13 @@ peeked_unopened pod a e x t = and_call nothing_yet refl (asks_peek pod a Own) (x
 
 none_locked : (h : Handle) (hs : List Holding) → is_open_among h hs ≡ false → map (held_in h Exclusive) hs ≡ hs
 none_locked h [] none = refl
-none_locked h (x ∷ xs) none = by (is_number h x) none (λ rest. none_locked h xs rest)
+none_locked h (x ∷ xs) none = by (is_handle_of h x) none (λ rest. none_locked h xs rest)
   where
     by : (b : Bool) → (b || is_open_among h xs) ≡ false → (is_open_among h xs ≡ false → map (held_in h Exclusive) xs ≡ xs) → cond b (record x { lock = Some Exclusive }) x ∷ map (held_in h Exclusive) xs ≡ x ∷ xs
     by true none rest = cc
     by false none rest = ap (λ (l : List Holding). x ∷ l) (rest none)
 
-pub locked_is : {b c : Local} (m : Local) (h : Handle) (pod : PodId) (a : Area) (which : Which) → IsUnopened m h → b ≡ with_handle m h (target_of (pod_spot pod a) which) → c ≡ locked_with b h Exclusive → c ≡ and_lock m pod a which h
+pub locked_is : {b c : Local} (m : Local) (h : Handle) (pod : PodId) (a : Area) (which : Which) → IsUnopened m h → b ≡ with_handle m h (target_of (pod_spot pod a) which) → c ≡ locked_with b h Exclusive → c ≡ and_pod_lock m pod a which h
 locked_is {b} {c} m h pod a which unopened open_is lock_is =
     let fresh : Holding = record { handle = h; target = target_of (pod_spot pod a) which; lock = None } in
     lock_is ∙ (ap (λ (x : Local). locked_with x h Exclusive) open_is
@@ -93,13 +93,13 @@ locked_is {b} {c} m h pod a which unopened open_is lock_is =
     (none_locked h m.holdings unopened) ∙ ap (λ b. m.holdings ++ cond b (record fresh { lock = Some Exclusive }) fresh ∷ []) (same_self h.number))))
 
 -- and given up
-pub lock_closed : {b c : Local} (m : Local) (h : Handle) (pod : PodId) (a : Area) (which : Which) → IsUnopened m h → b ≡ and_lock m pod a which h → c ≡ without b h → c ≡ m
+pub lock_closed : {b c : Local} (m : Local) (h : Handle) (pod : PodId) (a : Area) (which : Which) → IsUnopened m h → b ≡ and_pod_lock m pod a which h → c ≡ without b h → c ≡ m
 lock_closed {b} {c} m h pod a which unopened is close_is =
     close_is ∙ (ap (λ (x : Local). without x h) (is ∙ sym (locked_is m h pod a which unopened refl refl)) ∙ closed_after_lock m h (target_of (pod_spot pod a) which) unopened Exclusive)
 
 -- and had
 pub went_taken : {observed : Bool} {h : Handle} {old mid new : DirAt} (pod : PodId) (a : Area) (which : Which) → IsUnopened old.local h → DirCall observed old (Open (pod_spot pod a) which) (Opened h) mid
-    → DirCall observed mid (TryLock h Exclusive) Done new → LeavesOpen observed (looks_at pod a) (and_lock old.local pod a which h) old new
+    → DirCall observed mid (TryLock h Exclusive) Done new → LeavesOpen observed (looks_at pod a) (and_pod_lock old.local pod a which h) old new
 went_taken {observed} {h} {old} {mid} {new} pod a which unopened x y = record {
   same = y.same ∙ x.same;
   faults = omega (arith, x.faults, y.faults);
@@ -115,7 +115,7 @@ pub went_unopened : {observed : Bool} {old new : DirAt} (pod : PodId) (a : Area)
 went_unopened pod a which e x = record { same = x.same; faults = x.faults; local_is = x.local; extends = λ t. and_call nothing_yet refl (asks_open pod a which) (x.step t) }
 
 -- the pod was moved, or not
-pub worked_move : {observed : Bool} {old new : DirAt} (pod : PodId) (from to : Area) (answer : Result (Unit {0}) DirError) → DirCall observed old (MoveFolder (pod_spot pod from) (pod_spot pod to)) (done_reply answer) new → OnlyAsks observed (moves pod from to) old new
+pub worked_move : {observed : Bool} {old new : DirAt} (pod : PodId) (from to : Area) (answer : Result (Unit {0}) DirError) → DirCall observed old (MoveFolder (pod_spot pod from) (pod_spot pod to)) (done_reply answer) new → OnlyAsks observed (moves_pod pod from to) old new
 worked_move {observed} {old} {new} pod from to answer x = record { same = x.same; faults = x.faults; local = by answer x; extends = λ t. and_call nothing_yet refl (asks_move pod from to) (x.step t) }
   where
     by : (answer : Result (Unit {0}) DirError) → DirCall observed old (MoveFolder (pod_spot pod from) (pod_spot pod to)) (done_reply answer) new → new.local ≡ old.local
@@ -142,7 +142,7 @@ missed_move {me} {old} {new} pod from to s = step_at me old (MoveFolder (pod_spo
 
 -- the lock was refused
 pub lock_stops : {observed : Bool} {pod : PodId} {Missed : DirState → Type 0} {old new : DirAt} (which : Which) (h : Handle) (mode : Mode) (e : DirError) → may_refuse (TryLock h mode) e ≡ true
-    → (e ≡ Failed → Rose old.faults new.faults) → Stopped observed pod Missed (lock_setback which e) old new
+    → (e ≡ Failed → Rose old.faults new.faults) → StepWasStopped observed pod Missed (step_lock_setback which e) old new
 lock_stops which h mode Locked may rose = record { fault = λ is. cc; missing = λ is. cc; manifest = λ is. cc; stray = λ is. cc }
 lock_stops which h mode Failed may rose = record { fault = λ is. rose refl; missing = λ is. cc; manifest = λ is. cc; stray = λ is. cc }
 lock_stops which h mode dir.NoMemory may rose = record { fault = λ is. cc; missing = λ is. cc; manifest = λ is. cc; stray = λ is. cc }
@@ -153,7 +153,7 @@ lock_stops which h mode NotEmpty may rose = cc
 -- it couldn't be opened
 module _ {observed : Bool} (pod : PodId) (a : Area) (which : Which) {old new : DirAt} where
   pub open_stops : (e : DirError) → may_refuse (Open (pod_spot pod a) which) e ≡ true → (e ≡ Failed → Rose old.faults new.faults)
-      → DirCall observed old (Open (pod_spot pod a) which) (Refused e 0) new → Stopped observed pod (CannotOpenAt pod a which) (set_back e) old new
+      → DirCall observed old (Open (pod_spot pod a) which) (Refused e 0) new → StepWasStopped observed pod (CannotOpenAt pod a which) (step_setback_of e) old new
   open_stops Missing may rose x = record { fault = λ is. cc; missing = λ is t. missed_open pod a which (x.step t); manifest = λ is. cc; stray = λ is. cc }
   open_stops Failed may rose x = record { fault = λ is. rose refl; missing = λ is. cc; manifest = λ is. cc; stray = λ is. cc }
   open_stops dir.NoMemory may rose x = record { fault = λ is. cc; missing = λ is. cc; manifest = λ is. cc; stray = λ is. cc }
@@ -162,7 +162,7 @@ module _ {observed : Bool} (pod : PodId) (a : Area) (which : Which) {old new : D
   open_stops NotEmpty may rose x = cc
 
   pub own_stops : (e : DirError) → may_refuse (Open (pod_spot pod a) Own) e ≡ true → (e ≡ Failed → Rose old.faults new.faults)
-      → DirCall observed old (Open (pod_spot pod a) Own) (Refused e 0) new → Stopped observed pod (IsAbsentAt pod a) (set_back e) old new
+      → DirCall observed old (Open (pod_spot pod a) Own) (Refused e 0) new → StepWasStopped observed pod (IsAbsentAt pod a) (step_setback_of e) old new
   own_stops Missing may rose x = record { fault = λ is. cc; missing = λ is t. missed old.process old.trace (pod_spot pod a) new.trace (x.step t); manifest = λ is. cc; stray = λ is. cc }
   own_stops Failed may rose x = record { fault = λ is. rose refl; missing = λ is. cc; manifest = λ is. cc; stray = λ is. cc }
   own_stops dir.NoMemory may rose x = record { fault = λ is. cc; missing = λ is. cc; manifest = λ is. cc; stray = λ is. cc }
@@ -172,7 +172,7 @@ module _ {observed : Bool} (pod : PodId) (a : Area) (which : Which) {old new : D
 
 -- the pod wasn't moved
 pub move_stops : {observed : Bool} {pod : PodId} {from to : Area} {old new : DirAt} (e : DirError) → may_refuse (MoveFolder (pod_spot pod from) (pod_spot pod to)) e ≡ true
-    → (e ≡ Failed → Rose old.faults new.faults) → DirCall observed old (MoveFolder (pod_spot pod from) (pod_spot pod to)) (Refused e 0) new → Stopped observed pod (IsAbsentAt pod from) (set_back e) old new
+    → (e ≡ Failed → Rose old.faults new.faults) → DirCall observed old (MoveFolder (pod_spot pod from) (pod_spot pod to)) (Refused e 0) new → StepWasStopped observed pod (IsAbsentAt pod from) (step_setback_of e) old new
 move_stops {observed} {pod} {from} {to} Missing may rose x = record { fault = λ is. cc; missing = λ is t. missed_move pod from to (x.step t); manifest = λ is. cc; stray = λ is. cc }
 move_stops {observed} {pod} {from} {to} Exists may rose x = record {
   fault = λ is. cc;
@@ -209,13 +209,13 @@ rose_later a b c before rose = omega arith
 pub rose_still : (a b c : ℕ) → Rose a b → b ≤ c → Rose a c
 rose_still a b c rose after = omega arith
 
-pub stray_part : {me other : ℕ} {a b c d : List Event} → Grew a b → other ≡ me → Grew c d → WasStray other b c → WasStray me a d
+pub stray_part : {me other : ℕ} {a b c d : List Event} → Grew a b → other ≡ me → Grew c d → WasStrayStep other b c → WasStrayStep me a d
 stray_part {me} {other} {a} {b} {c} {d} ab same cd w =
     let called = subst (λ (p : ℕ). WasCalledFor w.request w.reply p b c) same w.called in
     record { request = w.request; reply = w.reply; stray = w.stray; called = called_within w.request w.reply me a b c d ab.more cd.more ab.grown cd.grown called; did = deeds_part ab same cd w.did }
 
 -- what stops a part stops the whole
-pub stops_part : {observed : Bool} {pod : PodId} {Missed : DirState → Type 0} {s : Setback} {a b c d : DirAt} → Follows observed a b → Follows observed c d → Stopped observed pod Missed s b c → Stopped observed pod Missed s a d
+pub stops_part : {observed : Bool} {pod : PodId} {Missed : DirState → Type 0} {s : Setback} {a b c d : DirAt} → Follows observed a b → Follows observed c d → StepWasStopped observed pod Missed s b c → StepWasStopped observed pod Missed s a d
 stops_part {observed} {pod} {Missed} {s} {a} {b} {c} {d} ab cd x = record {
   fault = λ is. rose_still a.faults c.faults d.faults (rose_later a.faults b.faults c.faults ab.faults (x.fault is)) cd.faults;
   missing = λ is t. at_part (ab.grown t) ab.same (cd.grown t) (x.missing is t);

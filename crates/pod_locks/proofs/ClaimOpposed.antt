@@ -36,8 +36,8 @@ use Rattle.dir_rules.specs.Conforms.{seen_of, IsTied}
 use Rattle.dir_rules.proofs.Tied.{meanwhile_unseen, lived_meanwhile}
 use Rattle.dir_files.proofs.OwnHandles.{Lives, open_as_seen}
 use Rattle.pod_locks.specs.ClaimRequests.{in_prepared}
-use Rattle.pod_locks.specs.ClaimHolding.{on_lock, and_held, is_own}
-use Rattle.pod_locks.specs.ClaimCauses.{is_lock, is_held_elsewhere, OpensThere, HeldByAnother, HadAlone}
+use Rattle.pod_locks.specs.ClaimHolding.{on_prepared_lock, and_held, is_own_lock}
+use Rattle.pod_locks.specs.ClaimCauses.{is_lock, is_held_elsewhere, OpensThere, PreparedHeldByAnother, HadAlone}
 use Rattle.pod_locks.proofs.OwnOpenings.{none_fails, find_last, any_but, mine, own, own_any, find_own, own_meanwhile, same_lock, doubles}
 
 not_refused : (o : Option DirError) (more : Bool) → (not (is_some o) && more) ≡ true → o ≡ None
@@ -106,7 +106,7 @@ module _ (me : ℕ) (handle : Handle) (pod : PodId) (which : Which) (old opened_
 module _ (me : ℕ) (handle : Handle) (pod : PodId) (which : Which) (old opened_at mid asked_at late : List Event) (first : Interference me old opened_at)
     (open_took : TookPlace opened_at me (Open (in_prepared pod) which) (Opened handle) mid) (between : Interference me mid asked_at)
     (ask_took : TookPlace asked_at me (TryLock handle Exclusive) (Refused Locked 0) late)
-    (z : Seen) (single : list_any (λ h. is_lock which h.target) z.standing.holdings ≡ false) (run : IsRun late) (tied : IsTied me mid (and_held (on_lock pod which handle None (is_own which)) z)) where
+    (z : Seen) (single : list_any (λ h. is_lock which h.target) z.standing.holdings ≡ false) (run : IsRun late) (tied : IsTied me mid (and_held (on_prepared_lock pod which handle None (is_own_lock which)) z)) where
   abbrev then : Namespace
   then = (state_after asked_at).namespace
 
@@ -126,7 +126,7 @@ module _ (me : ℕ) (handle : Handle) (pod : PodId) (which : Which) (old opened_
   seen_once =
       ap (λ (s : Seen). list_any doubled s.standing.holdings) (meanwhile_unseen between)
       ∙ (sym (ap (λ (s : Seen). list_any doubled s.standing.holdings) (tied.living (lived_meanwhile between alive)).same)
-      ∙ or_none (doubled (on_lock pod which handle None (is_own which))) (list_any doubled z.standing.holdings)
+      ∙ or_none (doubled (on_prepared_lock pod which handle None (is_own_lock which))) (list_any doubled z.standing.holdings)
       (ap (λ b. is_lock which (target_of (in_prepared pod) which) && not b) (same_self handle.number) ∙ and_false (is_lock which (target_of (in_prepared pod) which))) rest)
 
   earlier : IsRun asked_at
@@ -135,7 +135,7 @@ module _ (me : ℕ) (handle : Handle) (pod : PodId) (which : Which) (old opened_
   single_now : list_any (doubles which handle) (map holding_of (own me then.openings)) ≡ false
   single_now = sym (open_as_seen me asked_at earlier alive (doubles which handle)) ∙ seen_once
 
-  held_took : HeldByAnother pod which me old late
+  held_took : PreparedHeldByAnother pod which me old late
   held_took =
       let before = (state_after opened_at).namespace in
       let k = some_number (folder_at before (in_prepared pod)) (open_says (state_after opened_at) me (in_prepared pod) which handle open_took.allowed).there in
@@ -214,11 +214,11 @@ late_never {X} {request} {reply} {me} {before} {new} l timely = let e : true ≡
 
 -- the same of the calls
 pub held_step : (me : ℕ) (old mid late : List Event) (handle : Handle) (pod : PodId) (which : Which) → CallStep me old (Open (in_prepared pod) which) (Opened handle) mid → CallStep me mid (TryLock handle Exclusive) (Refused Locked 0) late
-    → (z : Seen) → list_any (λ h. is_lock which h.target) z.standing.holdings ≡ false → IsTied me mid (and_held (on_lock pod which handle None (is_own which)) z) → HeldByAnother pod which me old late
+    → (z : Seen) → list_any (λ h. is_lock which h.target) z.standing.holdings ≡ false → IsTied me mid (and_held (on_prepared_lock pod which handle None (is_own_lock which)) z) → PreparedHeldByAnother pod which me old late
 held_step me old mid late handle pod which opens asks z single tied = by opens.own asks.own
   where
     by : TookPlace opens.before me (Open (in_prepared pod) which) (Opened handle) mid ⊎ LeftNothing opens.before me (Open (in_prepared pod) which) (Opened handle) mid
-        → TookPlace asks.before me (TryLock handle Exclusive) (Refused Locked 0) late ⊎ LeftNothing asks.before me (TryLock handle Exclusive) (Refused Locked 0) late → HeldByAnother pod which me old late
+        → TookPlace asks.before me (TryLock handle Exclusive) (Refused Locked 0) late ⊎ LeftNothing asks.before me (TryLock handle Exclusive) (Refused Locked 0) late → PreparedHeldByAnother pod which me old late
     by (inl o) (inl a) = held_took me handle pod which old opens.before mid asks.before late opens.meanwhile o asks.meanwhile a z single asks.run tied
     by (inl o) (inr l) = late_never l refl
     by (inr l) a = late_never l refl

@@ -39,7 +39,7 @@ use Rattle.dir_files.proofs.OwnHandles.{Lives, open_as_seen}
 use Rattle.phase_read.specs.Read.{pod_spot}
 use Rattle.pod_locks.specs.ClaimCauses.{is_lock}
 use Rattle.pod_locks.specs.Holding.{and_held}
-use Rattle.pod_locks.specs.Causes.{OpensAt, is_held_against, HeldByAnother, FreeOfOthers}
+use Rattle.pod_locks.specs.Causes.{OpensAt, is_held_against, PodHeldByAnother, FreeOfOthers}
 use Rattle.pod_locks.proofs.OwnOpenings.{none_fails, find_last, any_but, mine, own, own_any, find_own, own_meanwhile, same_lock, doubles}
 
 abbrev pub asked_on : PodId → Area → Which → Handle → Bool → Held
@@ -147,7 +147,7 @@ module _ (me : ℕ) (handle : Handle) (pod : PodId) (area : Area) (which : Which
   single_now : list_any (doubles which handle) (map holding_of (own me then.openings)) ≡ false
   single_now = sym (open_as_seen me asked_at earlier alive (doubles which handle)) ∙ seen_once
 
-  held_took : HeldByAnother pod area which mode me old late
+  held_took : PodHeldByAnother pod area which mode me old late
   held_took =
       let k = its me handle pod area which mode old opened_at mid asked_at first open_took between alive in
       record {
@@ -214,11 +214,11 @@ late_never {X} {request} {reply} {me} {before} {new} l timely = let e : true ≡
 
 -- the same of the calls
 pub held_step : (me : ℕ) (old mid late : List Event) (handle : Handle) (pod : PodId) (area : Area) (which : Which) (mode : Mode) (covered : Bool) → CallStep me old (Open (pod_spot pod area) which) (Opened handle) mid → CallStep me mid (TryLock handle mode) (Refused Locked 0) late
-    → (z : Seen) → list_any (λ h. is_lock which h.target) z.standing.holdings ≡ false → IsTied me mid (and_held (asked_on pod area which handle covered) z) → HeldByAnother pod area which mode me old late
+    → (z : Seen) → list_any (λ h. is_lock which h.target) z.standing.holdings ≡ false → IsTied me mid (and_held (asked_on pod area which handle covered) z) → PodHeldByAnother pod area which mode me old late
 held_step me old mid late handle pod area which mode covered opens asks z single tied = by opens.own asks.own
   where
     by : TookPlace opens.before me (Open (pod_spot pod area) which) (Opened handle) mid ⊎ LeftNothing opens.before me (Open (pod_spot pod area) which) (Opened handle) mid
-        → TookPlace asks.before me (TryLock handle mode) (Refused Locked 0) late ⊎ LeftNothing asks.before me (TryLock handle mode) (Refused Locked 0) late → HeldByAnother pod area which mode me old late
+        → TookPlace asks.before me (TryLock handle mode) (Refused Locked 0) late ⊎ LeftNothing asks.before me (TryLock handle mode) (Refused Locked 0) late → PodHeldByAnother pod area which mode me old late
     by (inl o) (inl a) = held_took me handle pod area which mode covered old opens.before mid asks.before late opens.meanwhile o asks.meanwhile a z single asks.run tied
     by (inl o) (inr l) = late_never l refl
     by (inr l) a = late_never l refl

@@ -4,7 +4,7 @@ use Rattle.std.specs.Prelude.{IfOk, IfErr, IsErrAnd}
 use Rattle.image_reading.specs.declared.error.StoreError.{StoreError}
 use Rattle.image_reading.specs.declared.error.StoreError.TheVariants.{Damaged, DirFault, NoMemory}
 use Rattle.image_reading.specs.Refusals.{IsReadRefusal}
-use Rattle.pod_plan.specs.PlanRefusals.{IsAnyPath, IsLack}
+use Rattle.pod_plan.specs.PlanRefusals.{IsAnyPath, IsStoreLack}
 
 pub if_ok : {A E : Type 0} (P Q : A → Type 0) (r : Result A E) → ((a : A) → P a → Q a) → IfOk r P → IfOk r Q
 if_ok P Q (Ok a) f h = f a h
@@ -39,17 +39,17 @@ passed_on P Q r (Err e) same f h = f e (subst (λ x. IfErr x P) (same e refl) h)
 
 module _ (observed : Bool) where
   -- the same lack for another reason
-  pub lack_wider : (P Q : List ℕ → Type 0) (e : StoreError) → (observed ≡ true → (path : List ℕ) → P path → Q path) → IsLack observed P e → IsLack observed Q e
+  pub lack_wider : (P Q : List ℕ → Type 0) (e : StoreError) → (observed ≡ true → (path : List ℕ) → P path → Q path) → IsStoreLack observed P e → IsStoreLack observed Q e
   lack_wider P Q (Damaged path) f is = λ t. f t path (is t)
   lack_wider P Q DirFault f is = tt
   lack_wider P Q NoMemory f is = tt
   lack_wider P Q e f is = absurd is
 
-  pub lack_refusal : (P : List ℕ → Type 0) (e : StoreError) → IsLack observed P e → IsReadRefusal IsAnyPath e
+  pub lack_refusal : (P : List ℕ → Type 0) (e : StoreError) → IsStoreLack observed P e → IsReadRefusal IsAnyPath e
   lack_refusal P (Damaged path) is = tt
   lack_refusal P DirFault is = tt
   lack_refusal P NoMemory is = tt
   lack_refusal P e is = absurd is
 
-  pub lack_memory : (P : List ℕ → Type 0) (e : StoreError) → e ≡ NoMemory → IsLack observed P e
-  lack_memory P e is = subst (λ (x : StoreError). IsLack observed P x) (sym is) tt
+  pub lack_memory : (P : List ℕ → Type 0) (e : StoreError) → e ≡ NoMemory → IsStoreLack observed P e
+  lack_memory P e is = subst (λ (x : StoreError). IsStoreLack observed P x) (sym is) tt

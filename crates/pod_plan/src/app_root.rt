@@ -7,7 +7,7 @@ ghost use Rattle.dep_match.specs.TreeOrder.{IsOrderedTree};
 ghost use Rattle.dir_model.specs.Causes.{Rose};
 ghost use Rattle.dir_model.specs.Local.{IsActive};
 ghost use Rattle.image_reading.specs.Looks.{OnlyReadsImages};
-ghost use Rattle.pod_plan.specs.Roots.{ComesOnce, IsRoot, AreRoots};
+ghost use Rattle.pod_plan.specs.Roots.{ComesOnce, IsRootAsRead, AreImageRoots};
 ghost use Rattle.pod_plan.specs.RootRefusals.{IsListingRefusal, IsRootRefusal, IsRootsRefusal};
 
 use crate::plan_error::{PlanError, listing_refusal};
@@ -58,7 +58,7 @@ fn read_root<D: Dir>(
     requires once { ComesOnce tree.now.nodes }
     ensures cause { IsErrOf result PlanError.DirFault → Rose (D.shown dir.old).faults (D.shown dir.new).faults }
     ensures only { OnlyReadsImages D.observed (D.shown dir.old) (D.shown dir.new) }
-    ensures root { IfOk result (λ root. IsRoot D.observed images.now (D.shown dir.old) (D.shown dir.new) tree.now root) }
+    ensures root { IfOk result (λ root. IsRootAsRead D.observed images.now (D.shown dir.old) (D.shown dir.new) tree.now root) }
     ensures refused { IfErr result (λ e. IsRootRefusal D.observed images.now tree.now.nodes e (D.shown dir.old) (D.shown dir.new)) }
 {
     match read_rendering(alloc, dir, images, tree) {
@@ -79,7 +79,7 @@ pub(crate) fn read_roots<D: Dir>(
     requires once { All (λ t. ComesOnce t.nodes) trees.now }
     ensures cause { IsErrOf result PlanError.DirFault → Rose (D.shown dir.old).faults (D.shown dir.new).faults }
     ensures only { OnlyReadsImages D.observed (D.shown dir.old) (D.shown dir.new) }
-    ensures roots { IfOk result (λ roots. AreRoots D.observed images.now (D.shown dir.old) (D.shown dir.new) trees.now roots) }
+    ensures roots { IfOk result (λ roots. AreImageRoots D.observed images.now (D.shown dir.old) (D.shown dir.new) trees.now roots) }
     ensures refused { IfErr result (λ e. IsRootsRefusal D.observed images.now trees.now e (D.shown dir.old) (D.shown dir.new)) }
 {
     let mut roots = Sequence::new(alloc);

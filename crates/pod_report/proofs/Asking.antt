@@ -18,7 +18,7 @@ use Rattle.dir_model.proofs.Chains.{extends_wider, nothing_yet, and_more}
 use Rattle.dir_model.proofs.Lists.{and_both}
 use Rattle.dir_rules.specs.declared.standing.Standing.{Standing}
 use Rattle.dir_rules.specs.declared.seen.Seen.{Seen}
-use Rattle.dir_rules.specs.Rules.{may_look}
+use Rattle.dir_rules.specs.Rules.{may_read_area}
 use Rattle.dir_rules.specs.Conforms.{seen_listed}
 use Rattle.dir_trait.specs.DirCalls.{DirAt, ExtendsBy, ListCall}
 use Rattle.dir_trait.specs.Knowledge.{Knows, OnlyLooks}
@@ -94,7 +94,7 @@ looks_places asked same faults local extends looks = record {
 }
 
 -- a listing in a folder of a pod leaves what a process knows of what it has open
-looks_there : (s : Seen) (place : Area) → is_stage place ≡ true → may_look s place ≡ true
+looks_there : (s : Seen) (place : Area) → is_stage place ≡ true → may_read_area s place ≡ true
 looks_there s area.Images is = cc
 looks_there s _ is = refl
 

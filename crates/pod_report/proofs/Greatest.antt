@@ -9,7 +9,7 @@ use Rattle.dir_rules.specs.Marks.{created_mark, created_moment, number_of}
 use Rattle.dir_rules.specs.Seen.{later, created_among}
 use Rattle.dir_rules.proofs.Looks.{same_bytes}
 use Rattle.lifecycle.proofs.Places.{name_same}
-use Rattle.pod_report.specs.Created.{IsGreatest}
+use Rattle.pod_report.specs.Created.{IsLatestCreation}
 
 -- the name and the moment of a mark
 pub record MarkTells (name : List ℕ) (moment : ℕ) : Type 0 where
@@ -74,10 +74,10 @@ any_parts {X} t xs y P f g h = by (t y) refl
     by true e = g e
     by false e = f (sym (any_last_not t xs y e) ∙ h)
 
-pub greatest_none : IsGreatest [] None
+pub greatest_none : IsLatestCreation [] None
 greatest_none = record { shown = λ m is. cc; most = λ name m h is. cc }
 
-pub greatest_more : (items : List Item) (item : Item) (found : Option ℕ) → IsGreatest items found → IsGreatest (items ++ item ∷ []) (later found (created_moment item.name))
+pub greatest_more : (items : List Item) (item : Item) (found : Option ℕ) → IsLatestCreation items found → IsLatestCreation (items ++ item ∷ []) (later found (created_moment item.name))
 greatest_more items item found g = record {
   shown = λ m is. later_is ((x : Item) × (has_item (items ++ item ∷ []) x ≡ true) × (created_moment x.name ≡ Some m)) m found (created_moment item.name) (λ a. let x = g.shown m a in (x.0, any_push (is_item x.0) items item x.1, x.2)) (λ b. (item, any_last (is_item item) items item (and_both (bytes_eq item.name item.name) (kind_number item.kind == kind_number item.kind) (same_bytes item.name) (same_self (kind_number item.kind))), b)) is;
   most = λ name m h is. any_parts (is_named name) items item (IsSince m (later found (created_moment item.name)))
@@ -96,7 +96,7 @@ since_more x xs name m rest h is = by (bytes_eq x.name name) refl h
     by true same h = since_left m (created_moment x.name) (created_among xs) (subst (λ (o : Option ℕ). IsSince m o) (sym (ap created_moment (name_same x.name name same) ∙ is)) (omega arith))
     by false apart h = since_right m (created_moment x.name) (created_among xs) (rest h is)
 
-pub among_greatest : (items : List Item) → IsGreatest items (created_among items)
+pub among_greatest : (items : List Item) → IsLatestCreation items (created_among items)
 among_greatest [] = greatest_none
 among_greatest (x ∷ xs) =
     let rest = among_greatest xs in

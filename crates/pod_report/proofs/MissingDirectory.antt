@@ -12,9 +12,9 @@ use Rattle.dir_model.specs.declared.request.Request.TheVariants.{ListIn, Kill}
 use Rattle.dir_model.specs.declared.request.Reply.{Reply}
 use Rattle.dir_model.specs.declared.request.Reply.TheVariants.{Done, Begun, Refused}
 use Rattle.dir_model.specs.Calls.{TookPlace, LeftNothing, Listing, ListStep, AtOwnStep, is_run_from, IsRun, is_allowed, is_kill, is_foreign, event}
-use Rattle.dir_model.specs.Listings.{is_of, is_listing, listing_of, shows_missing}
+use Rattle.dir_model.specs.Listings.{is_listing_of, is_listing, listing_of, shows_missing}
 use Rattle.dir_model.specs.Paths.{is_well_formed}
-use Rattle.dir_model.specs.Replies.{is_own_of, is_any_reply, is_late_reply, is_reply, is_state_reply}
+use Rattle.dir_model.specs.Replies.{is_apps_inner, is_any_reply, is_late_reply, is_reply, is_state_reply}
 use Rattle.dir_model.specs.State.{DirState, empty_state, folder_at, lives, has_begun}
 use Rattle.dir_model.specs.Trace.{state_next, states_next, state_after}
 use Rattle.dir_model.specs.Trees.{has_dir, items_in}
@@ -63,7 +63,7 @@ took timely (inr left) = let e : true ≡ false = sym left.late ∙ timely in cc
 abbrev pub LacksDirectory : Inner → DirState → Type 0
 LacksDirectory inner s = (folder : ℕ) → folder_at s.namespace inner.spot ≡ Some folder → has_dir s.entries folder inner.path ≡ false
 
-module _ {me : ℕ} {old new : List Event} (inner : Inner) (own : (h : List Event) → is_own_of (state_after h) (Some inner) ≡ false) (l : Listing me old (ListIn inner) (Refused Missing 0) new) where
+module _ {me : ℕ} {old new : List Event} (inner : Inner) (own : (h : List Event) → is_apps_inner (state_after h) (Some inner) ≡ false) (l : Listing me old (ListIn inner) (Refused Missing 0) new) where
   abbrev Before : DirState
   Before = state_after l.begins.before
 
@@ -81,7 +81,7 @@ module _ {me : ℕ} {old new : List Event} (inner : Inner) (own : (h : List Even
 
   -- the replies are the state's
   by_state : (h : List Event) (r : Reply) → is_reply (state_after h) me (ListIn inner) r ≡ true → is_state_reply (state_after h) me (ListIn inner) r ≡ true
-  by_state h r allowed = by (is_own_of (state_after h) (Some inner)) (own h) allowed
+  by_state h r allowed = by (is_apps_inner (state_after h) (Some inner)) (own h) allowed
     where
       by : (b : Bool) → b ≡ false → cond b (is_any_reply (state_after h) me (ListIn inner) r) (is_state_reply (state_after h) me (ListIn inner) r) ≡ true → is_state_reply (state_after h) me (ListIn inner) r ≡ true
       by true off a = cc
@@ -111,7 +111,7 @@ module _ {me : ℕ} {old new : List Event} (inner : Inner) (own : (h : List Even
   lacked : (folder : ℕ) → folder_at Before.namespace inner.spot ≡ Some folder → (b : Bool) → has_dir Before.entries folder inner.path ≡ b → b ≡ false
   lacked folder at false is = refl
   lacked folder at true is =
-      let open_now = ap (λ (s : DirState). find (is_of me) s.listings) now_is ∙ inside_begins Before me folder inner none_listing at is in
+      let open_now = ap (λ (s : DirState). find (is_listing_of me) s.listings) now_is ∙ inside_begins Before me folder inner none_listing at is in
       let inside = open_along item_name (inside_now folder inner.path) (λ through ever. listed.Inside inner folder through ever) (λ s through ever. refl) Now Meanwhile me me (items_in folder inner.path Before.entries, []) of_others open_now in
       let e : false ≡ true = sym (ap (shows_missing inner) inside) ∙ says in
       cc
@@ -131,7 +131,7 @@ module _ {me : ℕ} {old new : List Event} (inner : Inner) (own : (h : List Even
     holds = subst (LacksDirectory inner) (sym (state_after-push l.begins.before (event me (ListIn inner) Begun))) lacked_now;
   }
 
-pub tells_lacking : {observed : Bool} {old new : DirAt} (inner : Inner) → ((h : List Event) → is_own_of (state_after h) (Some inner) ≡ false) → observed ≡ true → ListCall observed old (ListIn inner) (Refused Missing 0) new → HeldBetween old new (LacksDirectory inner)
+pub tells_lacking : {observed : Bool} {old new : DirAt} (inner : Inner) → ((h : List Event) → is_apps_inner (state_after h) (Some inner) ≡ false) → observed ≡ true → ListCall observed old (ListIn inner) (Refused Missing 0) new → HeldBetween old new (LacksDirectory inner)
 tells_lacking {observed} {old} {new} inner own t c = by (c.step t)
   where
     by : ListStep old.process old.trace (ListIn inner) (Refused Missing 0) new.trace → HeldBetween old new (LacksDirectory inner)

@@ -38,9 +38,9 @@ use Rattle.pod_report.proofs.Asking.{looks_read, looks_places}
 use Rattle.pod_report.specs.Requests.{OnlyAsksFor, visits, reads_in}
 use Rattle.pod_report.specs.declared.sight.Sight.{Sight}
 use Rattle.pod_report.specs.declared.sight.Sight.TheVariants.{Moved, Lacking, Manifest}
-use Rattle.pod_report.specs.Manifests.{IsManifestOf, IsNoManifest, HasManifestIn, HasUnreadable, manifest_file}
+use Rattle.pod_report.specs.Manifests.{IsManifestOf, IsNoManifest, HasManifestIn, HasUnreadable, manifest_in_area}
 use Rattle.pod_report.specs.Sights.{IsSightOf, Sees, SeesNoFile}
-use Rattle.gate_reading.specs.Files.{is_plain}
+use Rattle.gate_reading.specs.Files.{is_outside_stage1}
 use Rattle.gate_reading.proofs.PlainPaths.{plain_own}
 
 or_first : (b c : Bool) → b ≡ true → (b || c) ≡ true
@@ -48,7 +48,7 @@ or_first true c h = refl
 or_first false c h = cc
 
 -- at a step the file was so, since its path is no app's own
-pub plain_step : {me : ℕ} {old new : List Event} (inner : Inner) (P : Option (List ℕ) → Type 0) → is_plain inner.path ≡ true → AtOwnStep me old new (TellsFile inner P) → AtOwnStep me old new (λ s. P (file_at s inner))
+pub plain_step : {me : ℕ} {old new : List Event} (inner : Inner) (P : Option (List ℕ) → Type 0) → is_outside_stage1 inner.path ≡ true → AtOwnStep me old new (TellsFile inner P) → AtOwnStep me old new (λ s. P (file_at s inner))
 plain_step inner P plain at = record { before = at.before; step = at.step; later = at.later; rest = at.rest; begins = at.begins; ends = at.ends; own = at.own; holds = at.holds (plain_own (at.before ++ at.step ∷ []) inner plain) }
 
 pub some_and : (o : Option (List ℕ)) (P : List ℕ → Type 0) → IsSomeAnd o P → (f : List ℕ) × (o ≡ Some f) × P f
@@ -81,7 +81,7 @@ same_reading file = by (at_most (length file) 1048577)
 
 module _ (pod : PodId) (area : Area) where
   abbrev file : Inner
-  file = manifest_file pod area
+  file = manifest_in_area pod area
 
   abbrev Told : List ℕ → DirAt → DirAt → Type 0
   Told bytes old new = AtOwnStep old.process old.trace new.trace (TellsFile file (IsPiece 0 1048577 bytes))

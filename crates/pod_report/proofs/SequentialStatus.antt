@@ -23,7 +23,7 @@ use Rattle.pod_report.specs.declared.error.ReportError.{ReportError}
 use Rattle.pod_report.specs.declared.error.ReportError.TheVariants.{NoPod}
 use Rattle.pod_report.specs.declared.status.PodStatus.{PodStatus}
 use Rattle.pod_report.specs.Created.{HasCreatedMark}
-use Rattle.pod_report.specs.Ends.{status_file, HasEndedIn, HasEnded, ended_apps}
+use Rattle.pod_report.specs.Ends.{status_file, HasEndedIn, HasEndedAnywhere, ended_apps}
 use Rattle.pod_report.specs.Sequential.{items_of, created_in, end_in, ends_in, status_found, sequential_status}
 use Rattle.pod_report.proofs.Alone.{any_with}
 use Rattle.pod_report.proofs.Greatest.{among_greatest, one_greatest}
@@ -71,21 +71,21 @@ module _ (h : List Event) (conforming : IsConforming h) (pod : PodId) (status : 
   only_here b stage there = one_area pod h conforming area b x.stage stage x.there there
 
   -- the ends
-  ended_here : (app : List ℕ) (n : ℕ) → HasEnded pod app n s → HasEndedIn pod area app n s
+  ended_here : (app : List ℕ) (n : ℕ) → HasEndedAnywhere pod app n s → HasEndedIn pod area app n s
   ended_here app n (b, stage, has) = subst (λ (c : Area). HasEndedIn pod c app n s) (only_here b stage (file_stands s (status_file pod b app) has.bytes has.file)) has
 
   own : (name : List ℕ) (e : AppEndText) → end_in s pod area name ≡ Some e → e.app ≡ name
   own name e is = (end_told s pod area name e is).same
 
   each_told : AllByRecursion (λ (e : AppEndText). end_in s pod area e.app ≡ Some e) status.ends
-  each_told = all_weaker (λ (e : AppEndText). HasEnded pod e.app e.status s) (λ (e : AppEndText). end_in s pod area e.app ≡ Some e) (λ e has. end_is s pod area e.app e.status (ended_here e.app e.status has)) status.ends x.ends
+  each_told = all_weaker (λ (e : AppEndText). HasEndedAnywhere pod e.app e.status s) (λ (e : AppEndText). end_in s pod area e.app ≡ Some e) (λ e has. end_is s pod area e.app e.status (ended_here e.app e.status has)) status.ends x.ends
 
   listed : (name : List ℕ) → has_name (ended_apps status.ends) name ≡ true → (has_name (names s pod area) name && is_some (end_in s pod area name)) ≡ true
   listed name there =
-      let e = end_of (λ (e : AppEndText). HasEnded pod e.app e.status s) status.ends name x.ends there in
+      let e = end_of (λ (e : AppEndText). HasEndedAnywhere pod e.app e.status s) status.ends name x.ends there in
       let n = end_of (λ (e : AppEndText). is_file_name e.app ≡ true) status.ends name x.named there in
       let plain : is_file_name name ≡ true = subst (λ (m : List ℕ). is_file_name m ≡ true) n.2 n.1 in
-      let has = ended_here name e.0.status (subst (λ (m : List ℕ). HasEnded pod m e.0.status s) e.2 e.1) in
+      let has = ended_here name e.0.status (subst (λ (m : List ℕ). HasEndedAnywhere pod m e.0.status s) e.2 e.1) in
       and_both (has_name (names s pod area) name) (is_some (end_in s pod area name)) (name_shown s pod area K k.1 name e.0.status plain has) (ap (λ (o : Option AppEndText). is_some o) (end_is s pod area name e.0.status has))
 
   ended : (name : List ℕ) → (has_name (names s pod area) name && is_some (end_in s pod area name)) ≡ true → has_name (ended_apps status.ends) name ≡ true

@@ -12,7 +12,7 @@ use Rattle.dir_model.specs.declared.tree.TreeEntry.{TreeEntry}
 use Rattle.dir_model.specs.Listings.{is_named}
 use Rattle.dir_model.specs.Names.{is_file_byte, IsFileName}
 use Rattle.dir_model.specs.Paths.{is_slash, is_empty, is_file_name, is_path, lies_below, is_directly_in, behind}
-use Rattle.dir_model.specs.Replies.{is_own_of}
+use Rattle.dir_model.specs.Replies.{is_apps_inner}
 use Rattle.dir_model.specs.Trace.{state_after}
 use Rattle.dir_model.specs.Trees.{is_dir, is_entry, is_file_entry, has_file, is_child, item_in, items_in, kind_of}
 use Rattle.dir_model.proofs.Lists.{and_left, and_right, and_both, or_last}
@@ -24,7 +24,7 @@ use Rattle.dir_laws.proofs.Apps.{not_apps_own}
 use Rattle.gate_reading.proofs.DirectItems.{no_slash}
 
 -- the statuses are at and below their directory
-pub status_own : (h : List Event) (inner : Inner) (rest : List ℕ) → inner.path ≡ status_directory ++ rest → is_own_of (state_after h) (Some inner) ≡ false
+pub status_own : (h : List Event) (inner : Inner) (rest : List ℕ) → inner.path ≡ status_directory ++ rest → is_apps_inner (state_after h) (Some inner) ≡ false
 status_own h inner rest is =
     not_apps_own (codes "stage1/rootfs/opt/") (λ app rest. refl) h inner (subst (λ (p : List ℕ). starts_with nat_eq p (codes "stage1/rootfs/opt/") ≡ false) (sym is) refl)
 

@@ -18,7 +18,7 @@ use Rattle.dir_model.specs.declared.request.Reply.{Reply}
 use Rattle.dir_model.specs.declared.request.Reply.TheVariants.{Done, Refused}
 use Rattle.dir_model.specs.Calls.{IsRun, is_run_from, is_allowed}
 use Rattle.dir_model.specs.Paths.{is_slash, is_empty, lies_below, is_directly_in, behind}
-use Rattle.dir_model.specs.Replies.{is_own_of, is_any_reply, is_reply, is_state_reply, refused_in, make_refusal, file_refusal, left_at, is_fault, is_error, refusal, is_refused}
+use Rattle.dir_model.specs.Replies.{is_apps_inner, is_any_reply, is_reply, is_state_reply, refused_in, make_refusal, file_refusal, left_at, is_fault, is_error, refusal, is_refused}
 use Rattle.dir_model.specs.State.{DirState, folder_at}
 use Rattle.dir_model.specs.Trace.{state_next, state_after, entries_kept, entry_made, placed, removed_in}
 use Rattle.dir_model.specs.Trees.{is_dir, is_within, without_path, is_entry, is_dir_entry, is_file_entry, has_any, has_file, has_dir, has_parent, is_parent_entry, is_child}
@@ -236,7 +236,7 @@ module _ (h : List Event) (p : ℕ) where
   abbrev s : DirState
   s = state_after h
 
-  own_not : (i : Inner) → is_directly_in d i.path ≡ true → is_own_of s (Some i) ≡ false
+  own_not : (i : Inner) → is_directly_in d i.path ≡ true → is_apps_inner s (Some i) ≡ false
   own_not i at = let x = in_statuses i.path at in status_own h i (47 ∷ x.name) x.is
 
   parent_of : (path : List ℕ) (es : List TreeEntry) (k : ℕ) → is_some (make_refusal path es k) ≡ false → has_parent es k path ≡ true
@@ -285,7 +285,7 @@ module _ (h : List Event) (p : ℕ) where
       by true is = subst Parented (sym (append-nil s.entries)) par
       by false is = made (folder_at s.namespace i.spot) i.path (Piece (take left piece)) s.entries par (λ k at direct. there_file par i k (partly i piece error left k at is (state_says i (own_not i direct) r)) direct)
         where
-          state_says : (i : Inner) → is_own_of s (Some i) ≡ false → is_reply s p (AppendIn i piece) (Refused error left) ≡ true → is_refused s p (AppendIn i piece) error left ≡ true
+          state_says : (i : Inner) → is_apps_inner s (Some i) ≡ false → is_reply s p (AppendIn i piece) (Refused error left) ≡ true → is_refused s p (AppendIn i piece) error left ≡ true
           state_says i off r = sym (ap (λ b. cond b (is_any_reply s p (AppendIn i piece) (Refused error left)) (is_state_reply s p (AppendIn i piece) (Refused error left))) off) ∙ r
   step (RemoveFileIn i) Done par r = unmade (folder_at s.namespace i.spot) i.path s.entries par
   step (RemoveDirIn i) Done par r = unmade (folder_at s.namespace i.spot) i.path s.entries par

@@ -3,9 +3,9 @@ ghost use Rattle.std.specs.Prelude.{◌≡◌, ◌≤◌, true, IfOk, IfErr, IsE
 ghost use Rattle.dir_trait.specs.Areas.{rank};
 ghost use Rattle.dir_trait.specs.Causes.{Rose};
 ghost use Rattle.dir_trait.specs.Local.{IsActive};
-ghost use Rattle.pod_report.specs.Created.{IsGreatest};
+ghost use Rattle.pod_report.specs.Created.{IsLatestCreation};
 ghost use Rattle.pod_report.specs.Inspections.{TellsMarks};
-ghost use Rattle.pod_report.specs.Outside.{IsOutside};
+ghost use Rattle.pod_report.specs.Outside.{IsReportFailure};
 ghost use Rattle.pod_report.specs.Requests.{OnlyAsksFor, inspects};
 
 use crate::error::{ReportError, read_fault};
@@ -16,7 +16,7 @@ use marks::{created_moment, later};
 use std::alloc::Global;
 
 fn greatest(items: &[Item]) -> Option<u64>
-    ensures { IsGreatest items.now result }
+    ensures { IsLatestCreation items.now result }
 {
     let mut found = None;
     'items: for item in items {
@@ -36,7 +36,7 @@ pub(crate) fn created_at<D: Dir>(
     requires stage { D.observed ≡ true → rank area ≤ 5 }
     ensures only { OnlyAsksFor D.observed (inspects pod) (D.shown dir.old) (D.shown dir.new) }
     ensures cause { IsErrOf result ReportError.DirFault → Rose (D.shown dir.old).faults (D.shown dir.new).faults }
-    ensures kind { IfErr result IsOutside }
+    ensures kind { IfErr result IsReportFailure }
     ensures told { IfOk result (λ created. D.observed ≡ true
         → TellsMarks pod area created (D.shown dir.old).process (D.shown dir.old).trace (D.shown dir.new).trace) }
 {

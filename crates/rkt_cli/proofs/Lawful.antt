@@ -22,14 +22,14 @@ use Rattle.folder_contents.proofs.Knowledge.{same_intent}
 use Rattle.lifecycle.specs.Executions.{IsConforming, IsDrawnOnce}
 use Rattle.lifecycle.proofs.Draws.{standing_split}
 use Rattle.lifecycle.proofs.Handles.{nat_same}
-use Rattle.command_outcomes.specs.Moments.{DirSeen, Outside, Moment, Outcome}
+use Rattle.command_outcomes.specs.Moments.{DirSeen, Outside, Moment, CommandOutcome}
 use Rattle.rkt_cli.specs.Tasks.{Task}
 use Rattle.rkt_cli.specs.Tasks.{Status, PodList, CatManifest, Validate, ImageList, ImageImport, ImageRm, ImageGc, Prepare, RunPrepared, Run, Rm, Gc, Metadata, Demo}
 use Rattle.pod_lookup.specs.Looks.{lists_stages}
 use Rattle.commands.proofs.Starts.{look_extends, look_lists}
 use Rattle.rkt_cli.specs.Commands.{approach_in, asks, intent_of}
 use Rattle.rkt_cli.specs.Histories.{IsNewDraw, StaysLawful}
-use Rattle.rkt_cli.specs.Runs.{InProcess, NeverBegan, Performs, RunIs, RunOf}
+use Rattle.rkt_cli.specs.Runs.{InProcess, NeverBegan, Performs, IsRunOfTask, RunsTaskOrNothing}
 use Rattle.rkt_cli.proofs.Conforming.{performed_keeps}
 use Rattle.rkt_cli.proofs.Sessions.{act_part, began_alone, finish_part, quiet_first}
 
@@ -160,7 +160,7 @@ module _ (me : ℕ) (old new : List Event) (quiet : Quiet me old new) (conformin
     tokens = once_after intent began (λ i. i.token) conforming.tokens (λ p b has same. fresh.token p b has (same ∙ its.token));
   }
 
-module _ (task : Task) (now : ℕ) (draw : Draw) (old new : Outside) (o : Outcome) (t : old.dir.observed ≡ true) (quiet : Quiet old.dir.process old.dir.trace new.dir.trace) (conforming : IsConforming old.dir.trace) where
+module _ (task : Task) (now : ℕ) (draw : Draw) (old new : Outside) (o : CommandOutcome) (t : old.dir.observed ≡ true) (quiet : Quiet old.dir.process old.dir.trace new.dir.trace) (conforming : IsConforming old.dir.trace) where
   abbrev me : ℕ
   me = old.dir.process
 
@@ -199,9 +199,9 @@ module _ (task : Task) (now : ℕ) (draw : Draw) (old new : Outside) (o : Outcom
   lawful_performed (Some intent) said fresh (inl s) = lawful_process intent said fresh s
   lawful_performed (Some intent) said fresh (inr n) = lawful_refused intent n
 
-pub stays_lawful : {task : Task} {now : ℕ} {draw : Draw} {old new : Moment} {status : ℕ} → RunIs task now draw old new status → old.outside.dir.observed ≡ true → StaysLawful draw old.outside.dir new.outside.dir
+pub stays_lawful : {task : Task} {now : ℕ} {draw : Draw} {old new : Moment} {status : ℕ} → IsRunOfTask task now draw old new status → old.outside.dir.observed ≡ true → StaysLawful draw old.outside.dir new.outside.dir
 stays_lawful {task} {now} {draw} {old} {new} {status} run t quiet conforming fresh = by run.ran
   where
-    by : RunOf task now draw old new run.plain → IsConforming new.outside.dir.trace
+    by : RunsTaskOrNothing task now draw old new run.plain → IsConforming new.outside.dir.trace
     by (inr n) = subst (λ (x : Outside). IsConforming x.dir.trace) (sym n.outside) conforming
     by (inl r) = lawful_performed task now draw old.outside new.outside r.outcome t quiet conforming (intent_of task now draw) refl fresh r.performs

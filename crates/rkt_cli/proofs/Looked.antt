@@ -9,10 +9,10 @@ use Rattle.dir_trait.specs.DirCalls.{DirAt}
 use Rattle.dir_trait.specs.Knowledge.{Knows}
 use Rattle.phase_read.specs.declared.found.LookError.{LookError}
 use Rattle.phase_read.specs.declared.found.LookError.TheVariants as lookup
-use Rattle.pod_lookup.specs.Choice.{IfAmbiguous, IsChoice, NamesMeant}
+use Rattle.pod_lookup.specs.Choice.{IfAmbiguous, IsLookupAnswer, NamesMeant}
 use Rattle.pod_lookup.specs.Looks.{OnlyLooksFor, lists_stages}
 use Rattle.pod_lookup.specs.Resolved.{AreTheLeast, Existed, FindsTheOne, IsChosen, IsNoneOf, IsSequential, IsShown}
-use Rattle.command_outcomes.specs.Conforming.{begun, shown_at}
+use Rattle.command_outcomes.specs.Conforming.{seen_at_begin, dir_at_moment}
 use Rattle.command_outcomes.specs.Moments.{DirSeen, dir_seen}
 use Rattle.commands.specs.Opening.{directly, looking, Looks}
 use Rattle.rkt_cli.specs.Lookups.{ComesToPod, FindsMeant, MeansNone, lookup_refusal}
@@ -36,8 +36,8 @@ module _ (observed : Bool) (word : List ℕ) (old new : DirAt) where
     local = only.local;
     looks = λ t. looks t (length word == 36) refl;
     knows = λ t intent k.
-        let x = only.known t (begun intent) (record { tied = k.tied; handles = k.handles }) in
-        let y : Knows new (begun intent) = subst (λ (s : Seen). Knows new s) (x.bare refl) x.knows in
+        let x = only.known t (seen_at_begin intent) (record { tied = k.tied; handles = k.handles }) in
+        let y : Knows new (seen_at_begin intent) = subst (λ (s : Seen). Knows new s) (x.bare refl) x.knows in
         record { tied = y.tied; handles = y.handles };
   }
     where
@@ -52,10 +52,10 @@ module _ (observed : Bool) (word : List ℕ) (old new : DirAt) where
       (record { begins = meant; whole = whole }, λ t. record { shown = λ part. let x = chosen part t in (x.pods, x.found, x.is); existed = λ part. existed part t; the_one = one t; quiet = quiet t })
 
   -- or to none
-  shown_so : {names : List (List ℕ)} {pod : PodId} → IsShown word names old new pod → IsShown word names (shown_at before) (shown_at after) pod
+  shown_so : {names : List (List ℕ)} {pod : PodId} → IsShown word names old new pod → IsShown word names (dir_at_moment before) (dir_at_moment after) pod
   shown_so x = record { meant = x.meant; among = x.among; shown = x.shown; existed = x.existed }
 
-  least_so : {a b : PodId} → AreTheLeast word a b old new → AreTheLeast word a b (shown_at before) (shown_at after)
+  least_so : {a b : PodId} → AreTheLeast word a b old new → AreTheLeast word a b (dir_at_moment before) (dir_at_moment after)
   least_so x = record { names = x.names; listed = x.listed; first = shown_so x.first; second = shown_so x.second; rise = x.rise; least = x.least }
 
   why : (error : LookError) → (IsErrOf {T = PodId} (Err error) lookup.DirFault → Rose old.faults new.faults) → (IsErrOf {T = PodId} (Err error) lookup.NoPod → observed ≡ true → IsNoneOf word old new) →
@@ -71,7 +71,7 @@ module _ (observed : Bool) (word : List ℕ) (old new : DirAt) where
 
   pub came_to_none : (error : LookError) (refusal : Refusal) → refusal ≡ lookup_refusal error → (IsErrOf {T = PodId} (Err error) lookup.DirFault → Rose old.faults new.faults) → (IsErrOf {T = PodId} (Err error) lookup.NoPod → observed ≡ true → IsNoneOf word old new) →
       IfAmbiguous (Err error) (λ a b. observed ≡ true → AreTheLeast word a b old new) → (length word ≡ 36 → IsOk {T = PodId} {E = LookError} (Err error)) → NamesMeant word (Err error) →
-      ((length word ≡ 36 → ⊥) → IsChoice (Err error) → observed ≡ true → IsChosen word (Err error) old new) → (IsChoice (Err error) → observed ≡ true → FindsTheOne word (Err error) old new) → (IsChoice (Err error) → observed ≡ true → IsSequential word (Err error) old new) →
+      ((length word ≡ 36 → ⊥) → IsLookupAnswer (Err error) → observed ≡ true → IsChosen word (Err error) old new) → (IsLookupAnswer (Err error) → observed ≡ true → FindsTheOne word (Err error) old new) → (IsLookupAnswer (Err error) → observed ≡ true → IsSequential word (Err error) old new) →
       FindsMeant word before after (Err refusal)
   came_to_none error refusal is cause none several whole names chosen one quiet = record {
     error = error;

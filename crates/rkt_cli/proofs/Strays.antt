@@ -8,7 +8,7 @@ use Rattle.dir_model.specs.declared.request.Request.{Request}
 use Rattle.dir_model.specs.declared.request.Request.TheVariants.{Finish}
 use Rattle.dir_model.specs.declared.request.Reply.TheVariants.{Done}
 use Rattle.dir_trait.specs.DirCalls.{DirAt}
-use Rattle.pod_build.specs.Causes.{IsRefused}
+use Rattle.pod_build.specs.Causes.{IsBuildRefused}
 use Rattle.pod_locks.specs.declared.owned.Owned.{Owned}
 use Rattle.spawner.specs.Calls.{SpawnerAt}
 use Rattle.commands.specs.AppsTold.{WithinProcess}
@@ -19,7 +19,7 @@ use Rattle.commands.specs.RunCommand.{RefusesNewRun}
 use Rattle.commands.specs.RunPrepared.{ClaimsAndRuns, IsUnclaimed}
 use Rattle.commands.specs.RunPreparedCommand.{RefusesRun}
 use Rattle.commands.specs.Wants.{Wants}
-use Rattle.rkt_cli.specs.Runs.{RunOfNothing}
+use Rattle.rkt_cli.specs.Runs.{RunsNoCommand}
 use Rattle.dir_model.specs.Calls.{Extends}
 use Rattle.dir_model.specs.Calls.{is_finish}
 use Rattle.dir_model.proofs.Chains.{step_extends}
@@ -40,25 +40,25 @@ use Rattle.command_outcomes.specs.declared.refusal.Refusal.TheVariants.{Usage, N
 use Rattle.command_outcomes.specs.Meanwhile.{Meanwhile}
 use Rattle.command_outcomes.specs.Moments.{Answer, DirSeen, Inside, Moment}
 use Rattle.commands.specs.Answers.{inside_in}
-use Rattle.command_outcomes.specs.Texts.{status_of}
+use Rattle.command_outcomes.specs.Texts.{exit_status_of}
 use Rattle.commands.specs.AppRuns.{RunSays}
 use Rattle.commands.specs.ImageImport.{import_refusal}
 use Rattle.commands.specs.Opening.{Approach, OnceFound}
-use Rattle.commands.specs.PrepareRefusals.{IsSaid}
+use Rattle.commands.specs.PrepareRefusals.{IsSaidOfBuild}
 use Rattle.commands.specs.RunRefusals.{claim_refusal, IsRunSaid}
 use Rattle.commands.specs.Strays.{ComesOfApp}
 use Rattle.commands.proofs.StrayAnswers.{built, build_stray, claim_stray, pod_never, run_stray}
 use Rattle.rkt_cli.specs.declared.line.Line.{Line}
 use Rattle.rkt_cli.specs.declared.line.Line.TheVariants as line
 use Rattle.rkt_cli.specs.Commands.{command_in, runs_apps}
-use Rattle.rkt_cli.specs.Lookups.{CameToNothing, NeverCame, OfPod, lookup_refusal}
+use Rattle.rkt_cli.specs.Lookups.{RefusedBeforeItsPod, NeverReachedItsPod, OfPod, lookup_refusal}
 use Rattle.rkt_cli.specs.Promises.{Ends, IsEnded, RefusedFor}
 use Rattle.rkt_cli.specs.Strays.{MeetsApp, StraysOfApps}
 use Rattle.rkt_cli.specs.Tasks.{Task, task_of}
 use Rattle.rkt_cli.specs.Tasks.{Status, PodList, CatManifest, Validate, ImageList, ImageImport, ImageRm, ImageGc, Prepare, RunPrepared, Run, Rm, Gc, Metadata, Demo}
 
 -- the one refusal with this status
-stray_only : (r : Refusal) → 20 ≡ status_of r → r ≡ Stray
+stray_only : (r : Refusal) → 20 ≡ exit_status_of r → r ≡ Stray
 stray_only Usage e = absurd (omega (arith, e))
 stray_only NoPod e = absurd (omega (arith, e))
 stray_only (Ambiguous first second) e = absurd (omega (arith, e))
@@ -181,8 +181,8 @@ module _ (now : ℕ) (draw : Draw) (status : ℕ) (old new : Moment) (told : old
           same : Stray ≡ u.is.0
           same = refused_same Stray u.is.0 u.is.1
 
-          said : IsSaid wants.images u.error u.is.0 → ⊥
-          said (inl s) = built now draw wants u.error (subst (λ (b : Bool). OfReferences wants.images (λ refs. IsRefused b refs wants.wishes draw now u.error r.why.came.from r.why.came.to)) seen u.cause) (build_stray wants.images u.error (same ∙ s)) part
+          said : IsSaidOfBuild wants.images u.error u.is.0 → ⊥
+          said (inl s) = built now draw wants u.error (subst (λ (b : Bool). OfReferences wants.images (λ refs. IsBuildRefused b refs wants.wishes draw now u.error r.why.came.from r.why.came.to)) seen u.cause) (build_stray wants.images u.error (same ∙ s)) part
           said (inr none) = let e : Stray ≡ NoMemory = same ∙ none in cc
 
       by : NewRunSays r.why.begun.observed old.spawner.observed wants address now draw r.why.came.from r.why.came.to old.spawner.shown new.spawner.shown (Err Stray) → ⊥
@@ -216,13 +216,13 @@ vain_stray (lookup.Ambiguous first second) is = cc
 vain_stray lookup.DirFault is = cc
 vain_stray lookup.NoMemory is = cc
 
-came_stray : (line : Line) (now : ℕ) (draw : Draw) (old new : Moment) (status : ℕ) → CameToNothing line now draw old new status → status ≡ 20 → ⊥
+came_stray : (line : Line) (now : ℕ) (draw : Draw) (old new : Moment) (status : ℕ) → RefusedBeforeItsPod line now draw old new status → status ≡ 20 → ⊥
 came_stray line now draw old new status c is = by c.why
   where
     same : c.refusal ≡ Stray
     same = stray_only c.refusal (sym is ∙ c.is)
 
-    by : NeverCame line now draw old.outside new.outside c.refusal → ⊥
+    by : NeverReachedItsPod line now draw old.outside new.outside c.refusal → ⊥
     by (inl none) = let e : Stray ≡ NoMemory = sym same ∙ none.0 in cc
     by (inr (inl none)) = let e : Stray ≡ NoMemory = sym same ∙ none.2 in cc
     by (inr (inr x)) = vain_stray x.4.vain.error (sym same ∙ x.4.vain.is)
@@ -230,11 +230,11 @@ came_stray line now draw old new status c is = by c.why
 pub strays : (now : ℕ) (draw : Draw) (old new : Moment) (status : ℕ) (line : Option Line) → old.outside.dir.observed ≡ true → IsEnded line now draw status old new → StraysOfApps line status old.outside.dir new.outside.dir
 strays now draw old new status None told e conforming is = by e
   where
-    by : RunOfNothing Usage old new status ⊎ RunOfNothing NoMemory old new status → ⊥
+    by : RunsNoCommand Usage old new status ⊎ RunsNoCommand NoMemory old new status → ⊥
     by (inl x) = let n : 20 ≡ 1 = sym is ∙ x.is in absurd (omega (arith, n))
     by (inr x) = let n : 20 ≡ 14 = sym is ∙ x.is in absurd (omega (arith, n))
 strays now draw old new status (Some line) told e conforming is = by e
   where
-    by : OfPod line draw (λ task. Ends task now draw status old new) ⊎ CameToNothing line now draw old new status → MeetsApp (Some line) old.outside.dir new.outside.dir
+    by : OfPod line draw (λ task. Ends task now draw status old new) ⊎ RefusedBeforeItsPod line now draw old new status → MeetsApp (Some line) old.outside.dir new.outside.dir
     by (inl x) = meets now draw status old new told conforming is line x.0 x.2
     by (inr c) = absurd (came_stray line now draw old new status c is)

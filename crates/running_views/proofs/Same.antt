@@ -13,7 +13,7 @@ use Rattle.listener.specs.Connections.{Connection, ListenerAt}
 use Rattle.phase_read.specs.declared.found.Found.{Found}
 use Rattle.phase_read.specs.Read.{pod_spot}
 use Rattle.phase_read.specs.Sequential.{or_in, sequential_read}
-use Rattle.pod_files.specs.Places.{pod_file, manifest_name, token_name}
+use Rattle.pod_files.specs.Places.{pod_file, pod_manifest_name, token_name}
 use Rattle.pod_report.proofs.QuietSurvey.{SameWorld}
 use Rattle.metadata_request.specs.declared.request.Request.{Request}
 use Rattle.metadata_reply.specs.declared.reply.Reply.{Reply}
@@ -72,7 +72,7 @@ view_same x pod digits v is = record {
   token = sym (x.files (pod_file pod token_name)) ∙ is.token;
   runs = sym (x.phases pod) ∙ is.runs;
   uuid = is.uuid;
-  manifest = record { bytes = is.manifest.bytes; there = sym (x.files (pod_file pod manifest_name)) ∙ is.manifest.there; is = is.manifest.is };
+  manifest = record { bytes = is.manifest.bytes; there = sym (x.files (pod_file pod pod_manifest_name)) ∙ is.manifest.there; is = is.manifest.is };
   images = images_same x pod (app_names v.manifest) v.images is.images;
 }
 

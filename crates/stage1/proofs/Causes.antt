@@ -11,7 +11,7 @@ use Rattle.dir_model.specs.Causes.{Rose}
 use Rattle.dir_model.specs.Replies.{is_fault}
 use Rattle.dir_trait.specs.DirCalls.{DirAt}
 use Rattle.dir_trait.specs.Effects.{OnlyAsks}
-use Rattle.folder_building.specs.Work.{is_stray}
+use Rattle.folder_building.specs.Work.{is_stray_building}
 use Rattle.spawner.specs.declared.call.SpawnError.{SpawnError}
 use Rattle.spawner.specs.declared.call.SpawnError.TheVariants as spawn
 use Rattle.spawner.specs.Calls.{SpawnerAt}
@@ -26,16 +26,16 @@ pub rose_before : (a b c : ℕ) → Rose a b → b ≤ c → Rose a c
 rose_before a b c ab bc = omega (arith, ab, bc)
 
 -- one call
-stray_now : (me : ℕ) (old new : List Event) (request : Request) (reply : Reply) → is_stray request reply ≡ true → CallStep me old request reply new → WasStrayIn me old new
+stray_now : (me : ℕ) (old new : List Event) (request : Request) (reply : Reply) → is_stray_building request reply ≡ true → CallStep me old request reply new → WasStrayIn me old new
 stray_now me old new request reply stray step = record { before = old; after = new; earlier = []; later = []; request = request; reply = reply; stray = stray; begins = sym (append-nil old); step = step; ends = sym (append-nil new) }
 
-pub note_cause : {observed : Bool} (old new : DirAt) (request : Request) (reply : Reply) (e : DirError) → (is_fault e ≡ false → is_stray request reply ≡ true) → (e ≡ dir.Failed → Rose old.faults new.faults) → (observed ≡ true → CallStep old.process old.trace request reply new.trace) → NoteCause observed (change_fault e) old new
+pub note_cause : {observed : Bool} (old new : DirAt) (request : Request) (reply : Reply) (e : DirError) → (is_fault e ≡ false → is_stray_building request reply ≡ true) → (e ≡ dir.Failed → Rose old.faults new.faults) → (observed ≡ true → CallStep old.process old.trace request reply new.trace) → NoteCause observed (change_fault e) old new
 note_cause old new request reply dir.Failed stray rose step = rose refl
 note_cause old new request reply dir.NoMemory stray rose step = tt
 note_cause old new request reply e stray rose step = λ t. stray_now old.process old.trace new.trace request reply (stray refl) (step t)
 
 -- an append, with the bytes that it left
-pub note_cause_at : {observed : Bool} (old new : DirAt) (request : Request) (e : DirError) → ((left : ℕ) → is_fault e ≡ false → is_stray request (Refused e left) ≡ true) → (e ≡ dir.Failed → Rose old.faults new.faults) → (observed ≡ true → PartialStep old.process old.trace request (λ left. Refused e left) new.trace) → NoteCause observed (change_fault e) old new
+pub note_cause_at : {observed : Bool} (old new : DirAt) (request : Request) (e : DirError) → ((left : ℕ) → is_fault e ≡ false → is_stray_building request (Refused e left) ≡ true) → (e ≡ dir.Failed → Rose old.faults new.faults) → (observed ≡ true → PartialStep old.process old.trace request (λ left. Refused e left) new.trace) → NoteCause observed (change_fault e) old new
 note_cause_at old new request dir.Failed stray rose step = rose refl
 note_cause_at old new request dir.NoMemory stray rose step = tt
 note_cause_at old new request e stray rose step = λ t. stray_now old.process old.trace new.trace request (Refused e (step t).left) (stray (step t).left refl) (step t).step

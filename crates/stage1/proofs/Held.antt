@@ -17,8 +17,8 @@ use Rattle.spawner.specs.Conditions.{StillRuns}
 use Rattle.stage1.specs.declared.load_error.LoadError.{LoadError}
 use Rattle.stage1.specs.declared.load_error.LoadError.TheVariants as load
 use Rattle.stage1.specs.declared.start.AppStart.{AppStart}
-use Rattle.stage1.specs.AppPlaces.{run_spot}
 use Rattle.pod_files.specs.Looks.{reads_pod, OnlyReadsPod}
+use Rattle.pod_files.specs.Places.{run_spot}
 use Rattle.stage1.specs.Starts.{IsPlacedIn, ReadsStarts}
 use Rattle.stage1.specs.LoadRefusals.{LoadCause}
 use Rattle.stage1.specs.declared.error.RunError.{RunError}
@@ -27,7 +27,7 @@ use Rattle.stage1.specs.Cutting.{IsCutShort}
 use Rattle.stage1.specs.Notes.{anything, notes_at}
 use Rattle.stage1.specs.Beginnings.{IsInRun, AreAt, RunsEach}
 use Rattle.stage1.specs.Refusals.{load_refusal, WasStrayIn}
-use Rattle.stage1.specs.Runs.{runs_pod, StopCause, RefusedFor, is_early, IsRefusedRun}
+use Rattle.stage1.specs.Runs.{runs_pod, StopCause, RunRefusedFor, is_early, IsRefusedRun}
 use Rattle.stage1.proofs.Asked.{asks_none}
 use Rattle.stage1.proofs.Causes.{rose_after, stray_after}
 use Rattle.stage1.proofs.Starting.{loads, only_reads}
@@ -55,7 +55,7 @@ pub worked_runs : {observed : Bool} {a b c : DirAt} (pod : PodId) → OnlyReadsP
 worked_runs pod o w = worked_more (worked_reads pod o) (worked_wider (in_second (reads_pod pod) (notes_at (run_spot pod))) w)
 
 -- the run of apps that were read stopped
-stop_wider : {seen : Bool} (pod : PodId) (e : RunError) (d mid new : DirAt) (s s' : SpawnerAt) → OnlyReadsPod seen pod d mid → StopCause seen e mid new s s' → RefusedFor seen pod e d new s s'
+stop_wider : {seen : Bool} (pod : PodId) (e : RunError) (d mid new : DirAt) (s s' : SpawnerAt) → OnlyReadsPod seen pod d mid → StopCause seen e mid new s s' → RunRefusedFor seen pod e d new s s'
 stop_wider pod NoManifest d mid new s s' o is = absurd is
 stop_wider pod (Damaged path) d mid new s s' o is = absurd is
 stop_wider pod (NoProgram app word) d mid new s s' o is = absurd is
@@ -81,7 +81,7 @@ refused_run {seen} {observed} pod address starts e d mid new s s' o more read is
 }
 
 -- nothing was started
-load_cause : {seen : Bool} (pod : PodId) (e : LoadError) (d new : DirAt) (s : SpawnerAt) → (e ≡ load.DirFault → Rose d.faults new.faults) → (seen ≡ true → LoadCause pod e d new) → RefusedFor seen pod (load_refusal e) d new s s
+load_cause : {seen : Bool} (pod : PodId) (e : LoadError) (d new : DirAt) (s : SpawnerAt) → (e ≡ load.DirFault → Rose d.faults new.faults) → (seen ≡ true → LoadCause pod e d new) → RunRefusedFor seen pod (load_refusal e) d new s s
 load_cause pod load.NoManifest d new s rose lacks = lacks
 load_cause pod (load.Damaged path) d new s rose lacks = lacks
 load_cause pod (load.NoProgram app word) d new s rose lacks = lacks

@@ -19,7 +19,7 @@ use Rattle.dir_rules.specs.declared.standing.Standing.{Standing}
 use Rattle.dir_rules.specs.Conforms.{seen_replied}
 use Rattle.dir_rules.specs.LockRules.{on_spot}
 use Rattle.dir_rules.specs.Seen.{inner_eq}
-use Rattle.dir_rules.specs.Standing.{is_in, is_of, holds_own, last_of, standing_replied}
+use Rattle.dir_rules.specs.Standing.{is_in, is_spot_of_pod, holds_own, last_move_of, standing_replied}
 use Rattle.dir_rules.proofs.Looks.{same_bytes}
 use Rattle.folder_building.specs.Making.{inner_at}
 use Rattle.dir_trait.specs.DirCalls.{DirAt, DirCall}
@@ -29,7 +29,7 @@ use Rattle.folder_building.proofs.Working.{append_call, worked_wider}
 use Rattle.spawner.specs.declared.call.RootPlace.{RootPlace}
 use Rattle.spawner.specs.Conditions.{start_mark, did, MarkSynced, StillRuns}
 use Rattle.spawner.proofs.Marking.{mark_kept, mark_synced}
-use Rattle.stage1.specs.Notes.{IsPlaced, status_path, status_text, mark_inner, status_inner, makes_own_mark, makes_status, writes_status, syncs_status, DidInTurn, MadeMark, WroteStatus, anything, StaysAble, MadeFile, Appended, Synced}
+use Rattle.stage1.specs.Notes.{IsRootInRun, status_path, status_text, mark_inner, status_inner, makes_own_mark, makes_status, writes_status, syncs_status, DidInTurn, MadeMark, WroteStatus, anything, StaysAble, MadeFile, Appended, Synced}
 
 -- what was done in turn was so whatever comes later
 did_kept : (me : ℕ) (asks : List (Request → Bool)) (trace more : List Event) → DidInTurn me asks trace → DidInTurn me asks (trace ++ more)
@@ -91,7 +91,7 @@ runs_call {observed} {old} {new} {request} {reply} t begins alive stand keep c n
   active = subst IsActive (sym (c.local ∙ keep)) r.active;
   seen = seen_replied r.seen request reply;
   knows = knows_call t r.knows begins alive c;
-  runs = ap (λ (s : Standing). holds_own name s && on_spot (λ spot. is_in Run spot.area) (last_of name s.moves)) (stand r.seen.standing) ∙ r.runs;
+  runs = ap (λ (s : Standing). holds_own name s && on_spot (λ spot. is_in Run spot.area) (last_move_of name s.moves)) (stand r.seen.standing) ∙ r.runs;
 }
 
 pub stays_call : {observed : Bool} {old new : DirAt} {request : Request} {reply : Reply} → observed ≡ true → is_begin request ≡ false → is_kill request ≡ false → ((s : Standing) → standing_replied s request reply ≡ s) → local_replied old.local request reply ≡ old.local → DirCall observed old request reply new → StaysAble old new
@@ -109,14 +109,14 @@ pub worked_any : {observed : Bool} {asks : Request → Bool} {old new : DirAt} �
 worked_any w = worked_wider (λ r h. refl) w
 
 -- the mark
-of_self : (root : RootPlace) → IsPlaced root → is_of root.spot.name root.spot ≡ true
+of_self : (root : RootPlace) → IsRootInRun root → is_spot_of_pod root.spot.name root.spot ≡ true
 of_self root placed = and_both (is_stage root.spot.area) (bytes_eq root.spot.name root.spot.name) (ap is_stage placed.area) (same_bytes root.spot.name)
 
-pub marked : {observed : Bool} {a b c : DirAt} (root : RootPlace) → observed ≡ true → IsPlaced root → MadeFile observed root.spot (start_mark root.app) a b → Synced observed root.spot [] b c → MarkSynced c.process c.trace root
+pub marked : {observed : Bool} {a b c : DirAt} (root : RootPlace) → observed ≡ true → IsRootInRun root → MadeFile observed root.spot (start_mark root.app) a b → Synced observed root.spot [] b c → MarkSynced c.process c.trace root
 marked root t placed made synced =
     mark_synced root (inner_at root.spot (start_mark root.app)) (inner_at root.spot []) t made synced
-    (and_both (is_of root.spot.name root.spot) (bytes_eq (start_mark root.app) (start_mark root.app)) (of_self root placed) (same_bytes (start_mark root.app)))
-    (and_both (is_of root.spot.name root.spot) true (of_self root placed) refl)
+    (and_both (is_spot_of_pod root.spot.name root.spot) (bytes_eq (start_mark root.app) (start_mark root.app)) (of_self root placed) (same_bytes (start_mark root.app)))
+    (and_both (is_spot_of_pod root.spot.name root.spot) true (of_self root placed) refl)
 
 pub made_mark : {observed : Bool} {a b c : DirAt} (root : RootPlace) → observed ≡ true → MadeFile observed root.spot (start_mark root.app) a b → Synced observed root.spot [] b c → MadeMark root c
 made_mark {observed} {a} {b} {c} root t made synced =

@@ -26,7 +26,7 @@ use Rattle.stage1.specs.declared.stand.Stand.TheVariants.{Running, Ended}
 use Rattle.stage1.specs.Notes.{mark_inner, status_inner}
 
 -- this was asked of the directory, whatever it answered
-pub record Called (observed : Bool) (request : Request) (old new : DirAt) : Type 0 where
+pub record CallsDirectory (observed : Bool) (request : Request) (old new : DirAt) : Type 0 where
   pub reply : Reply
   pub called : DirCall observed old request reply new
 
@@ -36,12 +36,12 @@ once true = 1
 once false = 0
 
 -- how often a file was made there, as far as a process knows
-abbrev pub noted : Seen → Inner → ℕ
-noted s inner = once (has_note s inner)
+abbrev pub note_count : Seen → Inner → ℕ
+note_count s inner = once (has_note s inner)
 
 -- a file may be made so often, and the process runs its pod
 pub record MayNote (times : Inner → ℕ) (s : Seen) : Type 0 where
-  pub once_all : (inner : Inner) → times inner + noted s inner ≤ 1
+  pub once_all : (inner : Inner) → times inner + note_count s inner ≤ 1
   pub runs_it : (inner : Inner) → 1 ≤ times inner → runs s inner.spot.name ≡ true
   pub spares_it : (inner : Inner) → 1 ≤ times inner → deletes s inner.spot.name ≡ false
 
@@ -49,7 +49,7 @@ pub record MayNote (times : Inner → ℕ) (s : Seen) : Type 0 where
 pub record Noted (times : Inner → ℕ) (s new : Seen) : Type 0 where
   pub stands : new.standing ≡ s.standing
   pub kept : new.kept ≡ s.kept
-  pub made : (inner : Inner) → noted new inner ≤ noted s inner + times inner
+  pub made : (inner : Inner) → note_count new inner ≤ note_count s inner + times inner
 
 -- what the process knows, after notes were made so many times at each place
 pub record KnowsNoted (times : Inner → ℕ) (s : Seen) (new : DirAt) : Type 0 where
@@ -63,19 +63,19 @@ appends_to inner (AppendIn file piece) = inner_eq inner file
 appends_to inner _ = false
 
 -- the event is an own append to this file
-abbrev pub is_append : ℕ → Inner → Event → Bool
-is_append me inner e = not (is_foreign me e) && appends_to inner e.request
+abbrev pub is_own_append : ℕ → Inner → Event → Bool
+is_own_append me inner e = not (is_foreign me e) && appends_to inner e.request
 
 -- how many own appends to the file there were
 abbrev pub appends : DirAt → Inner → ℕ
-appends d inner = length (filter (is_append d.process inner) d.trace)
+appends d inner = length (filter (is_own_append d.process inner) d.trace)
 
 -- to each file at most once
 abbrev pub AppendsOnce : DirAt → DirAt → Type 0
 AppendsOnce old new = (inner : Inner) → appends new inner ≤ appends old inner + 1
 
 -- files were made at most so often, and appended to; where that may be, each request was allowed
-pub record Keeps (times : Inner → ℕ) (old new : DirAt) : Type 0 where
+pub record NotesAtMost (times : Inner → ℕ) (old new : DirAt) : Type 0 where
   pub few : (inner : Inner) → appends new inner ≤ appends old inner + times inner
   pub keep : (s : Seen) → Knows old s → MayNote times s → KnowsNoted times s new
 
@@ -129,7 +129,7 @@ all_times [] inner = 0
 all_times (app ∷ apps) inner = app_times app inner + all_times apps inner
 
 -- by what it knows, the process runs the pod, deletes nothing of it, and has made no file in it
-pub record IsFresh (pod : PodId) (s : Seen) : Type 0 where
+pub record RunsWithoutNotes (pod : PodId) (s : Seen) : Type 0 where
   pub runs_it : runs s (pod_text pod.bytes) ≡ true
   pub spares_it : deletes s (pod_text pod.bytes) ≡ false
   pub none : list_any (λ n. bytes_eq n.spot.name (pod_text pod.bytes)) s.notes ≡ false
@@ -142,8 +142,8 @@ pub record KeepsOn (s : Seen) (new : DirAt) : Type 0 where
   pub knows : Knows new known
 
 -- a process that has noted nothing in this pod keeps the rules
-abbrev pub KeepsRules : PodId → DirAt → DirAt → Type 0
-KeepsRules pod old new = (s : Seen) → Knows old s → IsFresh pod s → KeepsOn s new
+abbrev pub RunnerKeepsRules : PodId → DirAt → DirAt → Type 0
+RunnerKeepsRules pod old new = (s : Seen) → Knows old s → RunsWithoutNotes pod s → KeepsOn s new
 
 -- and then it has given the handle up
 pub record KeepsClosed (own : Handle) (s : Seen) (new : DirAt) : Type 0 where
@@ -154,4 +154,4 @@ pub record KeepsClosed (own : Handle) (s : Seen) (new : DirAt) : Type 0 where
 
 -- and so it does up to the close of the handle by which it holds the pod
 abbrev pub KeepsToEnd : PodId → Handle → DirAt → DirAt → Type 0
-KeepsToEnd pod own old new = (s : Seen) → Knows old s → IsFresh pod s → may_close s.standing own ≡ true → KeepsClosed own s new
+KeepsToEnd pod own old new = (s : Seen) → Knows old s → RunsWithoutNotes pod s → may_close s.standing own ≡ true → KeepsClosed own s new

@@ -46,7 +46,7 @@ abbrev pub Synced : Bool → Spot → List ℕ → DirAt → DirAt → Type 0
 Synced observed spot path old new = DirCall observed old (SyncIn (inner_at spot path)) Done new
 
 -- it is the root of an app of a pod in run
-pub record IsPlaced (root : RootPlace) : Type 0 where
+pub record IsRootInRun (root : RootPlace) : Type 0 where
   pub area : root.spot.area ≡ Run
   pub named : IsAcName root.app
 

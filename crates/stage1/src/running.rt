@@ -6,11 +6,11 @@ ghost use Rattle.dir_model.specs.Local.{IsActive, IsOpen, without};
 ghost use Rattle.lifecycle.specs.Executions.{IsConforming};
 ghost use Rattle.pod_locks.specs.Running.{RunsPod};
 ghost use Rattle.stage1.specs.Notes.{anything, notes_at, StaysAble};
-ghost use Rattle.stage1.specs.Beginnings.{IsInRun, AreAt, RunsEach, AreMarked, AreStartedIn, AreWritten};
+ghost use Rattle.stage1.specs.Beginnings.{IsInRun, AreAt, RunsEach, AreMarked, AreStartedIn, AreStatusesWritten};
 ghost use Rattle.stage1.specs.Cutting.{IsCutShort};
 ghost use Rattle.stage1.specs.Endings.{HaveEnded, AreEndsBroken};
 ghost use Rattle.stage1.specs.Refusals.{RunCause};
-ghost use Rattle.stage1.specs.Keeping.{Keeps, all_end_times, all_times, KeepsRules, KeepsToEnd};
+ghost use Rattle.stage1.specs.Keeping.{NotesAtMost, all_end_times, all_times, RunnerKeepsRules, KeepsToEnd};
 ghost use Rattle.stage1.specs.Runs.{StopCause, end_of, runs_pod, runs_and_closes, HaveRun, AreWrittenAll, AreEnds, HasRunStarts, HasRunHeld, HasRun, IsRefusedRun};
 ghost use Rattle.dir_trait.specs.Effects.{OnlyAsks, LeavesOpen};
 
@@ -38,7 +38,7 @@ fn end_all<D: Dir, S: Spawner>(
     requires each { length apps.now ≡ length stands.now }
     requires may { D.observed ≡ true → AreMarked (D.shown dir.old) apps.now }
     requires started { S.observed ≡ true → AreStartedIn (S.shown spawner.old).calls apps.now stands.now }
-    requires wrote { D.observed ≡ true → AreWritten (D.shown dir.old) apps.now stands.now }
+    requires wrote { D.observed ≡ true → AreStatusesWritten (D.shown dir.old) apps.now stands.now }
     ensures went { OnlyAsks D.observed anything (D.shown dir.old) (D.shown dir.new) }
     ensures worked { (spot : Spot) → AreAt spot apps.now → OnlyAsks D.observed (notes_at spot) (D.shown dir.old) (D.shown dir.new) }
     ensures stays { D.observed ≡ true → StaysAble (D.shown dir.old) (D.shown dir.new) }
@@ -46,7 +46,7 @@ fn end_all<D: Dir, S: Spawner>(
     ensures ended { IfOk result (λ statuses. HaveEnded S.observed apps.now stands.now statuses.items (S.shown spawner.old) (S.shown spawner.new)) }
     ensures broken { IfErr result (λ f. AreEndsBroken S.observed apps.now stands.now (S.shown spawner.old) (S.shown spawner.new)) }
     ensures wrote { IfOk result (λ statuses. D.observed ≡ true → AreWrittenAll (D.shown dir.new) apps.now statuses.items) }
-    ensures keeps { D.observed ≡ true → Keeps (all_end_times apps.now stands.now) (D.shown dir.old) (D.shown dir.new) }
+    ensures keeps { D.observed ≡ true → NotesAtMost (all_end_times apps.now stands.now) (D.shown dir.old) (D.shown dir.new) }
 {
     match end_apps(alloc, dir, spawner, apps, stands) {
         Ok(statuses) => Ok(statuses),
@@ -81,7 +81,7 @@ fn run_apps<D: Dir, S: Spawner>(
     ensures cut { IfErr result (λ f. IsCutShort S.observed apps.now (S.shown spawner.old) (S.shown spawner.new)) }
     ensures marked { IfOk result (λ statuses. D.observed ≡ true → AreMarked (D.shown dir.new) apps.now) }
     ensures wrote { IfOk result (λ statuses. D.observed ≡ true → AreWrittenAll (D.shown dir.new) apps.now statuses.items) }
-    ensures keeps { D.observed ≡ true → Keeps (all_times apps.now) (D.shown dir.old) (D.shown dir.new) }
+    ensures keeps { D.observed ≡ true → NotesAtMost (all_times apps.now) (D.shown dir.old) (D.shown dir.new) }
 {
     let mut stands = room_for(alloc, apps.len())?;
     match begin_apps(alloc, dir, spawner, apps, &mut stands) {
@@ -134,7 +134,7 @@ fn run_starts<D: Dir, S: Spawner>(
     ensures ran { IfOk result (λ ends. HasRunStarts D.observed S.observed apps.now ends.items (D.shown dir.new) (S.shown spawner.old) (S.shown spawner.new)) }
     ensures cut { IfErr result (λ e. IsCutShort S.observed apps.now (S.shown spawner.old) (S.shown spawner.new)) }
     ensures cause { IfErr result (λ e. StopCause D.observed e (D.shown dir.old) (D.shown dir.new) (S.shown spawner.old) (S.shown spawner.new)) }
-    ensures keeps { D.observed ≡ true → Keeps (all_times apps.now) (D.shown dir.old) (D.shown dir.new) }
+    ensures keeps { D.observed ≡ true → NotesAtMost (all_times apps.now) (D.shown dir.old) (D.shown dir.new) }
 {
     match run_apps(alloc, dir, spawner, apps) {
         Ok(statuses) => ends_of(alloc, apps, &statuses),
@@ -155,7 +155,7 @@ fn run_held<D: Dir, S: Spawner>(
     ensures worked { OnlyAsks D.observed (runs_pod pod) (D.shown dir.old) (D.shown dir.new) }
     ensures ran { IfOk result (λ ends. HasRunHeld D.observed S.observed pod address.now ends.items (D.shown dir.old) (D.shown dir.new) (S.shown spawner.old) (S.shown spawner.new)) }
     ensures refused { IfErr result (λ e. IsRefusedRun D.observed S.observed pod address.now e (D.shown dir.old) (D.shown dir.new) (S.shown spawner.old) (S.shown spawner.new)) }
-    ensures keeps { D.observed ≡ true → KeepsRules pod (D.shown dir.old) (D.shown dir.new) }
+    ensures keeps { D.observed ≡ true → RunnerKeepsRules pod (D.shown dir.old) (D.shown dir.new) }
 {
     match pod_launches(alloc, dir, pod, address) {
         Ok(apps) => run_starts(alloc, dir, spawner, &apps),

@@ -23,7 +23,7 @@ use Rattle.dir_files.specs.Reads.{file_at}
 use Rattle.image_reading.specs.Places.{image_spot, image_inner, manifest_name, id_name, IsPresent}
 use Rattle.image_reading.specs.Files.{IsIdOf}
 use Rattle.image_reading.specs.Store.{keys}
-use Rattle.standing_images.specs.Images.{HasFile, HasMark, StandsSo, StandTogether, AreAll, KeysRise, AreStore}
+use Rattle.standing_images.specs.Images.{HasFile, HasMark, StandsWithItsFiles, StandTogether, AreAll, KeysRise, AreStore}
 use Rattle.standing_images.proofs.Members.{contains_none, contains_first, contains_more, contains_cases}
 
 -- one image
@@ -41,7 +41,7 @@ same_texts k j a b bytes x y =
     let same : a.bytes ≡ b.bytes = cc in
     ap (λ (l : List ℕ). let i : ImageId = record { bytes = l } in i) same
 
-module _ (s : DirState) (a b : Stored) (x : StandsSo a s) (y : StandsSo b s) (same : a.key ≡ b.key) where
+module _ (s : DirState) (a b : Stored) (x : StandsWithItsFiles a s) (y : StandsWithItsFiles b s) (same : a.key ≡ b.key) where
   same_folder : x.folder ≡ y.folder
   same_folder =
       let e : Some x.folder ≡ Some y.folder = sym x.here ∙ (ap (λ (k : StoreKey). folder_at s.namespace (image_spot k)) same ∙ y.here) in

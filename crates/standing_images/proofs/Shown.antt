@@ -16,17 +16,17 @@ use Rattle.dir_files.specs.Reads.{inner_at}
 use Rattle.dir_files.specs.Listed.{ShowsInside, ShowsDirectory}
 use Rattle.lifecycle.proofs.Places.{name_same, same_name}
 use Rattle.folder_contents.specs.Entries.{entries_in}
-use Rattle.gate_reading.specs.Listings.{has_direct, item_of, has_direct_item}
+use Rattle.gate_reading.specs.Listings.{has_direct, shown_item_of, has_direct_item}
 use Rattle.gate_reading.proofs.DirectItems.{named_direct, item_direct}
 use Rattle.gate_reading.proofs.Listed.{throughout, sometime}
 use Rattle.gate_reading.proofs.ImageItems.{same_test}
 
-any_named : (item : Item) (es : List Entry) → list_any (λ e. is_item item (item_of e)) es ≡ true → list_any (λ e. bytes_eq e.path item.name) es ≡ true
+any_named : (item : Item) (es : List Entry) → list_any (λ e. is_item item (shown_item_of e)) es ≡ true → list_any (λ e. bytes_eq e.path item.name) es ≡ true
 any_named item [] h = cc
-any_named item (e ∷ es) h = by (is_item item (item_of e)) refl h (λ l. any_named item es l)
+any_named item (e ∷ es) h = by (is_item item (shown_item_of e)) refl h (λ l. any_named item es l)
   where
-    by : (b : Bool) → is_item item (item_of e) ≡ b → (b || list_any (λ x. is_item item (item_of x)) es) ≡ true →
-        (list_any (λ x. is_item item (item_of x)) es ≡ true → list_any (λ x. bytes_eq x.path item.name) es ≡ true) →
+    by : (b : Bool) → is_item item (shown_item_of e) ≡ b → (b || list_any (λ x. is_item item (shown_item_of x)) es) ≡ true →
+        (list_any (λ x. is_item item (shown_item_of x)) es ≡ true → list_any (λ x. bytes_eq x.path item.name) es ≡ true) →
         (bytes_eq e.path item.name || list_any (λ x. bytes_eq x.path item.name) es) ≡ true
     by true is h go = ap (λ c. c || list_any (λ x. bytes_eq x.path item.name) es) (and_left (bytes_eq e.path item.name) _ is)
     by false is h go = or_last (bytes_eq e.path item.name) (list_any (λ x. bytes_eq x.path item.name) es) (go h)
@@ -35,8 +35,8 @@ any_named item (e ∷ es) h = by (is_item item (item_of e)) refl h (λ l. any_na
 item_named : (es : List Entry) (item : Item) → has_direct_item es item ≡ true → has_direct es item.name ≡ true
 item_named es item h =
     and_both (is_file_name item.name) (list_any (λ e. bytes_eq e.path item.name) es)
-    (and_left (is_file_name item.name) (list_any (λ e. is_item item (item_of e)) es) h)
-    (any_named item es (and_right (is_file_name item.name) (list_any (λ e. is_item item (item_of e)) es) h))
+    (and_left (is_file_name item.name) (list_any (λ e. is_item item (shown_item_of e)) es) h)
+    (any_named item es (and_right (is_file_name item.name) (list_any (λ e. is_item item (shown_item_of e)) es) h))
 
 -- a name that is shown is some item's
 shown_so : (P : List ℕ → Type 0) (items : List Item) → ((item : Item) → has_item items item ≡ true → P item.name) → (name : List ℕ) →

@@ -1,8 +1,8 @@
 use Rattle.std.proofs.Common.{◌≡◌, true, false}
 use Rattle.folder_building.specs.Sources.{IsLike, LikeContent}
 use Rattle.folder_building.specs.Stored.{WasLike, HadContent}
-use Rattle.folder_building.specs.Making.{Adds}
-use Rattle.folder_building.specs.Changes.{Makes, Gives, Takes}
+use Rattle.folder_building.specs.Making.{AddsPlanEntry}
+use Rattle.folder_building.specs.Changes.{Makes, MakesGivenFile, MakesCopiedFile}
 use Rattle.folder_building.proofs.Copying.{worked_here, stray_here, ok_more, ok_any}
 use Rattle.folder_building.proofs.Filling.{dir_adds, given_adds, copied_adds, adds_as}
 use Rattle.folder_building.proofs.build.add.Goals as goal
@@ -20,7 +20,7 @@ returns-in-Directory-clause-done g c =
     let spot = c.args.spot.now in
     let old = D.shown c.args.dir.now in
     let new = D.shown c.make_dir.new.dir in
-    ok_more (λ done. D.observed ≡ true → Makes spot e.path false old new) (λ done. Adds D.observed (g.S.Source.shown c.args.source.now) spot e old new) c.make_dir.result (λ done f. adds_as e c.in-Directory.is (dir_adds f)) (rw c.as_str-path.ensures at c.make_dir.ensures.done)
+    ok_more (λ done. D.observed ≡ true → Makes spot e.path false old new) (λ done. AddsPlanEntry D.observed (g.S.Source.shown c.args.source.now) spot e old new) c.make_dir.result (λ done f. adds_as e c.in-Directory.is (dir_adds f)) (rw c.as_str-path.ensures at c.make_dir.ensures.done)
 
 pub returns-in-Given-clause-worked : goal.returns-in-Given-clause-worked
 returns-in-Given-clause-worked g c = worked_here c.args.spot.now (g.S.Source.shown c.args.source.now) c.add_given.ensures.worked
@@ -35,7 +35,7 @@ returns-in-Given-clause-done g c =
     let spot = c.args.spot.now in
     let old = D.shown c.args.dir.now in
     let new = D.shown c.add_given.new.dir in
-    ok_more (λ done. Gives D.observed spot e.path c.in-Given.bytes old new) (λ done. Adds D.observed (g.S.Source.shown c.args.source.now) spot e old new) c.add_given.result (λ done f. adds_as e c.in-Given.is (given_adds f)) (rw (c.as_str-path.ensures, c.as_slice.ensures) at c.add_given.ensures.done)
+    ok_more (λ done. MakesGivenFile D.observed spot e.path c.in-Given.bytes old new) (λ done. AddsPlanEntry D.observed (g.S.Source.shown c.args.source.now) spot e old new) c.add_given.result (λ done f. adds_as e c.in-Given.is (given_adds f)) (rw (c.as_str-path.ensures, c.as_slice.ensures) at c.add_given.ensures.done)
 
 pub returns-in-Copied-clause-done : goal.returns-in-Copied-clause-done
 returns-in-Copied-clause-done g c =
@@ -45,7 +45,7 @@ returns-in-Copied-clause-done g c =
     let spot = c.args.spot.now in
     let old = D.shown c.args.dir.now in
     let new = D.shown c.add_copied.new.dir in
-    ok_more (λ done. Takes D.observed (S.shown c.args.source.now) spot e.path c.in-Copied.size c.in-Copied.sha old new) (λ done. Adds D.observed (S.shown c.args.source.now) spot e old new) c.add_copied.result (λ done f. adds_as e c.in-Copied.is (copied_adds f)) (rw c.as_str-path.ensures at c.add_copied.ensures.done)
+    ok_more (λ done. MakesCopiedFile D.observed (S.shown c.args.source.now) spot e.path c.in-Copied.size c.in-Copied.sha old new) (λ done. AddsPlanEntry D.observed (S.shown c.args.source.now) spot e old new) c.add_copied.result (λ done f. adds_as e c.in-Copied.is (copied_adds f)) (rw c.as_str-path.ensures at c.add_copied.ensures.done)
 
 pub returns-in-Copied-clause-unlike : goal.returns-in-Copied-clause-unlike
 returns-in-Copied-clause-unlike g c n h =

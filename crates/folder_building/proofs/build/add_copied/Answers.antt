@@ -2,7 +2,7 @@ use Rattle.std.proofs.Common.{◌≡◌, true, IsErrOf, rules}
 use Rattle.folder_building.specs.declared.error.BuildError.TheVariants.{Stray}
 use Rattle.folder_building.specs.Stored.{WasLike}
 use Rattle.folder_building.specs.Making.{Copies, SpoilsUnder}
-use Rattle.folder_building.specs.Changes.{Takes, TriesUnder}
+use Rattle.folder_building.specs.Changes.{MakesCopiedFile, TriesCopiedFile}
 use Rattle.folder_building.proofs.Working.{worked_more}
 use Rattle.folder_building.proofs.Strays.{stray_after}
 use Rattle.folder_building.proofs.Pieces.{file_spoilt}
@@ -34,7 +34,7 @@ returns-clause-done g c =
     let old = D.shown c.args.dir.now in
     let mid = D.shown c.make_file.new.dir in
     let new = D.shown c.copy.new.dir in
-    ok_more (λ done. Copies D.observed source spot path c.args.size c.args.sha mid new) (λ done. Takes D.observed source spot path c.args.size c.args.sha old new) c.copy.result (λ done w. takes_file old c.in_ok-make_file.ensures.done w) c.copy.ensures.done
+    ok_more (λ done. Copies D.observed source spot path c.args.size c.args.sha mid new) (λ done. MakesCopiedFile D.observed source spot path c.args.size c.args.sha old new) c.copy.result (λ done w. takes_file old c.in_ok-make_file.ensures.done w) c.copy.ensures.done
 
 pub returns-clause-refused : goal.returns-clause-refused
 returns-clause-refused g c =
@@ -45,7 +45,7 @@ returns-clause-refused g c =
     let old = D.shown c.args.dir.now in
     let mid = D.shown c.make_file.new.dir in
     let new = D.shown c.copy.new.dir in
-    err_more (λ e. D.observed ≡ true → SpoilsUnder source spot path mid new) (λ e. D.observed ≡ true → TriesUnder source spot path old new) c.copy.result (λ e f t. file_spoilt spot path source old mid new (c.in_ok-make_file.ensures.done t) (f t)) c.copy.ensures.refused
+    err_more (λ e. D.observed ≡ true → SpoilsUnder source spot path mid new) (λ e. D.observed ≡ true → TriesCopiedFile source spot path old new) c.copy.result (λ e f t. file_spoilt spot path source old mid new (c.in_ok-make_file.ensures.done t) (f t)) c.copy.ensures.refused
 
 pub returns-clause-lacks : goal.returns-clause-lacks
 returns-clause-lacks g c n h t = unlike_after (g.D.Dir.shown c.args.dir.now) (g.D.Dir.shown c.make_file.new.dir) (c.make_file.ensures.worked.extends t) c.make_file.ensures.worked.same (g.D.Dir.shown c.copy.new.dir) (c.copy.ensures.lacks n h t)

@@ -1,6 +1,6 @@
 use Rattle.std.proofs.Common.{◌≡◌, true}
-use Rattle.folder_building.specs.Making.{Writes, Spoils}
-use Rattle.folder_building.specs.Changes.{Gives, TriesFile}
+use Rattle.folder_building.specs.Making.{AppendsInPieces, Spoils}
+use Rattle.folder_building.specs.Changes.{MakesGivenFile, TriesFile}
 use Rattle.folder_building.proofs.Working.{worked_more}
 use Rattle.folder_building.proofs.Strays.{stray_after}
 use Rattle.folder_building.proofs.Copying.{ok_more, err_more, gives_file, gives_none}
@@ -20,7 +20,7 @@ returns-clause-done g c =
     let old = D.shown c.args.dir.now in
     let mid = D.shown c.make_file.new.dir in
     let new = D.shown c.write.new.dir in
-    ok_more (λ done. Writes D.observed spot path c.args.bytes.now mid new) (λ done. Gives D.observed spot path c.args.bytes.now old new) c.write.result (λ done w. gives_file old c.in_ok-make_file.ensures.done w) c.write.ensures.done
+    ok_more (λ done. AppendsInPieces D.observed spot path c.args.bytes.now mid new) (λ done. MakesGivenFile D.observed spot path c.args.bytes.now old new) c.write.result (λ done w. gives_file old c.in_ok-make_file.ensures.done w) c.write.ensures.done
 
 pub returns-clause-refused : goal.returns-clause-refused
 returns-clause-refused g c =

@@ -1,5 +1,5 @@
 use Rattle.std.proofs.Common.{◌≡◌, true}
-use Rattle.folder_building.specs.Making.{CarriesOut, Begins}
+use Rattle.folder_building.specs.Making.{CarriesOut, BeginsPlan}
 use Rattle.folder_building.specs.Changes.{SyncsAll, UnsyncsAll}
 use Rattle.folder_building.proofs.Working.{worked_more}
 use Rattle.folder_building.proofs.Strays.{stray_after}
@@ -34,7 +34,7 @@ returns-clause-refused g c =
     let old = D.shown c.args.dir.now in
     let mid = D.shown c.add_all.new.dir in
     let new = D.shown c.sync_all.new.dir in
-    err_more (λ e. D.observed ≡ true → UnsyncsAll c.args.spot plan mid new) (λ e. D.observed ≡ true → Begins source c.args.spot plan old new) c.sync_all.result (λ e f t. begins_after D.observed source c.args.spot plan old mid new t c.in_ok-add_all.ensures.done (f t)) c.sync_all.ensures.refused
+    err_more (λ e. D.observed ≡ true → UnsyncsAll c.args.spot plan mid new) (λ e. D.observed ≡ true → BeginsPlan source c.args.spot plan old new) c.sync_all.result (λ e f t. begins_after D.observed source c.args.spot plan old mid new t c.in_ok-add_all.ensures.done (f t)) c.sync_all.ensures.refused
 
 pub returns-clause-had : goal.returns-clause-had
 returns-clause-had g c =

@@ -1,7 +1,7 @@
 use Rattle.std.proofs.Common.{◌≡◌, true, [], drop, IsErrOf, rules}
 use Rattle.std.proofs.lemmas.List.{drop_all}
 use Rattle.folder_building.specs.declared.error.BuildError.TheVariants.{Stray}
-use Rattle.folder_building.specs.Changes.{Syncs, Unsyncs, SyncsAll, UnsyncsAll}
+use Rattle.folder_building.specs.Changes.{SyncsPath, Unsyncs, SyncsAll, UnsyncsAll}
 use Rattle.folder_building.proofs.Working.{worked_none, worked_more}
 use Rattle.folder_building.proofs.Strays.{stray_after}
 use Rattle.folder_building.proofs.Copying.{ok_more, err_more, err_any}
@@ -55,7 +55,7 @@ returns-clause-done g c =
     let mid = D.shown c.entries.dir in
     let new = D.shown c.sync-2.new.dir in
     let left = drop c.entries.entry-index plan in
-    ok_more (λ done. D.observed ≡ true → Syncs spot [] mid new) (λ done. D.observed ≡ true → SyncsAll spot plan old new) c.sync-2.result (λ done f t. synced_all spot plan old mid new left (drop_all c.entries.entry-index plan c.entries-test.false) (c.entries.invariant.synced t) (f t)) c.sync-2.ensures.done
+    ok_more (λ done. D.observed ≡ true → SyncsPath spot [] mid new) (λ done. D.observed ≡ true → SyncsAll spot plan old new) c.sync-2.result (λ done f t. synced_all spot plan old mid new left (drop_all c.entries.entry-index plan c.entries-test.false) (c.entries.invariant.synced t) (f t)) c.sync-2.ensures.done
 
 pub returns-clause-refused : goal.returns-clause-refused
 returns-clause-refused g c =

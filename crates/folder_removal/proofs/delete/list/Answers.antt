@@ -6,7 +6,7 @@ use Rattle.folder_removal.specs.declared.error.DeleteError.TheVariants.{Stray}
 use Rattle.folder_removal.specs.Tasks.{AreChildren}
 use Rattle.folder_removal.specs.declared.task.Task.{Task}
 use Rattle.folder_removal.specs.Removal.{inner_at, AreShown}
-use Rattle.folder_removal.specs.Known.{IsListed}
+use Rattle.folder_removal.specs.Known.{IsListedAsTasks}
 use Rattle.folder_removal.proofs.Nested.{distinct}
 use Rattle.folder_removal.proofs.Calls.{list_extends, knows_list}
 use Rattle.folder_removal.proofs.Steps.{asks_listing, ok_more}
@@ -37,7 +37,7 @@ returns-in-Ok-clause-listed g c =
     let path = c.args.path.now in
     let items = c.in-Ok.items in
     let at : Inner = record { spot = spot; path = path } in
-    ok_more (λ tasks. AreChildren path c.as_slice.result.now tasks.items) (λ tasks. D.observed ≡ true → IsListed spot path tasks.items (D.shown c.args.dir.now) (D.shown c.list_in.new.self)) c.children.result
+    ok_more (λ tasks. AreChildren path c.as_slice.result.now tasks.items) (λ tasks. D.observed ≡ true → IsListedAsTasks spot path tasks.items (D.shown c.args.dir.now) (D.shown c.list_in.new.self)) c.children.result
     (λ tasks are t.
     let those = rw c.as_slice.ensures at are in
     record { items = items; are = those.are; plain = those.plain; once = distinct items c.in-Ok.ensures.ordered; knows = λ s k. knows_list at (Ok items) t k c.in-Ok.ensures.called })

@@ -9,10 +9,10 @@ use Rattle.dir_files.proofs.Locking.{number_is_new}
 use Rattle.folder_building.specs.Work.{either}
 use Rattle.folder_building.proofs.Copying.{ok_more, err_more}
 use Rattle.folder_building.proofs.Working.{worked_wider}
-use Rattle.folder_removal.specs.Removal.{deletes_at}
+use Rattle.folder_removal.specs.Removal.{asks_deletion_at}
 use Rattle.image_reading.specs.declared.error.StoreError.{StoreError}
-use Rattle.image_removal.specs.Requests.{removed_spot, away_spot, looks_at}
-use Rattle.image_removal.specs.Causes.{WorkCause}
+use Rattle.image_removal.specs.Requests.{removed_spot, away_spot, looks_at_folder}
+use Rattle.image_removal.specs.Causes.{RemovalWorkCause}
 use Rattle.image_removal.specs.Removals.{IsGone, IsGoneUnless}
 use Rattle.image_removal.proofs.Times.{work_after, work_before}
 use Rattle.image_removal.proofs.Causes.{free_cause, free_busy}
@@ -44,7 +44,7 @@ returns-in-Ok-clause-worked g c =
       extends = c.unlock_area.ensures.extends;
     } in
     worked_under (lock_away c.args.draw) s (worked_wider (work_away c.args.draw)
-    (subst (λ (n : List ℕ). OnlyAsks D.observed (either (looks_at (removed_spot n)) (deletes_at (removed_spot n))) mid late) c.name.ensures.text c.delete_if_there-result.ensures.worked)) b
+    (subst (λ (n : List ℕ). OnlyAsks D.observed (either (looks_at_folder (removed_spot n)) (asks_deletion_at (removed_spot n))) mid late) c.name.ensures.text c.delete_if_there-result.ensures.worked)) b
 
 pub returns-in-Ok-clause-cause : goal.returns-in-Ok-clause-cause
 returns-in-Ok-clause-cause g c =
@@ -66,7 +66,7 @@ returns-in-Ok-clause-cause g c =
       local = c.unlock_area.ensures.local;
       extends = c.unlock_area.ensures.extends;
     } in
-    err_more (λ e. WorkCause D.observed e mid late) (λ e. WorkCause D.observed e old new) c.delete_if_there-result.result
+    err_more (λ e. RemovalWorkCause D.observed e mid late) (λ e. RemovalWorkCause D.observed e old new) c.delete_if_there-result.result
     (λ e w. work_after (follows_take s) (work_before w (follows_back b))) c.delete_if_there-result.ensures.cause
 
 pub returns-in-Ok-clause-gone : goal.returns-in-Ok-clause-gone
@@ -83,8 +83,8 @@ returns-in-Ok-clause-gone g c =
     (c.unlock_area.ensures.extends t))))
     c.delete_if_there-result.ensures.gone
 
-pub returns-in-Ok-clause-another : goal.returns-in-Ok-clause-another
-returns-in-Ok-clause-another g c =
+pub returns-in-Ok-clause-by_other_process : goal.returns-in-Ok-clause-by_other_process
+returns-in-Ok-clause-by_other_process g c =
     let D = g.D.Dir in
     let old = D.shown c.args.dir.now in
     let mid = D.shown c.lock_area.new.dir in
@@ -112,7 +112,7 @@ returns-in-Err-clause-cause g c =
     let D = g.D.Dir in
     let old = D.shown c.args.dir.now in
     let new = D.shown c.lock_area.new.dir in
-    subst (λ (r : Result (Unit {0}) StoreError). IfErr r (λ e. WorkCause D.observed e old new)) (sym c.lock_free.ensures)
+    subst (λ (r : Result (Unit {0}) StoreError). IfErr r (λ e. RemovalWorkCause D.observed e old new)) (sym c.lock_free.ensures)
     (free_cause D.observed old new c.in-Err.error (λ is. c.in-Err.ensures.cause (ap Err is)))
 
 pub returns-in-Err-clause-gone : goal.returns-in-Err-clause-gone
@@ -123,14 +123,14 @@ returns-in-Err-clause-gone g c =
     let P = D.observed ≡ true → IsGoneUnless (IsBusy Removed Exclusive) (away_spot c.args.draw) old.process old.trace new.trace in
     subst (λ (r : Result (Unit {0}) StoreError). IfOk r (λ done. P)) (sym c.lock_free.ensures) (free_busy P c.in-Err.error (λ is t. inr (c.in-Err.ensures.busy (ap Err is) t)))
 
-pub returns-in-Err-clause-another : goal.returns-in-Err-clause-another
-returns-in-Err-clause-another g c =
+pub returns-in-Err-clause-by_other_process : goal.returns-in-Err-clause-by_other_process
+returns-in-Err-clause-by_other_process g c =
     let D = g.D.Dir in
     let old = D.shown c.args.dir.now in
     let new = D.shown c.lock_area.new.dir in
     let P = D.observed ≡ true → (s : Seen) → Knows old s → is_free_of Removed s ≡ true → IsGoneUnless (IsBusyElsewhere old.process Removed Exclusive)
     (away_spot c.args.draw) old.process old.trace new.trace in
-    subst (λ (r : Result (Unit {0}) StoreError). IfOk r (λ done. P)) (sym c.lock_free.ensures) (free_busy P c.in-Err.error (λ is t s k free. inr (c.in-Err.ensures.another (ap Err is) t s k free)))
+    subst (λ (r : Result (Unit {0}) StoreError). IfOk r (λ done. P)) (sym c.lock_free.ensures) (free_busy P c.in-Err.error (λ is t s k free. inr (c.in-Err.ensures.by_other_process (ap Err is) t s k free)))
 
 pub returns-in-Err-clause-stays : goal.returns-in-Err-clause-stays
 returns-in-Err-clause-stays g c t s k may = same_conforms (c.in-Err.ensures.left t s k (may_lock_removed may))

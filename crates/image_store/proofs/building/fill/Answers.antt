@@ -2,7 +2,7 @@ use Rattle.std.proofs.Common.{false, Err, ap, refl, subst}
 use Rattle.dir_model.specs.declared.spot.Spot.{Spot}
 use Rattle.folder_building.specs.Work.{builds_at, either}
 use Rattle.image_store.specs.Requests.{building_spot}
-use Rattle.image_store.specs.Causes.{source_at}
+use Rattle.image_store.specs.Causes.{bundle_source_at}
 use Rattle.image_store.proofs.Changes.{was_stray}
 use Rattle.image_store.proofs.Fillings.{worked_fill, has_filled, has_begun}
 use Rattle.image_store.proofs.Refusals.{fill_cause}
@@ -31,5 +31,5 @@ returns-in-Err-clause-left g c t intent hs imports under k = has_begun c.args.dr
 
 pub returns-in-Err-clause-cause : goal.returns-in-Err-clause-cause
 returns-in-Err-clause-cause g c =
-    fill_cause (g.B.Bundle.shown c.args.bundle.now).faults _ (source_at g.B.Bundle.observed (g.B.Bundle.shown c.args.bundle.now).tree c.args.path.now) c.args.plan.now c.in-Err.error c.build_refusal.result c.build_refusal.ensures
+    fill_cause (g.B.Bundle.shown c.args.bundle.now).faults _ (bundle_source_at g.B.Bundle.observed (g.B.Bundle.shown c.args.bundle.now).tree c.args.path.now) c.args.plan.now c.in-Err.error c.build_refusal.result c.build_refusal.ensures
     (λ is. c.in-Err.ensures.fault (ap Err is)) (λ place is. c.in-Err.ensures.unlike place (ap Err is)) (λ is t. was_stray c.args.draw c.building_spot-spot.ensures (c.in-Err.ensures.stray (ap Err is) t))

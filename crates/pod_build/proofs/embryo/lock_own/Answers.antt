@@ -15,7 +15,7 @@ use Rattle.dir_model.specs.declared.spot.Which.TheVariants as which
 use Rattle.dir_model.specs.Local.{Local, IsUnlocked}
 use Rattle.dir_model.proofs.Holdings.{unlocked_new}
 use Rattle.pod_build.specs.declared.make_error.MakeError.{MakeError}
-use Rattle.pod_build.specs.MakingCauses.{WasOpenedThere, WorkCause}
+use Rattle.pod_build.specs.MakingCauses.{WasOpenedThere, MakingWorkCause}
 use Rattle.pod_build.proofs.Calls.{with_spot, change_cause, shows_call, taken_open, taken_lock, follows_call}
 use Rattle.pod_build.proofs.Knowing.{knows_locked, knows_unlocked, knows_unopened}
 use Rattle.pod_build.proofs.Outcomes.{follows_close, went_locked, went_unlocked, went_unopened}
@@ -45,7 +45,7 @@ returns-in-Err-try_lock-clause-cause g c =
     let D = g.D.Dir in
     let e = c.in-Err-try_lock.error in
     let asks = c.in-Err-try_lock.ensures in
-    subst (λ (x : MakeError). WorkCause D.observed _ x (D.shown c.args.dir.now) (D.shown c.close.new.self)) (sym c.change_refusal.ensures)
+    subst (λ (x : MakeError). MakingWorkCause D.observed _ x (D.shown c.args.dir.now) (D.shown c.close.new.self)) (sym c.change_refusal.ensures)
     (cause_before (asks.called.same ∙ c.in-Ok.ensures.called.same)
     (cause_after (follows_call c.in-Ok.ensures.called)
     (change_cause e (λ is. asks.cause (ap Err is))))
@@ -62,7 +62,7 @@ pub returns-in-Err-clause-cause : goal.returns-in-Err-clause-cause
 returns-in-Err-clause-cause g c =
     let D = g.D.Dir in
     let e = c.in-Err.error in
-    subst (λ (x : MakeError). WorkCause D.observed _ x (D.shown c.args.dir.now) (D.shown c.«open».new.self)) (sym c.change_refusal-in-Err.ensures)
+    subst (λ (x : MakeError). MakingWorkCause D.observed _ x (D.shown c.args.dir.now) (D.shown c.«open».new.self)) (sym c.change_refusal-in-Err.ensures)
     (change_cause e (λ is. c.in-Err.ensures.cause (ap Err is)))
 
 pub returns-in-Err-clause-left : goal.returns-in-Err-clause-left

@@ -8,8 +8,8 @@ use Rattle.folder_building.proofs.Copying.{ok_any, ok_more, err_more}
 use Rattle.folder_building.proofs.Stored.{all_had_after, all_had_before}
 use Rattle.folder_building.proofs.Working.{worked_wider}
 use Rattle.pod_build.specs.Progress.{nothing_made, in_prepare, own_held}
-use Rattle.pod_build.specs.Work.{MayMake, UnderImages, Owns, From, HasOwnFolder}
-use Rattle.pod_build.specs.MakingCauses.{WorkCause, MakeCause}
+use Rattle.pod_build.specs.Work.{MayMake, MakesUnderImages, Owns, WhereMakingPod, HasMakerFolder}
+use Rattle.pod_build.specs.MakingCauses.{MakingWorkCause, MakeCause}
 use Rattle.pod_build.specs.Makings.{HasMade}
 use Rattle.pod_build.specs.Handovers.{KnewMade}
 use Rattle.pod_build.proofs.Steps.{is_maker_of}
@@ -46,7 +46,7 @@ returns-clause-cause g c =
     let mid = D.shown c.begin_pod.new.dir in
     let late = D.shown c.finish_pod-result.new.dir in
     let closes = follows_close c.close.ensures.faultless c.close.ensures.called in
-    err_with (λ e. WorkCause D.observed plan e mid late) (λ e. MakeCause D.observed c.args.draw plan e (D.shown c.args.dir.now) (D.shown c.close.new.self)) c.finish_pod-result.result
+    err_with (λ e. MakingWorkCause D.observed plan e mid late) (λ e. MakeCause D.observed c.args.draw plan e (D.shown c.args.dir.now) (D.shown c.close.new.self)) c.finish_pod-result.result
     (λ e was x. calm_cause (λ t. folder_before (D.shown c.args.dir.now) late (D.shown c.close.new.self) (folder_before (D.shown c.args.dir.now) mid late (c.in_ok-own.ensures.begins t) c.begin_pod.ensures.went.same (c.finish_pod-result.ensures.worked.extends t)) (c.finish_pod-result.ensures.worked.same ∙ c.begin_pod.ensures.went.same) (closes.extends t)) (λ is t. own_before (D.shown c.args.dir.now) late (D.shown c.close.new.self) (brought_changed (D.shown c.args.dir.now) mid late (c.in_ok-own.ensures.brings t) c.begin_pod.ensures.went.same (c.finish_pod-result.ensures.stray (was ∙ ap Err is) t)) (closes.extends t)) (cause_before (c.finish_pod-result.ensures.worked.same ∙ c.begin_pod.ensures.went.same) (cause_after (follows_went c.begin_pod.ensures.went) x) (follows_close c.close.ensures.faultless c.close.ensures.called)))
     c.finish_pod-result.ensures.cause
 
@@ -60,8 +60,8 @@ returns-clause-made g c =
     let mid = D.shown c.begin_pod.new.dir in
     let late = D.shown c.finish_pod-result.new.dir in
     let new = D.shown c.close.new.self in
-    ok_more (λ done. D.observed ≡ true → From (MayMake Prepared plan draw) (Owns draw) (in_prepare draw []) mid (λ intent hs. HasMade draw Prepared plan intent hs mid late))
-    (λ done. D.observed ≡ true → From (MayMake Prepared plan draw) (UnderImages draw) nothing_made old (λ intent hs. HasMade draw Prepared plan intent hs old new)) c.finish_pod-result.result
+    ok_more (λ done. D.observed ≡ true → WhereMakingPod (MayMake Prepared plan draw) (Owns draw) (in_prepare draw []) mid (λ intent hs. HasMade draw Prepared plan intent hs mid late))
+    (λ done. D.observed ≡ true → WhereMakingPod (MayMake Prepared plan draw) (MakesUnderImages draw) nothing_made old (λ intent hs. HasMade draw Prepared plan intent hs old new)) c.finish_pod-result.result
     (λ done f t intent hs may under k. made_free draw Prepared plan intent old mid late new t hs own (number_is_new own k c.in_ok-own.ensures.unopened) (follows_went c.begin_pod.ensures.went) (follows_close c.close.ensures.faultless c.close.ensures.called) c.close.ensures.called
     (f t intent (own_held draw own (Some Exclusive) ∷ hs) may (owns_images own under) (c.in_ok-own.ensures.held t intent hs (is_maker_of may) under k)))
     c.finish_pod-result.ensures.made
@@ -76,8 +76,8 @@ returns-clause-left g c =
     let mid = D.shown c.begin_pod.new.dir in
     let late = D.shown c.finish_pod-result.new.dir in
     let new = D.shown c.close.new.self in
-    err_more (λ e. D.observed ≡ true → From (MayMake Prepared plan draw) (Owns draw) (in_prepare draw []) mid (λ intent hs. HasOwnFolder draw intent hs late))
-    (λ e. D.observed ≡ true → From (MayMake Prepared plan draw) (UnderImages draw) nothing_made old (λ intent hs. HasOwnFolder draw intent hs new)) c.finish_pod-result.result
+    err_more (λ e. D.observed ≡ true → WhereMakingPod (MayMake Prepared plan draw) (Owns draw) (in_prepare draw []) mid (λ intent hs. HasMakerFolder draw intent hs late))
+    (λ e. D.observed ≡ true → WhereMakingPod (MayMake Prepared plan draw) (MakesUnderImages draw) nothing_made old (λ intent hs. HasMakerFolder draw intent hs new)) c.finish_pod-result.result
     (λ e f t intent hs may under k. own_back t (number_is_new own k c.in_ok-own.ensures.unopened) c.close.ensures.called
     (f t intent (own_held draw own (Some Exclusive) ∷ hs) may (owns_images own under) (c.in_ok-own.ensures.held t intent hs (is_maker_of may) under k)))
     c.finish_pod-result.ensures.left

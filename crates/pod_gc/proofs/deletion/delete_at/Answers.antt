@@ -10,8 +10,8 @@ use Rattle.phase_read.specs.Read.{pod_spot}
 use Rattle.pod_locks.proofs.Times.{deeds_part}
 use Rattle.pod_locks.specs.declared.setback.Setback.TheVariants as stop
 use Rattle.pod_locks.specs.Requests.{looks_at}
-use Rattle.pod_locks.specs.Holding.{and_taken, MayTake}
-use Rattle.pod_locks.specs.Causes.{Stopped, IsAbsentAt, CannotOpenAt, BusyElsewhere, FreeWhere, Did}
+use Rattle.pod_locks.specs.Holding.{and_taken, MayTakeLock}
+use Rattle.pod_locks.specs.Causes.{StepWasStopped, IsAbsentAt, CannotOpenAt, LockBusyElsewhere, FreeIfObserved, Did}
 use Rattle.pod_locks.proofs.Traces.{grown_none, grown_more}
 use Rattle.pod_locks.proofs.Calls.{follows_work, follows_went, follows_call, stops_part}
 use Rattle.pod_locks.proofs.Within.{free_within}
@@ -46,21 +46,21 @@ returns-in_err-own-clause-stopped g c =
     let D = g.D.Dir in
     let old = D.shown c.args.dir.now in
     let new = D.shown c.take.new.dir in
-    err_same (λ e. Stopped D.observed c.args.pod (IsAbsentAt c.args.pod c.args.area) e old new) c.take.result c.from_residual.result
+    err_same (λ e. StepWasStopped D.observed c.args.pod (IsAbsentAt c.args.pod c.args.area) e old new) c.take.result c.from_residual.result
     (λ e h. search (rules, h, c.from_residual.ensures, c.in_err-own.is))
-    (err_more (λ e. Stopped D.observed c.args.pod (CannotOpenAt c.args.pod c.args.area Own) e old new) (λ e. Stopped D.observed c.args.pod (IsAbsentAt c.args.pod c.args.area) e old new) c.take.result
+    (err_more (λ e. StepWasStopped D.observed c.args.pod (CannotOpenAt c.args.pod c.args.area Own) e old new) (λ e. StepWasStopped D.observed c.args.pod (IsAbsentAt c.args.pod c.args.area) e old new) c.take.result
     (λ e x. own_stopped c.args.pod c.args.area x) c.take.ensures.stopped)
 
-pub returns-in_err-own-clause-another : goal.returns-in_err-own-clause-another
-returns-in_err-own-clause-another g c =
+pub returns-in_err-own-clause-by_other_process : goal.returns-in_err-own-clause-by_other_process
+returns-in_err-own-clause-by_other_process g c =
     let D = g.D.Dir in
     let old = D.shown c.args.dir.now in
     let new = D.shown c.take.new.dir in
-    err_same (λ e. D.observed ≡ true → Given (MayRemove c.args.now) old (λ s. BusyElsewhere c.args.pod c.args.area Exclusive e old new)) c.take.result c.from_residual.result
+    err_same (λ e. D.observed ≡ true → Given (MayRemove c.args.now) old (λ s. LockBusyElsewhere c.args.pod c.args.area Exclusive e old new)) c.take.result c.from_residual.result
     (λ e h. search (rules, h, c.from_residual.ensures, c.in_err-own.is))
-    (err_more (λ e. D.observed ≡ true → Given (MayTake c.args.pod c.args.area Own) old (λ s. BusyElsewhere c.args.pod c.args.area Exclusive e old new))
-    (λ e. D.observed ≡ true → Given (MayRemove c.args.now) old (λ s. BusyElsewhere c.args.pod c.args.area Exclusive e old new)) c.take.result
-    (λ e busy t s k may. busy t s k (takes_own c.args.pod c.args.area c.requires.garbage may)) c.take.ensures.another)
+    (err_more (λ e. D.observed ≡ true → Given (MayTakeLock c.args.pod c.args.area Own) old (λ s. LockBusyElsewhere c.args.pod c.args.area Exclusive e old new))
+    (λ e. D.observed ≡ true → Given (MayRemove c.args.now) old (λ s. LockBusyElsewhere c.args.pod c.args.area Exclusive e old new)) c.take.result
+    (λ e busy t s k may. busy t s k (takes_own c.args.pod c.args.area c.requires.garbage may)) c.take.ensures.by_other_process)
 
 pub returns-in_err-own-clause-ready : goal.returns-in_err-own-clause-ready
 returns-in_err-own-clause-ready g c t = ready_unowned c.args.pod c.args.area c.requires.garbage (c.in_err-own.ensures.left t)
@@ -79,15 +79,15 @@ returns-clause-stopped g c =
     let mid = D.shown c.take.new.dir in
     let late = D.shown c.delete_if_there-result.new.dir in
     let new = D.shown c.close.new.self in
-    err_more (λ e. Stopped D.observed c.args.pod (IsAbsentAt c.args.pod c.args.area) e mid late) (λ e. Stopped D.observed c.args.pod (IsAbsentAt c.args.pod c.args.area) e old new) c.delete_if_there-result.result
+    err_more (λ e. StepWasStopped D.observed c.args.pod (IsAbsentAt c.args.pod c.args.area) e mid late) (λ e. StepWasStopped D.observed c.args.pod (IsAbsentAt c.args.pod c.args.area) e old new) c.delete_if_there-result.result
     (λ e x. stops_part (follows_went c.take.ensures.went) (follows_call c.close.ensures.called) x) c.delete_if_there-result.ensures.stopped
 
-pub returns-clause-another : goal.returns-clause-another
-returns-clause-another g c =
+pub returns-clause-by_other_process : goal.returns-clause-by_other_process
+returns-clause-by_other_process g c =
     let D = g.D.Dir in
     let old = D.shown c.args.dir.now in
     let new = D.shown c.close.new.self in
-    err_more (λ e. (which : Which) → e ≡ stop.Busy which → ⊥) (λ e. D.observed ≡ true → Given (MayRemove c.args.now) old (λ s. BusyElsewhere c.args.pod c.args.area Exclusive e old new)) c.delete_if_there-result.result
+    err_more (λ e. (which : Which) → e ≡ stop.Busy which → ⊥) (λ e. D.observed ≡ true → Given (MayRemove c.args.now) old (λ s. LockBusyElsewhere c.args.pod c.args.area Exclusive e old new)) c.delete_if_there-result.result
     (λ e calm t s k may which is. absurd (calm which is)) c.delete_if_there-result.ensures.calm
 
 pub returns-clause-done : goal.returns-clause-done
@@ -132,7 +132,7 @@ returns-clause-still g c =
 pub returns-clause-free : goal.returns-clause-free
 returns-clause-free g c =
     let D = g.D.Dir in
-    ok_all (λ done. FreeWhere D.observed c.args.pod c.args.area Own Exclusive (D.shown c.args.dir.now) (D.shown c.close.new.self)) c.delete_if_there-result.result
+    ok_all (λ done. FreeIfObserved D.observed c.args.pod c.args.area Own Exclusive (D.shown c.args.dir.now) (D.shown c.close.new.self)) c.delete_if_there-result.result
     (λ done t. free_within grown_none refl (grown_more ((follows_work c.delete_if_there-result.ensures.worked).grown t) ((follows_call c.close.ensures.called).grown t)) (c.in_ok-own.ensures.free t))
 
 pub returns-in_err-own-clause-named : goal.returns-in_err-own-clause-named

@@ -7,7 +7,7 @@ use Rattle.phase_read.specs.Read.{pod_spot}
 use Rattle.pod_locks.proofs.Times.{deeds_part, at_part}
 use Rattle.pod_locks.proofs.Traces.{grown_none}
 use Rattle.pod_locks.specs.declared.setback.Setback.{Setback}
-use Rattle.pod_locks.specs.Causes.{Stopped, IsAbsentAt, Did}
+use Rattle.pod_locks.specs.Causes.{StepWasStopped, IsAbsentAt, Did}
 use Rattle.pod_locks.proofs.Calls.{follows_work}
 use Rattle.dir_model.specs.State.{DirState, stands}
 use Rattle.dir_model.specs.declared.spot.Spot.{Spot}
@@ -42,7 +42,7 @@ returns-in-Ok-true-clause-stopped g c =
     let new = D.shown c.delete_standing.new.dir in
     let told = rw c.in-Ok-true.field-0-test at c.in-Ok-true.ensures in
     let w = worked_look c.args.pod c.args.area old mid c.pod_spot.ensures l.same l.faults l.local l.extends in
-    err_more (λ e. StoppedDeleting D.observed (pod_spot c.args.pod c.args.area) e mid new) (λ e. Stopped D.observed c.args.pod (IsAbsentAt c.args.pod c.args.area) e old new) c.delete_standing.result
+    err_more (λ e. StoppedDeleting D.observed (pod_spot c.args.pod c.args.area) e mid new) (λ e. StepWasStopped D.observed c.args.pod (IsAbsentAt c.args.pod c.args.area) e old new) c.delete_standing.result
     (λ e x. stood_stops w.same w.faults (follows_work w).grown
     (λ t. subst (λ (spot : Spot). HeldBetween old mid (λ (s : DirState). stands s.namespace spot ≡ true)) c.pod_spot.ensures (told.there t)) x) c.delete_standing.ensures.stopped
 
@@ -82,7 +82,7 @@ returns-in-Err-clause-worked g c =
 pub returns-in-Err-clause-stopped : goal.returns-in-Err-clause-stopped
 returns-in-Err-clause-stopped g c =
     let D = g.D.Dir in
-    subst (λ (x : Setback). Stopped D.observed c.args.pod (IsAbsentAt c.args.pod c.args.area) x (D.shown c.args.dir.now) (D.shown c.look.new.dir)) (sym c.look_setback.ensures)
+    subst (λ (x : Setback). StepWasStopped D.observed c.args.pod (IsAbsentAt c.args.pod c.args.area) x (D.shown c.args.dir.now) (D.shown c.look.new.dir)) (sym c.look_setback.ensures)
     (failed_stops c.in-Err.error (λ is. c.look.ensures.cause (c.in-Err.is ∙ ap Err is)))
 
 pub returns-in-Err-clause-calm : goal.returns-in-Err-clause-calm

@@ -5,8 +5,8 @@ use Rattle.pod_gc.specs.Told.{AddsShown, AddsPassed}
 use Rattle.pod_gc.proofs.Gates.{adds_plain}
 use Rattle.pod_gc.specs.Ended.{EndsListingBetween, EndsPassBetween}
 use Rattle.pod_gc.proofs.Ending.{ends_plain}
-use Rattle.pod_gc.specs.Causes.{StrayByApp}
-use Rattle.pod_gc.specs.Sweeping.{MayPass, MaySweepAll}
+use Rattle.pod_gc.specs.Causes.{GcStrayByApp}
+use Rattle.pod_gc.specs.Sweeping.{MayPassPods, MaySweepAll}
 use Rattle.pod_gc.proofs.passes.pass.Goals as goal
 
 pub returns-in-Embryo-clause-told : goal.returns-in-Embryo-clause-told
@@ -47,5 +47,5 @@ returns-in_default-clause-lawful g c =
     let D = g.D.Dir in
     let old = D.shown c.args.dir.now in
     let new = D.shown c.pass_listed.new.dir in
-    err_more (λ e. StrayByApp D.observed e (MayPass c.args.place c.args.times.now c.args.times.expire) old new) (λ e. StrayByApp D.observed e (MaySweepAll c.args.times.now c.args.times.expire) old new) c.pass_listed.result
+    err_more (λ e. GcStrayByApp D.observed e (MayPassPods c.args.place c.args.times.now c.args.times.expire) old new) (λ e. GcStrayByApp D.observed e (MaySweepAll c.args.times.now c.args.times.expire) old new) c.pass_listed.result
     (λ e x is t s k m. x is t s k (record { sweeps = m.sweeps; gate = λ is. absurd (c.in_default.not-Embryo is) })) c.pass_listed.ensures.lawful

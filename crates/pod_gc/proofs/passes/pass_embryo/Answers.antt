@@ -12,8 +12,8 @@ use Rattle.pod_gc.proofs.Gates.{ready_under, ready_same, worked_gate, worked_loc
 use Rattle.pod_gc.specs.Ended.{EndsListingBetween, EndsPassBetween}
 use Rattle.pod_gc.proofs.Ending.{whenever, ends_gate}
 use Rattle.pod_gc.specs.declared.gc_error.GcError.TheVariants as fault
-use Rattle.pod_gc.specs.Causes.{StrayByApp}
-use Rattle.pod_gc.specs.Sweeping.{MayPass, MaySweepAll}
+use Rattle.pod_gc.specs.Causes.{GcStrayByApp}
+use Rattle.pod_gc.specs.Sweeping.{MayPassPods, MaySweepAll}
 use Rattle.pod_locks.proofs.Lawful.{by_app_part}
 use Rattle.pod_gc.proofs.Gates.{follows_lock}
 use Rattle.pod_gc.proofs.Lawful.{memory_never, lock_never, gate_passes, follows_unlock}
@@ -88,7 +88,7 @@ returns-in-Err-Busy-clause-told g c =
     let after = c.push.new.lines.items in
     let busy : c.lock_area.result ≡ Err lock.Busy = search (rules, c.in-Err-Busy.is, c.in-Err-Busy.field-0-is) in
     ok_more (λ done. after ≡ before ++ record { place = Embryo; pod = None; deed = BusyGate } ∷ []) (λ done. D.observed ≡ true → AddsPassed times Embryo old new before after) c.push.result
-    (λ done adds t. adds_gated times old new before after adds (c.lock_area.ensures.busy busy t) (λ s k free. c.lock_area.ensures.another busy t s k free) (c.lock_area.ensures.extends t)) c.push.ensures.items
+    (λ done adds t. adds_gated times old new before after adds (c.lock_area.ensures.busy busy t) (λ s k free. c.lock_area.ensures.by_other_process busy t s k free) (c.lock_area.ensures.extends t)) c.push.ensures.items
 
 pub returns-in-Ok-clause-ended : goal.returns-in-Ok-clause-ended
 returns-in-Ok-clause-ended g c =
@@ -117,13 +117,13 @@ returns-in-Ok-clause-lawful g c =
     let mid = D.shown c.lock_area.new.dir in
     let late = D.shown c.pass_listed-result.new.dir in
     let new = D.shown c.unlock_area.new.dir in
-    err_more (λ e. StrayByApp D.observed e (MayPass Embryo c.args.times.now c.args.times.expire) mid late) (λ e. StrayByApp D.observed e (MaySweepAll c.args.times.now c.args.times.expire) old new) c.pass_listed-result.result
+    err_more (λ e. GcStrayByApp D.observed e (MayPassPods Embryo c.args.times.now c.args.times.expire) mid late) (λ e. GcStrayByApp D.observed e (MaySweepAll c.args.times.now c.args.times.expire) old new) c.pass_listed-result.result
     (λ e x is. by_app_part (follows_lock {a = old} {b = mid} l.same l.faults l.extends) (follows_unlock {c = late} {d = new} c.in-Ok.gate u.same u.faultless u.extends) (gate_passes c.in-Ok.gate c.in-Ok.ensures.taken) (x is)) c.pass_listed-result.ensures.lawful
 
 pub returns-in-Err-Busy-clause-lawful : goal.returns-in-Err-Busy-clause-lawful
 returns-in-Err-Busy-clause-lawful g c =
     let D = g.D.Dir in
-    err_more (λ e. e ≡ fault.NoMemory) (λ e. StrayByApp D.observed e (MaySweepAll c.args.times.now c.args.times.expire) (D.shown c.args.dir.now) (D.shown c.lock_area.new.dir)) c.push.result (λ e memory is. absurd (memory_never memory is)) c.push.ensures.memory
+    err_more (λ e. e ≡ fault.NoMemory) (λ e. GcStrayByApp D.observed e (MaySweepAll c.args.times.now c.args.times.expire) (D.shown c.args.dir.now) (D.shown c.lock_area.new.dir)) c.push.result (λ e memory is. absurd (memory_never memory is)) c.push.ensures.memory
 
 pub returns-in-Err-clause-lawful : goal.returns-in-Err-clause-lawful
 returns-in-Err-clause-lawful g c is = absurd (lock_never c.in-Err.error (sym c.lock_fault.ensures ∙ is))

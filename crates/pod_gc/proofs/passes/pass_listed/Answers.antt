@@ -13,8 +13,8 @@ use Rattle.pod_gc.proofs.Telling.{adds_shown}
 use Rattle.pod_gc.specs.Ended.{EndsAmongBetween, EndsListingBetween}
 use Rattle.pod_gc.proofs.Ending.{ends_listed}
 use Rattle.std.proofs.Common.{◌∙◌}
-use Rattle.pod_gc.specs.Causes.{StrayByApp}
-use Rattle.pod_gc.specs.Sweeping.{MayPass}
+use Rattle.pod_gc.specs.Causes.{GcStrayByApp}
+use Rattle.pod_gc.specs.Sweeping.{MayPassPods}
 use Rattle.pod_gc.proofs.InTurn.{pass_kept}
 use Rattle.pod_gc.proofs.Lawful.{by_app_later, area_never}
 use Rattle.pod_gc.proofs.passes.pass_listed.Goals as goal
@@ -86,7 +86,7 @@ returns-in-Ok-clause-lawful g c =
     let old = D.shown c.args.dir.now in
     let mid = D.shown c.names_of.new.dir in
     let new = D.shown c.deal_each.new.dir in
-    err_more (λ e. StrayByApp D.observed e (MayPass c.args.place c.args.times.now c.args.times.expire) mid new) (λ e. StrayByApp D.observed e (MayPass c.args.place c.args.times.now c.args.times.expire) old new) c.deal_each.result
+    err_more (λ e. GcStrayByApp D.observed e (MayPassPods c.args.place c.args.times.now c.args.times.expire) mid new) (λ e. GcStrayByApp D.observed e (MayPassPods c.args.place c.args.times.now c.args.times.expire) old new) c.deal_each.result
     (λ e x is. by_app_later new (λ s z. pass_kept) (follows_work (worked_area c.args.place (Ok c.in-Ok.names) c.in-Ok.ensures.called)) (ready_area c.args.place (Ok c.in-Ok.names) c.requires.stage c.in-Ok.ensures.called) (x is)) c.deal_each.ensures.lawful
 
 pub returns-in-Err-clause-lawful : goal.returns-in-Err-clause-lawful

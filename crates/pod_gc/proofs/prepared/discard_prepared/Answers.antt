@@ -13,7 +13,7 @@ use Rattle.pod_locks.proofs.Times.{deeds_part}
 use Rattle.pod_locks.specs.Requests.{looks_at}
 use Rattle.pod_locks.specs.Holding.{and_taken}
 use Rattle.pod_locks.specs.declared.setback.Setback.TheVariants as stop
-use Rattle.pod_locks.specs.Causes.{Stopped, IsAbsentAt, FreeWhere, Did}
+use Rattle.pod_locks.specs.Causes.{StepWasStopped, IsAbsentAt, FreeIfObserved, Did}
 use Rattle.pod_locks.proofs.Traces.{grown_none, grown_more}
 use Rattle.pod_locks.proofs.Calls.{follows_work, follows_went, follows_call, stops_part}
 use Rattle.pod_locks.proofs.Within.{free_within, told_within}
@@ -43,12 +43,12 @@ returns-in-Ok-clause-worked g c =
 pub returns-in-Ok-clause-stopped : goal.returns-in-Ok-clause-stopped
 returns-in-Ok-clause-stopped g c =
     let D = g.D.Dir in
-    err_more (λ e. Stopped D.observed c.args.pod (IsAbsentAt c.args.pod Prepared) e (D.shown c.take.new.dir) (D.shown c.discard_under_claim-result.new.dir))
+    err_more (λ e. StepWasStopped D.observed c.args.pod (IsAbsentAt c.args.pod Prepared) e (D.shown c.take.new.dir) (D.shown c.discard_under_claim-result.new.dir))
     (λ e. StoppedAlone D.observed c.args.pod e (D.shown c.args.dir.now) (D.shown c.close.new.self)) c.discard_under_claim-result.result
     (λ e x. stops_alone (stops_part (follows_went c.take.ensures.went) (follows_call c.close.ensures.called) x)) c.discard_under_claim-result.ensures.stopped
 
-pub returns-in-Ok-clause-another : goal.returns-in-Ok-clause-another
-returns-in-Ok-clause-another g c =
+pub returns-in-Ok-clause-by_other_process : goal.returns-in-Ok-clause-by_other_process
+returns-in-Ok-clause-by_other_process g c =
     let D = g.D.Dir in
     let a = D.shown c.args.dir.now in
     let b = D.shown c.take.new.dir in
@@ -57,7 +57,7 @@ returns-in-Ok-clause-another g c =
     err_more (λ e. D.observed ≡ true → Given (UnderClaim c.args.pod c.args.now) b (λ s. BusyInPrepared c.args.pod e b m)) (λ e. D.observed ≡ true → Given (MayDiscard c.args.pod c.args.now) a (λ s. BusyInPrepared c.args.pod e a d))
     c.discard_under_claim-result.result
     (λ e busy t s k may. busy_within t (follows_went c.take.ensures.went) (follows_call c.close.ensures.called) (busy t _ (c.in-Ok.ensures.held t s k (takes_claim c.args.pod may)) (discards_under c.args.pod k c.in-Ok.ensures.unopened may)))
-    c.discard_under_claim-result.ensures.another
+    c.discard_under_claim-result.ensures.by_other_process
 
 pub returns-in-Ok-clause-done : goal.returns-in-Ok-clause-done
 returns-in-Ok-clause-done g c =
@@ -85,8 +85,8 @@ returns-in-Err-Missing-clause-stopped g c =
     let e = rw c.in-Err-Missing.field-0-is at c.in-Err-Missing.ensures in
     alone_stops c.args.pod (follows_went c.take.ensures.went) e.stopped c.without_claim.ensures.stopped
 
-pub returns-in-Err-Missing-clause-another : goal.returns-in-Err-Missing-clause-another
-returns-in-Err-Missing-clause-another g c t s k may = alone_busy (g.D.Dir.shown c.args.dir.now) c.without_claim.ensures.stopped
+pub returns-in-Err-Missing-clause-by_other_process : goal.returns-in-Err-Missing-clause-by_other_process
+returns-in-Err-Missing-clause-by_other_process g c t s k may = alone_busy (g.D.Dir.shown c.args.dir.now) c.without_claim.ensures.stopped
 
 pub returns-in-Err-Missing-clause-ready : goal.returns-in-Err-Missing-clause-ready
 returns-in-Err-Missing-clause-ready g c t =
@@ -103,9 +103,9 @@ returns-in-Err-clause-worked g c =
 pub returns-in-Err-clause-stopped : goal.returns-in-Err-clause-stopped
 returns-in-Err-clause-stopped g c = stops_else c.args.pod (λ is. search (rules, is, c.in-Err.stop-is)) c.in-Err.ensures.stopped
 
-pub returns-in-Err-clause-another : goal.returns-in-Err-clause-another
-returns-in-Err-clause-another g c t s k may =
-    busy_claim (g.D.Dir.shown c.args.dir.now) (g.D.Dir.shown c.take.new.dir) c.args.pod c.in-Err.stop c.in-Err.ensures.named (c.in-Err.ensures.another t s k (takes_claim c.args.pod may))
+pub returns-in-Err-clause-by_other_process : goal.returns-in-Err-clause-by_other_process
+returns-in-Err-clause-by_other_process g c t s k may =
+    busy_claim (g.D.Dir.shown c.args.dir.now) (g.D.Dir.shown c.take.new.dir) c.args.pod c.in-Err.stop c.in-Err.ensures.named (c.in-Err.ensures.by_other_process t s k (takes_claim c.args.pod may))
 
 pub returns-in-Err-clause-ready : goal.returns-in-Err-clause-ready
 returns-in-Err-clause-ready g c t = ready_left (c.in-Err.ensures.left t)
@@ -147,13 +147,13 @@ returns-in-Ok-clause-aside g c =
 pub returns-in-Ok-clause-claimed : goal.returns-in-Ok-clause-claimed
 returns-in-Ok-clause-claimed g c =
     let D = g.D.Dir in
-    ok_all (λ done. FreeWhere D.observed c.args.pod Prepared Claim Exclusive (D.shown c.args.dir.now) (D.shown c.close.new.self)) c.discard_under_claim-result.result
+    ok_all (λ done. FreeIfObserved D.observed c.args.pod Prepared Claim Exclusive (D.shown c.args.dir.now) (D.shown c.close.new.self)) c.discard_under_claim-result.result
     (λ done t. free_within grown_none refl (grown_more ((follows_work c.discard_under_claim-result.ensures.worked).grown t) ((follows_call c.close.ensures.called).grown t)) (c.in-Ok.ensures.free t))
 
 pub returns-in-Ok-clause-under_claim : goal.returns-in-Ok-clause-under_claim
 returns-in-Ok-clause-under_claim g c =
     let D = g.D.Dir in
-    err_all (λ e. e ≡ stop.Busy Own → FreeWhere D.observed c.args.pod Prepared Claim Exclusive (D.shown c.args.dir.now) (D.shown c.close.new.self)) c.discard_under_claim-result.result
+    err_all (λ e. e ≡ stop.Busy Own → FreeIfObserved D.observed c.args.pod Prepared Claim Exclusive (D.shown c.args.dir.now) (D.shown c.close.new.self)) c.discard_under_claim-result.result
     (λ e is t. free_within grown_none refl (grown_more ((follows_work c.discard_under_claim-result.ensures.worked).grown t) ((follows_call c.close.ensures.called).grown t)) (c.in-Ok.ensures.free t))
 
 pub returns-in-Ok-clause-free : goal.returns-in-Ok-clause-free

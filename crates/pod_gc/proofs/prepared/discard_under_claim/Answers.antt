@@ -11,7 +11,7 @@ use Rattle.phase_read.specs.Read.{pod_spot}
 use Rattle.pod_locks.proofs.Traces.{grown_none}
 use Rattle.pod_locks.specs.declared.setback.Setback.TheVariants as stop
 use Rattle.pod_locks.specs.Holding.{MayLook}
-use Rattle.pod_locks.specs.Causes.{Stopped, IsAbsentAt, BusyElsewhere}
+use Rattle.pod_locks.specs.Causes.{StepWasStopped, IsAbsentAt, LockBusyElsewhere}
 use Rattle.pod_locks.proofs.Calls.{follows_none, follows_work, stops_part}
 use Rattle.pod_locks.proofs.Within.{told_within}
 use Rattle.pod_gc.specs.RemovalHolding.{UnderClaim}
@@ -34,20 +34,20 @@ returns-in_err-probe-clause-worked g c = worked_wider (looks_remove c.args.pod c
 pub returns-in_err-probe-clause-stopped : goal.returns-in_err-probe-clause-stopped
 returns-in_err-probe-clause-stopped g c =
     let D = g.D.Dir in
-    err_same (λ e. Stopped D.observed c.args.pod (IsAbsentAt c.args.pod Prepared) e (D.shown c.args.dir.now) (D.shown c.probe.new.dir)) c.probe.result c.from_residual.result
+    err_same (λ e. StepWasStopped D.observed c.args.pod (IsAbsentAt c.args.pod Prepared) e (D.shown c.args.dir.now) (D.shown c.probe.new.dir)) c.probe.result c.from_residual.result
     (λ e h. search (rules, h, c.from_residual.ensures, c.in_err-probe.is)) c.probe.ensures.stopped
 
-pub returns-in_err-probe-clause-another : goal.returns-in_err-probe-clause-another
-returns-in_err-probe-clause-another g c =
+pub returns-in_err-probe-clause-by_other_process : goal.returns-in_err-probe-clause-by_other_process
+returns-in_err-probe-clause-by_other_process g c =
     let D = g.D.Dir in
     let old = D.shown c.args.dir.now in
     let new = D.shown c.probe.new.dir in
     err_same (λ e. D.observed ≡ true → Given (UnderClaim c.args.pod c.args.now) old (λ s. BusyInPrepared c.args.pod e old new)) c.probe.result c.from_residual.result
     (λ e h. search (rules, h, c.from_residual.ensures, c.in_err-probe.is))
     (err_both (λ e. (which : Which) → e ≡ stop.Busy which → which ≡ Own)
-    (λ e. D.observed ≡ true → Given (MayLook c.args.pod Prepared) old (λ s. BusyElsewhere c.args.pod Prepared Shared e old new))
+    (λ e. D.observed ≡ true → Given (MayLook c.args.pod Prepared) old (λ s. LockBusyElsewhere c.args.pod Prepared Shared e old new))
     (λ e. D.observed ≡ true → Given (UnderClaim c.args.pod c.args.now) old (λ s. BusyInPrepared c.args.pod e old new))
-    c.probe.result (λ e named busy t s k u. busy_own old new c.args.pod e named (busy t s k (looks_under c.args.pod u))) c.probe.ensures.named c.probe.ensures.another)
+    c.probe.result (λ e named busy t s k u. busy_own old new c.args.pod e named (busy t s k (looks_under c.args.pod u))) c.probe.ensures.named c.probe.ensures.by_other_process)
 
 pub returns-in_err-probe-clause-ready : goal.returns-in_err-probe-clause-ready
 returns-in_err-probe-clause-ready g c t s k u = bare_under u (c.in_err-probe.ensures.left t s k (looks_under c.args.pod u))
@@ -61,11 +61,11 @@ returns-clause-stopped g c =
     let old = D.shown c.args.dir.now in
     let mid = D.shown c.probe.new.dir in
     let new = D.shown c.put_aside.new.dir in
-    err_more (λ e. Stopped D.observed c.args.pod (IsAbsentAt c.args.pod Prepared) e mid new) (λ e. Stopped D.observed c.args.pod (IsAbsentAt c.args.pod Prepared) e old new) c.put_aside.result
+    err_more (λ e. StepWasStopped D.observed c.args.pod (IsAbsentAt c.args.pod Prepared) e mid new) (λ e. StepWasStopped D.observed c.args.pod (IsAbsentAt c.args.pod Prepared) e old new) c.put_aside.result
     (λ e x. stops_part (follows_work c.probe.ensures.worked) follows_none x) c.put_aside.ensures.stopped
 
-pub returns-clause-another : goal.returns-clause-another
-returns-clause-another g c =
+pub returns-clause-by_other_process : goal.returns-clause-by_other_process
+returns-clause-by_other_process g c =
     let D = g.D.Dir in
     let old = D.shown c.args.dir.now in
     let new = D.shown c.put_aside.new.dir in

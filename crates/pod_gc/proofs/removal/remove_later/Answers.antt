@@ -8,7 +8,7 @@ use Rattle.pod_locks.proofs.Traces.{grown_none}
 use Rattle.pod_gc.specs.declared.attempt.Round.{Round}
 use Rattle.pod_gc.specs.declared.attempt.Round.TheVariants as round
 use Rattle.pod_gc.specs.RemovalHolding.{MayRemovePod}
-use Rattle.pod_gc.specs.Removals.{MissedTimes, WentRound, RoundCause, LaterCause, RefusedByAnother}
+use Rattle.pod_gc.specs.Removals.{MissedTimes, WentRound, RoundCause, LaterCause, RemovalRefusedByAnother}
 use Rattle.pod_gc.proofs.Stages.{err_same}
 use Rattle.pod_gc.proofs.Rounds.{missed_next, ended_at, cause_later, cause_last, refused_later, ready_here, ready_more}
 use Rattle.phase_read.proofs.Often.{reads_more, reads_within}
@@ -44,16 +44,16 @@ returns-in_err-attempt-clause-cause g c =
     (λ e h. search (rules, h, c.from_residual.ensures, c.in_err-attempt.is))
     (err_more (λ e. RoundCause D.observed c.args.pod e mid new) (λ e. LaterCause D.observed c.args.pod e old new) c.attempt.result (λ e x. cause_later (follows_work c.rounds.invariant.worked) x) c.attempt.ensures.cause)
 
-pub returns-in_err-attempt-clause-another : goal.returns-in_err-attempt-clause-another
-returns-in_err-attempt-clause-another g c =
+pub returns-in_err-attempt-clause-by_other_process : goal.returns-in_err-attempt-clause-by_other_process
+returns-in_err-attempt-clause-by_other_process g c =
     let D = g.D.Dir in
     let old = D.shown c.args.dir.now in
     let mid = D.shown c.rounds.dir in
     let new = D.shown c.attempt.new.dir in
-    err_same (λ e. D.observed ≡ true → Given (MayRemovePod c.args.pod c.args.now) old (λ s. RefusedByAnother c.args.pod e old new)) c.attempt.result c.from_residual.result
+    err_same (λ e. D.observed ≡ true → Given (MayRemovePod c.args.pod c.args.now) old (λ s. RemovalRefusedByAnother c.args.pod e old new)) c.attempt.result c.from_residual.result
     (λ e h. search (rules, h, c.from_residual.ensures, c.in_err-attempt.is))
-    (err_more (λ e. D.observed ≡ true → Given (MayRemovePod c.args.pod c.args.now) mid (λ s. RefusedByAnother c.args.pod e mid new)) (λ e. D.observed ≡ true → Given (MayRemovePod c.args.pod c.args.now) old (λ s. RefusedByAnother c.args.pod e old new)) c.attempt.result
-    (λ e busy t. refused_later e new t (follows_work c.rounds.invariant.worked) (c.rounds.invariant.ready t) (busy t)) c.attempt.ensures.another)
+    (err_more (λ e. D.observed ≡ true → Given (MayRemovePod c.args.pod c.args.now) mid (λ s. RemovalRefusedByAnother c.args.pod e mid new)) (λ e. D.observed ≡ true → Given (MayRemovePod c.args.pod c.args.now) old (λ s. RemovalRefusedByAnother c.args.pod e old new)) c.attempt.result
+    (λ e busy t. refused_later e new t (follows_work c.rounds.invariant.worked) (c.rounds.invariant.ready t) (busy t)) c.attempt.ensures.by_other_process)
 
 pub returns-in_err-attempt-clause-ready : goal.returns-in_err-attempt-clause-ready
 returns-in_err-attempt-clause-ready g c t = ready_more (c.rounds.invariant.ready t) (c.attempt.ensures.ready t)

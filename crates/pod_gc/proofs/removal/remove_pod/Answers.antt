@@ -4,7 +4,7 @@ use Rattle.folder_building.proofs.Working.{worked_more}
 use Rattle.pod_locks.proofs.Calls.{follows_work}
 use Rattle.pod_gc.specs.declared.attempt.Round.{Round}
 use Rattle.pod_gc.specs.RemovalHolding.{MayRemovePod}
-use Rattle.pod_gc.specs.Removals.{RoundCause, LaterCause, RemoveCause, WentRound, RemovedLater, RemovedBetween, RefusedByAnother}
+use Rattle.pod_gc.specs.Removals.{RoundCause, LaterCause, PodRemovalCause, WentRound, RemovedLater, RemovedBetween, RemovalRefusedByAnother}
 use Rattle.pod_gc.proofs.Stages.{err_same, err_all, ok_all}
 use Rattle.pod_gc.proofs.Rounds.{cause_first, cause_then, removed_then, refused_later, ready_more}
 use Rattle.pod_gc.proofs.Hindrances.{never_gone, refused_so}
@@ -24,17 +24,17 @@ returns-in_err-attempt-clause-cause g c =
     let D = g.D.Dir in
     let old = D.shown c.args.dir.now in
     let new = D.shown c.attempt.new.dir in
-    err_same (λ e. RemoveCause D.observed c.args.pod e old new) c.attempt.result c.from_residual.result
+    err_same (λ e. PodRemovalCause D.observed c.args.pod e old new) c.attempt.result c.from_residual.result
     (λ e h. search (rules, h, c.from_residual.ensures, c.in_err-attempt.is))
-    (err_more (λ e. RoundCause D.observed c.args.pod e old new) (λ e. RemoveCause D.observed c.args.pod e old new) c.attempt.result (λ e x. cause_first x) c.attempt.ensures.cause)
+    (err_more (λ e. RoundCause D.observed c.args.pod e old new) (λ e. PodRemovalCause D.observed c.args.pod e old new) c.attempt.result (λ e x. cause_first x) c.attempt.ensures.cause)
 
-pub returns-in_err-attempt-clause-another : goal.returns-in_err-attempt-clause-another
-returns-in_err-attempt-clause-another g c =
+pub returns-in_err-attempt-clause-by_other_process : goal.returns-in_err-attempt-clause-by_other_process
+returns-in_err-attempt-clause-by_other_process g c =
     let D = g.D.Dir in
     let old = D.shown c.args.dir.now in
     let new = D.shown c.attempt.new.dir in
-    err_same (λ e. D.observed ≡ true → Given (MayRemovePod c.args.pod c.args.now) old (λ s. RefusedByAnother c.args.pod e old new)) c.attempt.result c.from_residual.result
-    (λ e h. search (rules, h, c.from_residual.ensures, c.in_err-attempt.is)) c.attempt.ensures.another
+    err_same (λ e. D.observed ≡ true → Given (MayRemovePod c.args.pod c.args.now) old (λ s. RemovalRefusedByAnother c.args.pod e old new)) c.attempt.result c.from_residual.result
+    (λ e h. search (rules, h, c.from_residual.ensures, c.in_err-attempt.is)) c.attempt.ensures.by_other_process
 
 pub returns-in-Missed-clause-worked : goal.returns-in-Missed-clause-worked
 returns-in-Missed-clause-worked g c = worked_more c.attempt.ensures.worked c.remove_later.ensures.worked
@@ -45,7 +45,7 @@ returns-in-Missed-clause-cause g c =
     let old = D.shown c.args.dir.now in
     let mid = D.shown c.attempt.new.dir in
     let new = D.shown c.remove_later.new.dir in
-    err_more (λ e. LaterCause D.observed c.args.pod e mid new) (λ e. RemoveCause D.observed c.args.pod e old new) c.remove_later.result
+    err_more (λ e. LaterCause D.observed c.args.pod e mid new) (λ e. PodRemovalCause D.observed c.args.pod e old new) c.remove_later.result
     (λ e x. cause_then (follows_work c.attempt.ensures.worked) (λ t. subst (λ (y : Round). WentRound c.args.pod y old mid) c.in-Missed.is (c.in_ok-attempt.ensures.went t)) x) c.remove_later.ensures.cause
 
 pub returns-in-Missed-clause-removed : goal.returns-in-Missed-clause-removed
@@ -57,14 +57,14 @@ returns-in-Missed-clause-removed g c =
     ok_more (λ done. D.observed ≡ true → RemovedLater c.args.pod mid new) (λ done. D.observed ≡ true → RemovedBetween c.args.pod old new) c.remove_later.result
     (λ done x t. removed_then (follows_work c.attempt.ensures.worked) (λ u. subst (λ (y : Round). WentRound c.args.pod y old mid) c.in-Missed.is (c.in_ok-attempt.ensures.went u)) new t (x t)) c.remove_later.ensures.removed
 
-pub returns-in-Missed-clause-another : goal.returns-in-Missed-clause-another
-returns-in-Missed-clause-another g c =
+pub returns-in-Missed-clause-by_other_process : goal.returns-in-Missed-clause-by_other_process
+returns-in-Missed-clause-by_other_process g c =
     let D = g.D.Dir in
     let old = D.shown c.args.dir.now in
     let mid = D.shown c.attempt.new.dir in
     let new = D.shown c.remove_later.new.dir in
-    err_more (λ e. D.observed ≡ true → Given (MayRemovePod c.args.pod c.args.now) mid (λ s. RefusedByAnother c.args.pod e mid new)) (λ e. D.observed ≡ true → Given (MayRemovePod c.args.pod c.args.now) old (λ s. RefusedByAnother c.args.pod e old new)) c.remove_later.result
-    (λ e busy t. refused_later e new t (follows_work c.attempt.ensures.worked) (c.attempt.ensures.ready t) (busy t)) c.remove_later.ensures.another
+    err_more (λ e. D.observed ≡ true → Given (MayRemovePod c.args.pod c.args.now) mid (λ s. RemovalRefusedByAnother c.args.pod e mid new)) (λ e. D.observed ≡ true → Given (MayRemovePod c.args.pod c.args.now) old (λ s. RemovalRefusedByAnother c.args.pod e old new)) c.remove_later.result
+    (λ e busy t. refused_later e new t (follows_work c.attempt.ensures.worked) (c.attempt.ensures.ready t) (busy t)) c.remove_later.ensures.by_other_process
 
 pub returns-in-Missed-clause-ready : goal.returns-in-Missed-clause-ready
 returns-in-Missed-clause-ready g c t = ready_more (c.attempt.ensures.ready t) (c.remove_later.ensures.ready t)
@@ -72,7 +72,7 @@ returns-in-Missed-clause-ready g c t = ready_more (c.attempt.ensures.ready t) (c
 pub returns-in_err-attempt-clause-complete : goal.returns-in_err-attempt-clause-complete
 returns-in_err-attempt-clause-complete g c =
     let D = g.D.Dir in
-    refused_so D.observed c.args.pod c.args.now (D.shown c.args.dir.now) (D.shown c.attempt.new.dir) c.from_residual.result (returns-in_err-attempt-clause-cause g c) (returns-in_err-attempt-clause-another g c)
+    refused_so D.observed c.args.pod c.args.now (D.shown c.args.dir.now) (D.shown c.attempt.new.dir) c.from_residual.result (returns-in_err-attempt-clause-cause g c) (returns-in_err-attempt-clause-by_other_process g c)
 
 pub returns-in-Gone-clause-complete : goal.returns-in-Gone-clause-complete
 returns-in-Gone-clause-complete g c t s k m conforming free =
@@ -85,7 +85,7 @@ returns-in-Gone-clause-complete g c t s k m conforming free =
 pub returns-in-Missed-clause-complete : goal.returns-in-Missed-clause-complete
 returns-in-Missed-clause-complete g c =
     let D = g.D.Dir in
-    refused_so D.observed c.args.pod c.args.now (D.shown c.args.dir.now) (D.shown c.remove_later.new.dir) c.remove_later.result (returns-in-Missed-clause-cause g c) (returns-in-Missed-clause-another g c)
+    refused_so D.observed c.args.pod c.args.now (D.shown c.args.dir.now) (D.shown c.remove_later.new.dir) c.remove_later.result (returns-in-Missed-clause-cause g c) (returns-in-Missed-clause-by_other_process g c)
 
 pub returns-in_err-attempt-clause-refused : goal.returns-in_err-attempt-clause-refused
 returns-in_err-attempt-clause-refused g c =

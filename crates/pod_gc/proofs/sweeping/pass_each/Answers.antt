@@ -12,7 +12,7 @@ use Rattle.pod_gc.proofs.Steps.{cause_after}
 use Rattle.pod_gc.proofs.Sweeps.{all_none, all_more, swept_none, swept_more, stage_at}
 use Rattle.pod_gc.specs.Ended.{EndsPassBetween, EndsSweepBetween}
 use Rattle.pod_gc.proofs.Ending.{ends_sweep}
-use Rattle.pod_gc.specs.Causes.{StrayByApp}
+use Rattle.pod_gc.specs.Causes.{GcStrayByApp}
 use Rattle.pod_gc.specs.Sweeping.{MaySweepAll}
 use Rattle.pod_gc.proofs.Sweeps.{all_kept}
 use Rattle.pod_gc.proofs.Lawful.{by_app_later}
@@ -80,5 +80,5 @@ returns-in_err-pass-clause-lawful g c =
     let old = D.shown c.args.dir.now in
     let mid = D.shown c.places.dir in
     let new = D.shown c.pass.new.dir in
-    err_same (λ e. StrayByApp D.observed e (MaySweepAll c.args.times.now c.args.times.expire) old new) c.pass.result c.from_residual.result (λ e h. search (rules, h, c.from_residual.ensures, c.in_err-pass.is))
-    (err_more (λ e. StrayByApp D.observed e (MaySweepAll c.args.times.now c.args.times.expire) mid new) (λ e. StrayByApp D.observed e (MaySweepAll c.args.times.now c.args.times.expire) old new) c.pass.result (λ e x is. by_app_later new (λ s z. all_kept) (follows_work c.places.invariant.worked) c.places.invariant.ready (x is)) c.pass.ensures.lawful)
+    err_same (λ e. GcStrayByApp D.observed e (MaySweepAll c.args.times.now c.args.times.expire) old new) c.pass.result c.from_residual.result (λ e h. search (rules, h, c.from_residual.ensures, c.in_err-pass.is))
+    (err_more (λ e. GcStrayByApp D.observed e (MaySweepAll c.args.times.now c.args.times.expire) mid new) (λ e. GcStrayByApp D.observed e (MaySweepAll c.args.times.now c.args.times.expire) old new) c.pass.result (λ e x is. by_app_later new (λ s z. all_kept) (follows_work c.places.invariant.worked) c.places.invariant.ready (x is)) c.pass.ensures.lawful)

@@ -15,7 +15,7 @@ use Rattle.stage1.proofs.Causes.{run_after}
 use Rattle.stage1.proofs.OneApp.{no_child}
 use Rattle.stage1.proofs.Pairs.{at_place, take_next, parted_at, started_at, started_still, written_at, written_still}
 use Rattle.stage1.proofs.Ends.{ended_last, ended_more, ended_none, all_written_still, all_written_push, all_written_none, stand_at}
-use Rattle.stage1.specs.Keeping.{Keeps, all_end_times}
+use Rattle.stage1.specs.Keeping.{NotesAtMost, all_end_times}
 use Rattle.stage1.proofs.Keeping.{keeps_none}
 use Rattle.stage1.proofs.Times.{keeps_end_push, keeps_front}
 use Rattle.stage1.proofs.ending.end_apps.Goals as goal
@@ -90,8 +90,8 @@ apps-preserved g c =
           (all_written_push new (take i apps) statuses app w.status (all_written_still (c.add_end.ensures.stays t) (take i apps) statuses (inv.wrote t)) w.wrote));
       keeps = λ t.
           let many : length (take i apps) ≡ length (take i stands) = omega (arith, length-take i apps, length-take i stands, c.apps-test.true, within) in
-          subst (λ (l : List AppStart). Keeps (all_end_times l (take (i + 1) stands)) (D.shown c.args.dir.now) new) (sym next)
-          (subst (λ (l : List Stand). Keeps (all_end_times (take i apps ++ app ∷ []) l) (D.shown c.args.dir.now) new) (sym next_stand)
+          subst (λ (l : List AppStart). NotesAtMost (all_end_times l (take (i + 1) stands)) (D.shown c.args.dir.now) new) (sym next)
+          (subst (λ (l : List Stand). NotesAtMost (all_end_times (take i apps ++ app ∷ []) l) (D.shown c.args.dir.now) new) (sym next_stand)
           (keeps_end_push (take i apps) (take i stands) app stand many (inv.keeps t) (c.add_end.ensures.keeps t)));
     }
 
@@ -176,8 +176,8 @@ returns-in-Err-clause-keeps_cut g c t =
     let stand = get_or stands i (Running no_child) in
     let within : i < length stands = omega (arith, c.apps-test.true, c.requires.each) in
     let many : length (take i apps) ≡ length (take i stands) = omega (arith, length-take i apps, length-take i stands, c.apps-test.true, within) in
-    subst (λ (l : List AppStart). Keeps (all_end_times l (take (i + 1) stands)) old new) (sym (take_next apps i app c.apps-test.true c.index-apps-place.is))
-    (subst (λ (l : List Stand). Keeps (all_end_times (take i apps ++ app ∷ []) l) old new) (sym (take_next stands i stand within (stand_at stands i within)))
+    subst (λ (l : List AppStart). NotesAtMost (all_end_times l (take (i + 1) stands)) old new) (sym (take_next apps i app c.apps-test.true c.index-apps-place.is))
+    (subst (λ (l : List Stand). NotesAtMost (all_end_times (take i apps ++ app ∷ []) l) old new) (sym (take_next stands i stand within (stand_at stands i within)))
     (keeps_end_push (take i apps) (take i stands) app stand many (c.apps.invariant.keeps t) (c.add_end.ensures.keeps t)))
 
 pub returns-clause-keeps : goal.returns-clause-keeps

@@ -13,7 +13,7 @@ use Rattle.stage1.proofs.Noted.{stays_none, stays_more, worked_any}
 use Rattle.stage1.proofs.OneApp.{no_child}
 use Rattle.stage1.proofs.Pairs.{at_place, take_next, started_still}
 use Rattle.stage1.proofs.Ends.{were_none, were_more, stand_at, front_at, started_front}
-use Rattle.stage1.specs.Keeping.{Keeps, all_end_times}
+use Rattle.stage1.specs.Keeping.{NotesAtMost, all_end_times}
 use Rattle.stage1.proofs.Keeping.{keeps_none}
 use Rattle.stage1.proofs.Times.{keeps_end_push, keeps_front}
 use Rattle.stage1.proofs.ending.wait_rest.Goals as goal
@@ -66,8 +66,8 @@ stands-preserved g c =
       keeps = λ t.
           let old = D.shown c.args.dir.now in
           let many : length (take i apps) ≡ length (take i stands) = omega (arith, length-take i apps, length-take i stands, within, c.stands-test.true) in
-          subst (λ (l : List AppStart). Keeps (all_end_times l (take (i + 1) stands)) old new) (sym (take_next apps i app within c.index-apps-place.is))
-          (subst (λ (l : List Stand). Keeps (all_end_times (take i apps ++ app ∷ []) l) old new) (sym (take_next stands i stand c.stands-test.true (stand_at stands i c.stands-test.true)))
+          subst (λ (l : List AppStart). NotesAtMost (all_end_times l (take (i + 1) stands)) old new) (sym (take_next apps i app within c.index-apps-place.is))
+          (subst (λ (l : List Stand). NotesAtMost (all_end_times (take i apps ++ app ∷ []) l) old new) (sym (take_next stands i stand c.stands-test.true (stand_at stands i c.stands-test.true)))
           (keeps_end_push (take i apps) (take i stands) app stand many (inv.keeps t) (c.wait_still.ensures.keeps t)));
     }
 
