@@ -1,22 +1,13 @@
 -- One more piece of a file.
-use Rattle.std.proofs.Common.{arith, ◌≡◌, ◌⊎◌, inl, inr, ◌≤◌, ◌<◌, ◌+◌, ◌-◌, ℕ, Bool, true, nat_lt, min, List, [], ◌++◌, length, take, drop, refl, sym, ap, subst, ◌∙◌, Option, Some, None, IsSomeAnd}
+use Rattle.std.proofs.Common.{arith, ◌≡◌, ◌⊎◌, inl, inr, ◌≤◌, ◌<◌, ◌+◌, ◌-◌, ℕ, Bool, true, nat_lt, min, List, [], ◌++◌, length, take, drop, refl, sym, ap, subst, ◌∙◌, Option, Some, None, IsSomeAnd, take_all}
 use Rattle.std.proofs.Math.Seq.{take-add}
 use Rattle.std.proofs.lemmas.Grind.{common_steps}
+use Rattle.plain_laws.proofs.Fronts.{take_past, taken_past}
 use Rattle.dir_trait.specs.Bundles.{Fills}
 use Rattle.bundle_image.specs.Fronts.{IsFrontOrNothing, IsFront}
 
 take_front : (k n : ℕ) (xs ys : List ℕ) → k ≤ n → n ≤ length xs → take k (take n xs ++ ys) ≡ take k xs
 take_front k n xs ys = grind (arith, common_steps)
-
--- two fronts that end at the same place, or past the end
-take_past : (i j : ℕ) (xs : List ℕ) → min i (length xs) ≡ min j (length xs) → take i xs ≡ take j xs
-take_past i j xs = grind (arith, common_steps)
-
-all_taken : (xs : List ℕ) → take (length xs) xs ≡ xs
-all_taken xs = grind (arith, common_steps)
-
-taken_past : (n : ℕ) (xs : List ℕ) → length xs ≤ n → take n xs ≡ xs
-taken_past n xs within = grind (arith, common_steps)
 
 front_is_first : (xs old : List ℕ) → (old ≡ []) ⊎ (old ≡ take (length old) xs) → old ≡ take (length old) xs
 front_is_first xs old (inl e) = subst (λ (l : List ℕ). l ≡ take (length l) xs) (sym e) refl
@@ -46,7 +37,7 @@ module _ (file old room filled new : List ℕ) (n : ℕ) (first : old ≡ take (
   pub front : IsFront (nat_lt n (length filled)) new file
   front = record {
     first = new_is ∙ take_past (length old + n) (length new) file (let e = new_length in grind (arith, common_steps));
-    whole = λ short. new_is ∙ (take_past (length old + n) (length file) file (past short) ∙ all_taken file);
+    whole = λ short. new_is ∙ (take_past (length old + n) (length file) file (past short) ∙ take_all file);
   }
 
 pub next_front : (file : Option (List ℕ)) (old room filled new : List ℕ) (n : ℕ) → IsFrontOrNothing file old → IsSomeAnd file (λ f. Fills f (length old) room n filled) → new ≡ old ++ take n filled → IsSomeAnd file (IsFront (nat_lt n (length filled)) new)

@@ -2,6 +2,7 @@
 use Rattle.std.proofs.Common.{arith, ◌≡◌, inl, inr, ◌≤◌, ◌<◌, ℕ, Bool, true, List, length, take, ap, subst, ◌∙◌, Option, Some, None, IsSomeAnd, ⊎_elim}
 use Rattle.std.proofs.lemmas.Bool.{cases_lt}
 use Rattle.std.proofs.lemmas.Grind.{common_steps}
+use Rattle.plain_laws.proofs.Fronts.{front_length}
 use Rattle.dir_trait.specs.Bundles.{Fills}
 use Rattle.bundle_image.specs.Fronts.{IsFrontOrNothing, IsFront}
 use Rattle.bundle_image.specs.declared.file_sum.FileSum.{FileSum}
@@ -21,14 +22,11 @@ begun_long : (bytes message : List ℕ) (sum : Option FileSum) → 1073741824 < 
 begun_long bytes message None long within s = omega arith
 begun_long bytes message (Some sum) long within s = absurd (omega (arith, s.0))
 
-front_within : (bytes message : List ℕ) → message ≡ take (length message) bytes → length message ≤ length bytes
-front_within bytes message is = let e = ap length is in grind (arith, common_steps)
-
 -- where too much was read, the file is too long
 pub sum_long : (file : Option (List ℕ)) (message : List ℕ) (sum : Option FileSum) → 1073741824 < length message → IsFrontOrNothing file message → IsSumOf message sum → IsSomeAnd file (λ bytes. IsSumOf bytes sum)
 sum_long file message sum long (inl none) s = absurd (omega (arith, ap length none))
 sum_long None message sum long (inr front) s = absurd front
-sum_long (Some bytes) message sum long (inr front) s = begun_long bytes message sum long (front_within bytes message front) s
+sum_long (Some bytes) message sum long (inr front) s = begun_long bytes message sum long (front_length bytes message front) s
 
 filled_front : (target room filled : List ℕ) (n : ℕ) → Fills target 0 room n filled → take n filled ≡ take n target
 filled_front target room filled n fills = let c = fills.count in let e = fills.room in grind (arith, common_steps)

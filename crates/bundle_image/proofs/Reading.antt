@@ -1,16 +1,9 @@
 -- Calls of a bundle, one after the other.
 use Rattle.std.proofs.Common.{◌≡◌, ◌≤◌, ℕ, Bool, true, List, [], ◌++◌, sym, refl, ap, ◌∙◌, append_assoc, append-nil, arith}
 use Rattle.dir_model.proofs.Lists.{all_both, all_weaker}
-use Rattle.dir_model.specs.Causes.{Rose}
 use Rattle.dir_trait.specs.declared.bundle.BundleRequest.{BundleRequest}
 use Rattle.dir_trait.specs.Bundles.{BundleAt, AsksBundleOnly, BundleCall}
 use Rattle.bundle_image.specs.Reads.{IsFrontOf, AsksWithin, ReadsWithin}
-
-pub rose_later : (a b c : ℕ) → a ≤ b → Rose b c → Rose a c
-rose_later a b c before rose = omega arith
-
-pub rose_still : (a b c : ℕ) → Rose a b → b ≤ c → Rose a c
-rose_still a b c rose after = omega arith
 
 asks_nothing : {front : List ℕ} {old : List BundleRequest} → AsksWithin front old old
 asks_nothing {front} {old} = record { more = []; grown = sym (append-nil old); each = tt }

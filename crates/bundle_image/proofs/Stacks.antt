@@ -4,6 +4,7 @@ use Rattle.std.specs.List.{AllByRecursion, Contains}
 use Rattle.std.specs.Cmp.Lexicographic.{slice_cmp}
 use Rattle.std.proofs.lemmas.List.{reverse-append}
 use Rattle.std.proofs.lemmas.Map.Keys.{sorted_head, sorted_tail}
+use Rattle.plain_laws.proofs.Lists.{all_mapped}
 use Rattle.dir_model.proofs.Lists.{all_push, all_weaker, all_both}
 use Rattle.dir_model.specs.Names.{IsFileName}
 use Rattle.dir_trait.specs.declared.bundle.BundleItem.{BundleItem}
@@ -21,10 +22,6 @@ turned x xs = reverse-append (x ∷ []) xs
 all_turned : {X : Type 0} (P : X → Type 0) (xs : List X) → AllByRecursion P xs → AllByRecursion P (reverse xs)
 all_turned P [] all = tt
 all_turned P (x ∷ xs) all = subst (AllByRecursion P) (sym (turned x xs)) (all_push P (reverse xs) x (all_turned P xs all.1) all.0)
-
-all_mapped : {X Y : Type 0} (P : Y → Type 0) (f : X → Y) (xs : List X) → AllByRecursion (λ x. P (f x)) xs → AllByRecursion P (map f xs)
-all_mapped P f [] all = tt
-all_mapped P f (x ∷ xs) all = (all.0, all_mapped P f xs all.1)
 
 -- what holds of what each item becomes
 pub all_children : (P : Task → Type 0) (directory : List ℕ) (items : List BundleItem) → AllByRecursion (λ item. P (walk_task_of directory item)) items → AllByRecursion P (reverse (map (walk_task_of directory) items))

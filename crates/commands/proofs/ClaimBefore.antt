@@ -1,6 +1,7 @@
 -- Where nobody else steps, what refused a claim was so before.
 use Rattle.std.proofs.Common.{◌≡◌, ◌⊎◌, inl, inr, ℕ, Bool, true, false, not, ◌&&◌, ◌||◌, ◌==◌, cond, bytes_eq, codes, Option, Some, None, is_some, List, [], ◌∷◌, ◌++◌, option_to_list, refl, sym, ap, subst, ◌∙◌, append_assoc}
 use Rattle.std.specs.List.{list_any, AllByRecursion}
+use Rattle.plain_laws.proofs.Texts.{same_bytes}
 use Rattle.dir_model.specs.declared.area.Area.{Area}
 use Rattle.dir_model.specs.declared.area.Area.TheVariants as area
 use Rattle.dir_model.specs.declared.area.Phase.{Phase}
@@ -23,7 +24,6 @@ use Rattle.dir_model.specs.Trace.{state_after, state_next, entries_kept, entry_m
 use Rattle.dir_model.specs.Trees.{is_file_entry, has_file}
 use Rattle.dir_model.proofs.Lists.{all_left, or_map, same_rest, same_self}
 use Rattle.dir_model.proofs.Moments.{at_grown, at_weaker}
-use Rattle.dir_rules.proofs.Looks.{same_bytes}
 use Rattle.dir_rules.specs.Standing.{is_spot_of_pod}
 use Rattle.lifecycle.specs.declared.machine.PodState.{PodState}
 use Rattle.lifecycle.specs.declared.machine.PodState.TheVariants as state

@@ -1,6 +1,7 @@
 -- Where nobody else steps, a claim is refused for what the state before asks for.
 use Rattle.std.proofs.Common.{◌≡◌, ◌&&◌, ◌==◌, ◌||◌, ℕ, Bool, true, false, not, cond, bytes_eq, codes, Option, Some, None, is_some, List, [], ◌∷◌, refl, sym, ap, subst, ◌∙◌}
 use Rattle.std.specs.List.{list_any}
+use Rattle.plain_laws.proofs.Booleans.{or_nothing}
 use Rattle.dir_model.specs.declared.area.Area.TheVariants as area
 use Rattle.dir_model.specs.declared.area.Phase.{Phase}
 use Rattle.dir_model.specs.declared.area.Phase.TheVariants as kind
@@ -46,7 +47,6 @@ use Rattle.commands.specs.RunQuiet.{IsClaimHeld}
 use Rattle.commands.proofs.ClaimQuiet.{folder_back}
 use Rattle.commands.proofs.FolderItems.{changed, any_replied}
 use Rattle.commands.proofs.GcTable.{held_at}
-use Rattle.commands.proofs.LateTurns.{or_false}
 use Rattle.commands.proofs.Openings.{free_before}
 use Rattle.commands.proofs.OwnSteps.{in_process, back_at}
 use Rattle.commands.proofs.RmTable.{none_read, prepared_read}
@@ -109,10 +109,10 @@ module _ (pod : PodId) {me : ℕ} {old new : List Event} (ext : Extends (in_proc
   off : (request : Request) → (is_kill request || in_process (runs_prepared pod) request) ≡ true → (inner : Inner) → changed request ≡ Some inner → spot_eq inner.spot (in_prepared pod) ≡ false
   off (MakeFileIn a) h inner is =
       let same : a ≡ inner = let e : Some a ≡ Some inner = is in cc in
-      subst (λ (i : Inner). spot_eq i.spot (in_prepared pod) ≡ false) same (apart a.spot (or_false (runs_prepared pod (MakeFileIn a)) h))
+      subst (λ (i : Inner). spot_eq i.spot (in_prepared pod) ≡ false) same (apart a.spot (or_nothing (runs_prepared pod (MakeFileIn a)) h))
   off (AppendIn a piece) h inner is =
       let same : a ≡ inner = let e : Some a ≡ Some inner = is in cc in
-      subst (λ (i : Inner). spot_eq i.spot (in_prepared pod) ≡ false) same (apart a.spot (or_false (runs_prepared pod (AppendIn a piece)) h))
+      subst (λ (i : Inner). spot_eq i.spot (in_prepared pod) ≡ false) same (apart a.spot (or_nothing (runs_prepared pod (AppendIn a piece)) h))
   off (MakeDirIn a) h inner is = cc
   off (RemoveFileIn a) h inner is = cc
   off (RemoveDirIn a) h inner is = cc

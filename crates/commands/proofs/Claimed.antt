@@ -1,6 +1,7 @@
 -- A pod that was claimed and then run: what the process knows and has open, from call to call.
-use Rattle.std.proofs.Common.{◌≡◌, ℕ, ◌==◌, Bool, true, false, not, ◌&&◌, ◌||◌, cond, List, [], ◌∷◌, ◌++◌, filter, Ok, Err, Result, refl, sym, ap, subst, ◌∙◌, arith}
+use Rattle.std.proofs.Common.{◌≡◌, ℕ, ◌==◌, Bool, true, false, not, ◌||◌, cond, List, [], ◌∷◌, ◌++◌, filter, Ok, Err, Result, refl, sym, ap, subst, ◌∙◌, arith}
 use Rattle.std.specs.List.{list_any}
+use Rattle.plain_laws.proofs.Booleans.{never_both, never_deletes}
 use Rattle.dir_model.specs.declared.area.Area.TheVariants.{Embryo}
 use Rattle.dir_model.specs.declared.intent.Intent.{Intent}
 use Rattle.dir_model.specs.declared.opening.Holding.{Holding}
@@ -96,14 +97,6 @@ unclaimed_worked pod w = record { same = w.same; faults = w.faults; local = w.lo
 -- it keeps the local rules
 abbrev looked_at : Intent → List Spot → Seen
 looked_at intent free = record (seen_at_begin intent) { standing = record (seen_at_begin intent).standing { looked = free ++ (seen_at_begin intent).standing.looked } }
-
-never_both : (b c : Bool) → not ((b && false) && c) ≡ true
-never_both true c = refl
-never_both false c = refl
-
-never_deletes : (b : Bool) → ((b && false) || false) ≡ false
-never_deletes true = refl
-never_deletes false = refl
 
 fresh_at : (pod : PodId) (own : Handle) (intent : Intent) (free : List Spot) → RunsWithoutNotes pod (with_pod pod own (looked_at intent free))
 fresh_at pod own intent free = record { runs_it = runs_pod pod own (looked_at intent free); spares_it = never_deletes _; none = refl }

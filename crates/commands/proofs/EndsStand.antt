@@ -1,6 +1,7 @@
 -- Where nobody else steps: the marks and the statuses of the apps of a pod that was run stand in its folder in the end.
 use Rattle.std.proofs.Common.{arith, ◌≡◌, ◌≤◌, ◌⊎◌, inl, inr, ℕ, ◌+◌, Bool, true, false, not, ◌&&◌, ◌||◌, ◌==◌, bytes_eq, Some, List, [], ◌∷◌, ◌++◌, refl, sym, ap, subst, ◌∙◌, append_assoc}
 use Rattle.std.specs.List.{AllByRecursion}
+use Rattle.plain_laws.proofs.Texts.{same_bytes, same_text}
 use Rattle.dir_model.specs.declared.event.Event.{Event}
 use Rattle.dir_model.specs.declared.item.Inner.{Inner}
 use Rattle.dir_model.specs.declared.pod.PodId.{PodId}
@@ -14,15 +15,12 @@ use Rattle.dir_model.specs.State.{DirState, empty_state, folder_at, spot_eq}
 use Rattle.dir_model.specs.Trace.{state_after, states_next}
 use Rattle.dir_model.specs.Trees.{content, has_file, is_apps_own}
 use Rattle.dir_model.proofs.Chains.{states_next-append, run_from-right}
-use Rattle.dir_model.proofs.Lists.{all_right, and_left, and_right, and_both, same_self}
+use Rattle.dir_model.proofs.Lists.{all_right, and_left, and_right, and_both, same_self, same_number}
 use Rattle.dir_model.proofs.Spots.{spot_self}
-use Rattle.dir_rules.proofs.Looks.{same_bytes}
 use Rattle.dir_rules.specs.Seen.{inner_eq}
 use Rattle.dir_trait.specs.DirCalls.{DirAt}
 use Rattle.folder_building.specs.Making.{inner_at}
 use Rattle.folder_contents.proofs.Spots.{one_location}
-use Rattle.lifecycle.proofs.Handles.{nat_same}
-use Rattle.lifecycle.proofs.Places.{name_same}
 use Rattle.manifests.specs.declared.runtime_app.RuntimeApp.{RuntimeApp}
 use Rattle.pod_locks.specs.ClaimRequests.{in_run}
 use Rattle.stage1.specs.declared.start.AppStart.{AppStart}
@@ -45,7 +43,7 @@ use Rattle.commands.proofs.Unowned.{IsOutside, mark_outside, status_outside, nev
 inner_is : (a b : Inner) → inner_eq a b ≡ true → a ≡ b
 inner_is a b h =
     let spots : a.spot ≡ b.spot = one_location a.spot b.spot (and_left (spot_eq a.spot b.spot) (bytes_eq a.path b.path) h) in
-    let paths : a.path ≡ b.path = name_same a.path b.path (and_right (spot_eq a.spot b.spot) (bytes_eq a.path b.path) h) in
+    let paths : a.path ≡ b.path = same_text a.path b.path (and_right (spot_eq a.spot b.spot) (bytes_eq a.path b.path) h) in
     ap (λ (x : Spot). inner_at x a.path) spots ∙ ap (λ (p : List ℕ). inner_at b.spot p) paths
 
 mark_request : (root : RootPlace) (request : Request) → makes_own_mark root request ≡ true → request ≡ MakeFileIn (mark_inner root)
@@ -59,7 +57,7 @@ status_request root request h = cc
 write_request : (root : RootPlace) (status : ℕ) (request : Request) → writes_status root status request ≡ true → request ≡ AppendIn (status_inner root) (status_text status)
 write_request root status (AppendIn i piece) h =
     ap (λ (x : Inner). AppendIn x piece) (inner_is i (status_inner root) (and_left (inner_eq i (status_inner root)) (bytes_eq piece (status_text status)) h))
-    ∙ ap (λ (p : List ℕ). AppendIn (status_inner root) p) (name_same piece (status_text status) (and_right (inner_eq i (status_inner root)) (bytes_eq piece (status_text status)) h))
+    ∙ ap (λ (p : List ℕ). AppendIn (status_inner root) p) (same_text piece (status_text status) (and_right (inner_eq i (status_inner root)) (bytes_eq piece (status_text status)) h))
 write_request root status request h = cc
 
 is_own : (o kill : Bool) → not (not o || kill) ≡ true → o ≡ true
@@ -73,7 +71,7 @@ was_done reply h = cc
 did_is : (me : ℕ) (ask : Request → Bool) (request : Request) → ((other : Request) → ask other ≡ true → other ≡ request) → (e : Event) → did me ask e ≡ true → e ≡ event me request Done
 did_is me ask request only e h =
     let rest : (ask e.request && is_done e.reply) ≡ true = and_right (not (is_foreign me e)) (ask e.request && is_done e.reply) h in
-    let mine : e.process ≡ me = nat_same e.process me (is_own (e.process == me) (is_kill e.request) (and_left (not (is_foreign me e)) (ask e.request && is_done e.reply) h)) in
+    let mine : e.process ≡ me = same_number e.process me (is_own (e.process == me) (is_kill e.request) (and_left (not (is_foreign me e)) (ask e.request && is_done e.reply) h)) in
     ap (λ (p : ℕ). event p e.request e.reply) mine
     ∙ (ap (λ (r : Request). event me r e.reply) (only e.request (and_left (ask e.request) (is_done e.reply) rest))
     ∙ ap (λ (r : Reply). event me request r) (was_done e.reply (and_right (ask e.request) (is_done e.reply) rest)))

@@ -4,6 +4,8 @@ use Rattle.std.specs.Prelude.{slice_index_or}
 use Rattle.std.specs.List.{All, AllByRecursion, cons_option, flat_map, slice_get}
 use Rattle.std.proofs.lemmas.Grind.{common_steps}
 use Rattle.std.proofs.lemmas.List.Elements.{All-head, All-tail}
+use Rattle.plain_laws.proofs.Lists.{head_of, tail_of}
+use Rattle.plain_laws.proofs.Fronts.{not_cut}
 use Rattle.sha2.specs.Sha512.{sha512}
 use Rattle.ac_types.specs.declared.store_key.StoreKey.{StoreKey}
 use Rattle.ac_types.specs.Ids.{id_text}
@@ -41,7 +43,6 @@ use Rattle.pod_plan.specs.PodFiles.{shared_directories}
 use Rattle.pod_plan.specs.PodPlans.{app_entries, pod_head_entries, image_at, image_of, pod_entries, root_entries}
 use Rattle.pod_plan.specs.Plans.{app_with_root, apps_with, folders}
 use Rattle.pod_plan.specs.Roots.{AreImageRoots, IsRootAsRead, node_key}
-use Rattle.pod_plan.proofs.Zips.{head_of, tail_of}
 use Rattle.render.specs.Assembly.{IsAssembly, own_whitelist}
 use Rattle.render.specs.Layers.{is_file_at, source_at}
 use Rattle.render.specs.declared.rendering.Rendering.{Rendering}
@@ -58,13 +59,10 @@ use Rattle.commands.proofs.RootsBefore.{entries_before}
 front_within : (bytes file : List ℕ) → bytes ≡ take (length bytes) file → length bytes ≤ length file
 front_within bytes file first = let e = ap length first in grind (arith, common_steps)
 
-cut_past : (n : ℕ) (file : List ℕ) → length (take n file) < n → take n file ≡ file
-cut_past n file within = grind (arith, common_steps)
-
 whole_front : (bytes file : List ℕ) → bytes ≡ take (suc (length bytes)) file → bytes ≡ file
 whole_front bytes file first =
     let e : length bytes ≡ length (take (suc (length bytes)) file) = ap length first in
-    first ∙ cut_past (suc (length bytes)) file (omega (arith, e))
+    first ∙ not_cut (suc (length bytes)) file (omega (arith, e))
 
 -- the element at a place
 at_place : {X : Type 0} (before rest : List X) (x : X) → slice_get (before ++ x ∷ rest) (length before) ≡ Some x

@@ -1,6 +1,7 @@
 -- Where nobody else steps, the lock of a pod that a sweep calls busy was held before.
 use Rattle.std.proofs.Common.{◌≡◌, inl, inr, ℕ, Bool, true, false, ◌&&◌, bytes_eq, Some, List, [], ◌∷◌, refl, sym, ap, subst, ◌∙◌}
 use Rattle.std.specs.List.{list_any, AllByRecursion}
+use Rattle.plain_laws.proofs.Texts.{same_bytes, same_text}
 use Rattle.dir_model.specs.declared.area.Area.{Area}
 use Rattle.dir_model.specs.declared.area.Area.TheVariants as area
 use Rattle.dir_model.specs.declared.event.Event.{Event}
@@ -16,7 +17,6 @@ use Rattle.dir_model.specs.Quiet.{Quiet}
 use Rattle.dir_model.specs.Trace.{state_after}
 use Rattle.dir_model.proofs.Chains.{nothing_yet, extends_more, extends_wider}
 use Rattle.dir_model.proofs.Lists.{and_left, and_right, and_both}
-use Rattle.dir_rules.proofs.Looks.{same_bytes}
 use Rattle.dir_rules.specs.Standing.{is_garbage}
 use Rattle.dir_files.specs.AreaLocks.{is_taking_area, closes}
 use Rattle.lifecycle.proofs.Makes.{of_same}
@@ -37,7 +37,7 @@ use Rattle.commands.proofs.OwnSteps.{in_process, begin_in_process, asks_in_proce
 use Rattle.commands.proofs.LateTurns.{Late, or_either, sweeps_late, gc_moves}
 use Rattle.commands.proofs.Held.{was_held}
 use Rattle.commands.proofs.GcQuiet.{each_shown}
-use Rattle.commands.proofs.GcTells.{deals_moves, same_text}
+use Rattle.commands.proofs.GcTells.{deals_moves}
 
 -- a folder is moved from a place of pods to a garbage place, and keeps its name
 abbrev pub keeps_names : Request → Bool

@@ -1,6 +1,7 @@
 -- Where nobody else steps, a pod that a sweep found in a garbage place stood there before, or a line says that it was moved there.
 use Rattle.std.proofs.Common.{◌≡◌, ◌⊎◌, inl, inr, ◌&&◌, ◌||◌, ◌==◌, ℕ, Bool, true, false, cond, bytes_eq, Option, Some, None, List, [], ◌∷◌, ◌++◌, refl, sym, ap, subst, ◌∙◌}
 use Rattle.std.specs.List.{AllByRecursion}
+use Rattle.plain_laws.proofs.Texts.{same_bytes}
 use Rattle.dir_model.specs.declared.area.Area.{Area}
 use Rattle.dir_model.specs.declared.area.Area.TheVariants as area
 use Rattle.dir_model.specs.declared.event.Event.{Event}
@@ -14,8 +15,7 @@ use Rattle.dir_model.specs.Quiet.{Quiet}
 use Rattle.dir_model.specs.State.{DirState, stands}
 use Rattle.dir_model.specs.Trace.{state_after, namespace_replied}
 use Rattle.dir_model.proofs.Lists.{and_left, all_right}
-use Rattle.dir_rules.proofs.Looks.{same_bytes}
-use Rattle.dir_rules.specs.Standing.{is_spot_of_pod, is_garbage}
+use Rattle.dir_rules.specs.Standing.{is_spot_of_pod}
 use Rattle.lifecycle.specs.declared.machine.PodState.{PodState}
 use Rattle.lifecycle.specs.declared.machine.PodState.TheVariants as state
 use Rattle.lifecycle.specs.declared.machine.Transition.{Transition}
@@ -36,6 +36,7 @@ use Rattle.pod_gc.specs.declared.line.GcLine.{GcLine}
 use Rattle.pod_gc.specs.Requests.{goes_to, moves_pods, sweeps}
 use Rattle.pod_gc.specs.Sweeping.{MaySweepAll}
 use Rattle.pod_gc.specs.Told.{Knew, IsLineOfTurn, TellsShown, PassedOverPods, ArePassed, places}
+use Rattle.pod_gc.proofs.Deleting.{place_garbage}
 use Rattle.command_outcomes.specs.Meanwhile.{Meanwhile}
 use Rattle.commands.specs.Gc.{SweepsByPasses}
 use Rattle.commands.specs.GcLines.{HasLine}
@@ -120,11 +121,6 @@ comes_from area.Garbage (state.Deleting owner area.ExitedGarbage) to at is = cc
 comes_from area.Garbage (state.Deleting owner from) to at is = let e : area.Garbage ≡ to = cc in inl e
 comes_from place x to at is = cc
 
-garbage_is : (a : Area) → is_garbage_place a ≡ true → is_garbage a ≡ true
-garbage_is area.ExitedGarbage is = refl
-garbage_is area.Garbage is = refl
-garbage_is a is = cc
-
 moved_not : (a : Area) {X : Type 0} → moves_pods a ≡ true → is_garbage_place a ≡ true → X
 moved_not area.ExitedGarbage moves garbage = cc
 moved_not area.Garbage moves garbage = cc
@@ -180,7 +176,7 @@ module _ (times : Times) (lines : List GcLine) {me : ℕ} {old new : List Event}
         by false is = refl
         by true is =
             let one = one_folder h (pod_spot pod here) (pod_spot pod place) (conforms h from_h) stage place_stage refl there is in
-            let clash : true ≡ false = sym (and_left (rank here == rank place) _ one) ∙ moved_apart place here moves (garbage_is here garbage) in cc
+            let clash : true ≡ false = sym (and_left (rank here == rank place) _ one) ∙ moved_apart place here moves (place_garbage here garbage) in cc
 
     not_back : stands (state_after h).namespace (pod_spot pod here) ≡ true → stands (state_after new).namespace (pod_spot pod place) ≡ true → ⊥
     not_back there ends =

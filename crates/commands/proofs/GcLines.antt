@@ -80,7 +80,7 @@ passed_place Can times here lines me a b t = all_weaker (λ l. IsLineOfTurn Can 
 
 -- a pod whose name ascends has a line after those before it
 
-abbrev subjects : List GcLine → List (List ℕ)
+abbrev pub subjects : List GcLine → List (List ℕ)
 subjects ls = map (λ (l : GcLine). subject_text l.pod l.place) ls
 
 subject_is : (l : GcLine) (n : List ℕ) (p : PodId) → pod_of_text n ≡ Some p → l.pod ≡ Some p → subject_text l.pod l.place ≡ n

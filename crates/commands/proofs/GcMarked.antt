@@ -4,6 +4,7 @@ use Rattle.std.specs.List.{list_any, AllByRecursion}
 use Rattle.std.specs.List.Sorted.{IsStrictlySortedBy}
 use Rattle.std.specs.Ordering.{nat_cmp}
 use Rattle.std.specs.Cmp.Lexicographic.{slice_cmp}
+use Rattle.plain_laws.proofs.Lists.{any_left}
 use Rattle.dir_model.specs.declared.area.Area.{Area}
 use Rattle.dir_model.specs.declared.area.Area.TheVariants as area
 use Rattle.dir_model.specs.declared.event.Event.{Event}
@@ -40,7 +41,6 @@ use Rattle.commands.specs.Gc.{SweepsByPasses}
 use Rattle.commands.specs.RemovalQuiet.{MovedFrom}
 use Rattle.commands.proofs.OwnSteps.{in_process, forward}
 use Rattle.commands.proofs.OneNumber.{one_number}
-use Rattle.commands.proofs.Lacking.{any_left}
 use Rattle.commands.proofs.MarkMoments.{IsSince, young_since, marked_since, mark_entry}
 use Rattle.commands.proofs.Untouched.{Holds, deals_off}
 use Rattle.commands.proofs.GcQuiet.{passed_grown, passes_grown}

@@ -1,7 +1,8 @@
 -- The lines of a sweep that one state asks for are one list.
-use Rattle.std.proofs.Common.{◌≡◌, ℕ, Bool, true, false, ◌||◌, bytes_eq, map, Option, Some, List, [], ◌∷◌, ◌++◌, refl, sym, ap, subst, ◌∙◌}
+use Rattle.std.proofs.Common.{◌≡◌, ℕ, Bool, true, false, ◌||◌, bytes_eq, Option, Some, List, [], ◌∷◌, ◌++◌, refl, sym, ap, subst, ◌∙◌}
 use Rattle.std.specs.List.{AllByRecursion}
 use Rattle.std.specs.Cmp.{both_ways}
+use Rattle.plain_laws.proofs.Texts.{same_bytes, same_text}
 use Rattle.dir_model.specs.declared.area.Area.{Area}
 use Rattle.dir_model.specs.declared.area.Area.TheVariants as area
 use Rattle.dir_model.specs.declared.pod.PodId.{PodId}
@@ -9,7 +10,6 @@ use Rattle.dir_model.specs.Listings.{has_name}
 use Rattle.dir_model.specs.Pods.{pod_text, pod_of_text}
 use Rattle.dir_model.specs.State.{DirState}
 use Rattle.dir_model.proofs.Lists.{or_last}
-use Rattle.dir_rules.proofs.Looks.{same_bytes}
 use Rattle.pod_gc.specs.declared.ages.Times.{Times}
 use Rattle.pod_gc.specs.declared.line.Deed.{Deed}
 use Rattle.pod_gc.specs.declared.line.GcLine.{GcLine}
@@ -17,13 +17,10 @@ use Rattle.pod_gc.specs.Told.{places}
 use Rattle.pod_lookup.proofs.InOrder.{one_order}
 use Rattle.commands.specs.Gc.{subject_text}
 use Rattle.commands.specs.GcLines.{HasLine, is_embryo_held, deed_in_pass, IsPassLine, AreGcPassLines, GatedOr, IsGcPassOf, ArePassesOf, IsSweepOf}
+use Rattle.commands.proofs.GcLines.{subjects}
 use Rattle.pod_lookup.proofs.Names.{text_back}
-use Rattle.commands.proofs.GcTells.{same_text}
 
 -- the lines of one pass
-
-abbrev subjects : List GcLine → List (List ℕ)
-subjects ls = map (λ (l : GcLine). subject_text l.pod l.place) ls
 
 module _ (place : Area) (deeds : PodId → Option Deed) where
   abbrev Line : GcLine → Type 0

@@ -3,6 +3,8 @@ use Rattle.std.proofs.Common.{◌≡◌, ◌⊎◌, inl, inr, ◌+◌, ℕ, Bool
 use Rattle.std.specs.List.{list_any, position_from, cons_option, AllByRecursion}
 use Rattle.std.proofs.lemmas.Iterator.Adapters.{position_from-zero}
 use Rattle.std.proofs.lemmas.Slice.Eq.{bytes_eq-Decides}
+use Rattle.plain_laws.proofs.Texts.{same_bytes}
+use Rattle.plain_laws.proofs.Booleans.{or_nothing}
 use Rattle.dir_model.specs.declared.area.Area.{Area}
 use Rattle.dir_model.specs.declared.area.Area.TheVariants as area
 use Rattle.dir_model.specs.declared.area.Phase.{Phase}
@@ -26,7 +28,6 @@ use Rattle.dir_model.specs.Trees.{names_in}
 use Rattle.dir_model.proofs.Allowed.{allowed_reply}
 use Rattle.dir_model.proofs.Chains.{states_next-append, state_after-push}
 use Rattle.dir_model.proofs.Lists.{or_left_false, or_right_false, all_both, all_right, all_weaker, same_rest}
-use Rattle.dir_rules.proofs.Looks.{same_bytes}
 use Rattle.dir_rules.specs.Standing.{is_garbage}
 use Rattle.dir_laws.specs.Stretches.{Throughout, StandsInArea}
 use Rattle.dir_files.specs.Listed.{ShowsArea}
@@ -56,9 +57,10 @@ use Rattle.command_outcomes.specs.Meanwhile.{Meanwhile}
 use Rattle.commands.specs.Gc.{SweepsByPasses}
 use Rattle.commands.specs.RemovalQuiet.{is_lasting_phase, KeptAsBefore, MovedAsBefore}
 use Rattle.commands.proofs.OwnSteps.{in_process, back_from, own_asked, quiet_part, own_first, forward, at_process, same_folders, held_before}
-use Rattle.commands.proofs.LateTurns.{is_lasting, lasting_back, sweeps_late, embryo_apart, or_false}
-use Rattle.commands.proofs.RmBefore.{event_weaker, has_phase_now}
+use Rattle.commands.proofs.LateTurns.{is_lasting, lasting_back, sweeps_late, embryo_apart}
+use Rattle.commands.proofs.RmBefore.{has_phase_now}
 use Rattle.pod_lookup.proofs.Names.{text_back}
+use Rattle.metadata.proofs.Views.{event_so}
 
 -- names and pods
 
@@ -114,7 +116,7 @@ none_kept now name me s (MakeFolder here) reply h none = cc
 none_kept now name me s (MoveFolder from to) Done h none = by (spot_eq from (InEmbryo name)) refl
   where
     off : spot_eq to (InEmbryo name) ≡ false
-    off = ap (λ b. b && bytes_eq to.name name) (embryo_apart to.area ((sweeps_late now).moves from to (or_false (sweeps now (MoveFolder from to)) h)))
+    off = ap (λ b. b && bytes_eq to.name name) (embryo_apart to.area ((sweeps_late now).moves from to (or_nothing (sweeps now (MoveFolder from to)) h)))
 
     by : (b : Bool) → spot_eq from (InEmbryo name) ≡ b → folder_at (namespace_replied s.namespace me (MoveFolder from to) Done) (InEmbryo name) ≡ None
     by true is = moved_away s.namespace (InEmbryo name) from to off is
@@ -259,7 +261,7 @@ module _ (now : ℕ) (pod : PodId) (place : Area) (moves : moves_pods place ≡ 
   stood_back s (MoveFolder from to) Done h there = by (spot_eq from its_place) refl
     where
       off : spot_eq to its_place ≡ false
-      off = ap (λ b. b && bytes_eq to.name (pod_text pod.bytes)) (moved_apart place to.area moves ((sweeps_late now).moves from to (or_false (sweeps now (MoveFolder from to)) h)))
+      off = ap (λ b. b && bytes_eq to.name (pod_text pod.bytes)) (moved_apart place to.area moves ((sweeps_late now).moves from to (or_nothing (sweeps now (MoveFolder from to)) h)))
 
       by : (b : Bool) → spot_eq from its_place ≡ b → stands s.namespace its_place ≡ true
       by true is = let clash : false ≡ true = sym (ap (λ (o : Option ℕ). is_some o) (moved_away s.namespace its_place from to off is)) ∙ there in cc
@@ -417,7 +419,7 @@ module _ (times : Times) (lines : List GcLine) {me : ℕ} {old new : List Event}
         let last = grown_more (grown_by x.last) from_b in
         let at = (x.dealt.cause.kept p deed).1 (before_new x.upto last) in
         let u = pod_text x.shown.bytes in
-        let moment = event_within first.more last.more first.grown last.grown (event_weaker (λ h. (phase_of_state (pod_state u h) ≡ Some p) × (is_lasting me (pod_state u h) ≡ true)) (λ h y. (y.is, lasting_of p lasts (pod_state u h) y.is)) at) in
+        let moment = event_within first.more last.more first.grown last.grown (event_so (λ h. (phase_of_state (pod_state u h) ≡ Some p) × (is_lasting me (pod_state u h) ≡ true)) (λ h y. (y.is, lasting_of p lasts (pod_state u h) y.is)) at) in
         let had = lasting_back (sweeps times.now) (sweeps_late times.now) u (λ s. phase_of_state s ≡ Some p) moment ext quiet in
         has_phase_now pod old (conforming_left old quiet.more (subst IsConforming quiet.grown conforming)) p (subst (λ (q : PodId). phase_of_state (pod_state (pod_text q.bytes) old) ≡ Some p) same had)
 

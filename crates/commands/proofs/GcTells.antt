@@ -2,7 +2,7 @@
 use Rattle.std.proofs.Common.{◌≡◌, ◌⊎◌, inl, inr, ◌+◌, ℕ, Bool, true, false, ◌||◌, ◌==◌, cond, bytes_eq, map, Option, Some, None, is_some, List, [], ◌∷◌, ◌++◌, append_assoc, refl, sym, ap, subst, ◌∙◌}
 use Rattle.std.specs.List.{list_any, position_from, AllByRecursion}
 use Rattle.std.proofs.lemmas.Iterator.Adapters.{position_from-zero}
-use Rattle.std.proofs.lemmas.Slice.Eq.{bytes_eq-Decides}
+use Rattle.plain_laws.proofs.Texts.{same_bytes, same_text}
 use Rattle.dir_model.specs.declared.area.Area.{Area}
 use Rattle.dir_model.specs.declared.area.Area.TheVariants as area
 use Rattle.dir_model.specs.declared.event.Event.{Event}
@@ -24,7 +24,6 @@ use Rattle.dir_model.specs.Trace.{state_after, state_next, states_next, namespac
 use Rattle.dir_model.specs.Trees.{names_in}
 use Rattle.dir_model.proofs.Chains.{states_next-append}
 use Rattle.dir_model.proofs.Lists.{and_left, and_right, or_last, all_right, same_rest}
-use Rattle.dir_rules.proofs.Looks.{same_bytes}
 use Rattle.dir_laws.specs.Stretches.{Sometime, StandsInArea}
 use Rattle.dir_files.specs.Listed.{ShowsArea}
 use Rattle.dir_files.specs.AreaLocks.{is_taking_area, closes, is_against, IsBusyElsewhere}
@@ -83,9 +82,6 @@ named_stands s a name there =
 
 named_by : (n name : List ℕ) (p : PodId) (ns : List (List ℕ)) → pod_of_text n ≡ Some p → pod_text p.bytes ≡ name → has_name (n ∷ ns) name ≡ true
 named_by n name p ns is same = ap (λ b. b || has_name ns name) (subst (λ (x : List ℕ). bytes_eq n x ≡ true) (sym (text_back n p is) ∙ same) (same_bytes n))
-
-pub same_text : (a b : List ℕ) → bytes_eq a b ≡ true → a ≡ b
-same_text a b is = (bytes_eq-Decides a b).0 is
 
 moves_named : (p : PodId) (a b : Area) (from to : Spot) → moves_pod p a b (MoveFolder from to) ≡ true → (pod_text p.bytes ≡ from.name) × (pod_text p.bytes ≡ to.name)
 moves_named p a b from to is =

@@ -1,6 +1,7 @@
 -- Where nobody else steps, a sweep lets a prepared pod wait, or moves it, by the marks that stood in its folder before.
 use Rattle.std.proofs.Common.{◌≡◌, inl, inr, ◌||◌, ◌&&◌, ◌==◌, ℕ, Bool, true, false, bytes_eq, codes, Option, Some, List, [], ◌∷◌, ◌++◌, refl, sym, ap, subst, ◌∙◌}
 use Rattle.std.specs.List.{AllByRecursion}
+use Rattle.plain_laws.proofs.Booleans.{or_nothing}
 use Rattle.dir_model.specs.declared.area.Area.{Area}
 use Rattle.dir_model.specs.declared.area.Area.TheVariants as area
 use Rattle.dir_model.specs.declared.event.Event.{Event}
@@ -36,14 +37,14 @@ use Rattle.commands.specs.Gc.{SweepsByPasses}
 use Rattle.commands.specs.RemovalQuiet.{WaitedAsBefore}
 use Rattle.commands.specs.RemovalTable.{moment_in, mark_moment_at}
 use Rattle.commands.proofs.OwnSteps.{in_process, back_from, quiet_part, own_first}
-use Rattle.commands.proofs.LateTurns.{or_false, sweeps_late}
+use Rattle.commands.proofs.LateTurns.{sweeps_late}
 use Rattle.commands.proofs.Lacking.{garbage_apart, folder_back}
 use Rattle.commands.proofs.GcLeft.{sweeps_aside}
 use Rattle.commands.proofs.GcQuiet.{each_shown}
 use Rattle.commands.proofs.GcTurn.{turn_after, turn_before, stood_until, untaken_at}
 use Rattle.commands.proofs.FolderItems.{changed, items_replied, showed_then}
 
-run_prepared : (x : Area) → (rank area.Run == rank x) ≡ true → (rank x == rank area.Prepared) ≡ false
+pub run_prepared : (x : Area) → (rank area.Run == rank x) ≡ true → (rank x == rank area.Prepared) ≡ false
 run_prepared area.Run is = refl
 run_prepared x is = cc
 
@@ -63,13 +64,13 @@ module _ (now : ℕ) (pod : PodId) where
   changed_off (AppendIn i piece) h inner is = cc
   changed_off (MakeFileIn i) h inner is =
       let same : i ≡ inner = cc in
-      subst Off same (off i (run_prepared i.spot.area (and_left (is_in area.Run i.spot.area) _ (or_false (sweeps now (MakeFileIn i)) h))))
+      subst Off same (off i (run_prepared i.spot.area (and_left (is_in area.Run i.spot.area) _ (or_nothing (sweeps now (MakeFileIn i)) h))))
   changed_off (RemoveFileIn i) h inner is =
       let same : i ≡ inner = cc in
-      subst Off same (off i (garbage_apart i.spot.area ((sweeps_aside now).files i (or_false (sweeps now (RemoveFileIn i)) h))))
+      subst Off same (off i (garbage_apart i.spot.area ((sweeps_aside now).files i (or_nothing (sweeps now (RemoveFileIn i)) h))))
   changed_off (RemoveDirIn i) h inner is =
       let same : i ≡ inner = cc in
-      subst Off same (off i (garbage_apart i.spot.area ((sweeps_aside now).dirs i (or_false (sweeps now (RemoveDirIn i)) h))))
+      subst Off same (off i (garbage_apart i.spot.area ((sweeps_aside now).dirs i (or_nothing (sweeps now (RemoveDirIn i)) h))))
   changed_off request h inner is = cc
 
   module _ (k : ℕ) (items : List Item) (me : ℕ) where

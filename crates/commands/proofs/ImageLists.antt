@@ -1,5 +1,6 @@
 -- The command `image list`: its calls one after the other.
-use Rattle.std.proofs.Common.{◌≡◌, ◌⊎◌, inl, inr, Bool, true, false, ◌&&◌, ◌||◌, ◌==◌, List, Some, Result, Ok, Err, IfOk, IfErr, IsErrOf, refl, sym, ap, subst, ◌∙◌}
+use Rattle.std.proofs.Common.{◌≡◌, ◌⊎◌, inl, inr, Bool, true, false, ◌&&◌, ◌==◌, List, Some, Result, Ok, Err, IfOk, IfErr, IsErrOf, refl, sym, ap, subst, ◌∙◌}
+use Rattle.std.proofs.lemmas.Bool.{or_left}
 use Rattle.dep_match.specs.declared.stored.Stored.{Stored}
 use Rattle.dir_model.specs.declared.area.Area.TheVariants.{Images}
 use Rattle.dir_model.specs.declared.opening.Target.TheVariants.{Gate}
@@ -49,16 +50,12 @@ pub given_back : {b c d : Local} (m : Local) (gate : Handle) → IsUnopened m ga
 given_back m gate new had same gone =
     gone ∙ (ap (λ (x : Local). without x gate) (same ∙ (had ∙ sym (locked_by m gate Images Shared new refl refl))) ∙ closed_after_lock m gate (Gate Images) new Shared)
 
-left_or : (a b : Bool) → a ≡ true → (a || b) ≡ true
-left_or true b h = refl
-left_or false b h = cc
-
 closes_lists : (gate : Handle) (r : Request) → closes gate r ≡ true → lists_images r ≡ true
 closes_lists gate (Close given) h = refl
 closes_lists gate r h = cc
 
 pub takes_lists : (r : Request) → is_taking_area Images Shared r ≡ true → lists_images r ≡ true
-takes_lists r h = left_or (is_taking_area Images Shared r) (reads_images r) h
+takes_lists r h = or_left (is_taking_area Images Shared r) (reads_images r) h
 
 module _ (a b c d : DirAt) (gate : Handle) (lock : ExtendsBy (is_taking_area Images Shared) a b) (mine : b.process ≡ a.process) (read : ExtendsBy reads_images b c)
     (same : c.process ≡ b.process) (gone : ExtendsBy (closes gate) c d) where

@@ -102,7 +102,7 @@ listing_calm (listing.TooMany limit) is = cc
 listing_calm (listing.FileTooLong n) is = cc
 listing_calm listing.NoMemory is = cc
 
-stray_of : (e : StoreError) → Stray ≡ import_refusal e → e ≡ store_error.Stray
+pub stray_of : (e : StoreError) → Stray ≡ import_refusal e → e ≡ store_error.Stray
 stray_of store_error.Stray is = refl
 stray_of (store_error.ListingError e) is = listing_calm e is
 stray_of e is = cc

@@ -1,5 +1,7 @@
 -- A process that removes or sweeps pods doesn't bring a pod to a phase in which somebody makes it, runs it or has made it.
 use Rattle.std.proofs.Common.{◌≡◌, ◌⊎◌, inl, inr, ℕ, Bool, true, false, not, ◌&&◌, ◌||◌, ◌==◌, cond, bytes_eq, Option, Some, None, List, refl, sym, ap, subst, ◌∙◌}
+use Rattle.plain_laws.proofs.Texts.{same_bytes}
+use Rattle.plain_laws.proofs.Booleans.{or_nothing}
 use Rattle.dir_model.specs.declared.area.Area.{Area}
 use Rattle.dir_model.specs.declared.area.Area.TheVariants as area
 use Rattle.dir_model.specs.declared.event.Event.{Event}
@@ -16,7 +18,6 @@ use Rattle.dir_model.specs.Pods.{pod_text}
 use Rattle.dir_model.specs.Quiet.{Quiet}
 use Rattle.dir_model.specs.State.{Namespace, spot_eq}
 use Rattle.dir_model.proofs.Lists.{and_left, and_right, same_self}
-use Rattle.dir_rules.proofs.Looks.{same_bytes}
 use Rattle.dir_rules.specs.Standing.{is_spot_of_pod, is_in, is_garbage}
 use Rattle.lifecycle.specs.declared.machine.PodState.{PodState}
 use Rattle.lifecycle.specs.declared.machine.PodState.TheVariants as state
@@ -30,10 +31,6 @@ use Rattle.pod_gc.specs.RemovalRequests.{removes, goes_aside}
 use Rattle.pod_gc.specs.Requests.{sweeps}
 use Rattle.commands.specs.RemovalQuiet.{is_pods_place}
 use Rattle.commands.proofs.OwnSteps.{in_process, history_back}
-
-pub or_false : (b : Bool) → (b || false) ≡ true → b ≡ true
-or_false true h = refl
-or_false false h = cc
 
 pub or_either : (b c : Bool) → (b || c) ≡ true → (b ≡ true) ⊎ (c ≡ true)
 or_either true c h = inl refl
@@ -99,8 +96,8 @@ late_arrival true a is = cc
 
 module _ (asks : Request → Bool) (l : Late asks) where
   pub late_turn : (u : List ℕ) (n : Namespace) (x : PodState) (me : ℕ) (request : Request) (reply : Reply) → (is_kill request || in_process asks request) ≡ true → is_late (transition u n x me request reply) ≡ true
-  late_turn u n x me (MakeFolder spot) Done h = absurd (l.makes spot (or_false (asks (MakeFolder spot)) h))
-  late_turn u n x me (MoveFolder from to) Done h = late_arrival (is_spot_of_pod u to) to.area (l.moves from to (or_false (asks (MoveFolder from to)) h))
+  late_turn u n x me (MakeFolder spot) Done h = absurd (l.makes spot (or_nothing (asks (MakeFolder spot)) h))
+  late_turn u n x me (MoveFolder from to) Done h = late_arrival (is_spot_of_pod u to) to.area (l.moves from to (or_nothing (asks (MoveFolder from to)) h))
   late_turn u n x me (TryLock handle Exclusive) Done h = late_if _ turn.BeginDelete refl
   late_turn u n x me (TryLock handle Shared) Done h = refl
   late_turn u n x me (Close handle) Done h = late_if _ turn.End refl

@@ -30,6 +30,7 @@ use Rattle.pod_gc.specs.Told.{IsLineOfTurn}
 use Rattle.pod_report.specs.declared.line.PodLine.{PodLine}
 use Rattle.pod_report.specs.Snapshot.{IsPodLine}
 use Rattle.pod_report.specs.Visits.{IsPhase}
+use Rattle.metadata.proofs.Views.{event_so}
 use Rattle.command_outcomes.specs.declared.refusal.Refusal.TheVariants.{WrongPhase}
 use Rattle.command_outcomes.specs.Meanwhile.{Meanwhile}
 use Rattle.command_outcomes.specs.Moments.{DirSeen, Inside, SpawnerSeen}
@@ -44,13 +45,12 @@ use Rattle.commands.specs.RunRefusals.{claim_refusal, run_refusal}
 use Rattle.commands.specs.Status.{TellsStatus, names_status}
 use Rattle.commands.proofs.GcQuiet.{lines_told}
 use Rattle.commands.proofs.OwnSteps.{event_process}
-use Rattle.commands.proofs.RmBefore.{event_weaker}
 use Rattle.commands.proofs.RunRefused.{claimed_refusal, same_refusal}
 use Rattle.commands.proofs.Starts.{open_extends}
 
 -- the phase of a pod that stood in some area
 had : {pod : PodId} {phase : Phase} {area : Area} {me : ℕ} {old new : List Event} → AtOwnEvent me old new (IsInPhase pod phase area) → HadPhase me old new pod phase
-had {pod} {phase} at = event_weaker (IsPhase pod phase) (λ h x. x.is) at
+had {pod} {phase} at = event_so (IsPhase pod phase) (λ h x. x.is) at
 
 pub status_named : (pod : PodId) (me : ℕ) (old new : List Event) (text : List ℕ) → TellsStatus pod me old new (Ok text) → names_status pod (Ok text) (HadPhase me old new)
 status_named pod me old new text p = record { status = p.status; so = had p.so.phase; is = p.is }
@@ -63,7 +63,7 @@ lines_named me old new text p = record {
 }
 
 -- what came about before the finish is of a conforming execution where the whole is
-before_finish : {me : ℕ} {ended new : List Event} → Extends is_finish me ended new → IsConforming new → IsConforming ended
+pub before_finish : {me : ℕ} {ended new : List Event} → Extends is_finish me ended new → IsConforming new → IsConforming ended
 before_finish {ended = ended} last conforming = conforming_left ended last.more (subst IsConforming last.grown conforming)
 
 pub removal_named : (pod : PodId) (phase : Phase) (old new : DirSeen) → HasFoundWrong pod phase old new → IsConforming new.trace → HadPhase old.process old.trace new.trace pod phase

@@ -1,5 +1,7 @@
 -- The command `run`: from the making and the run to what is told, and what the process knows and has open.
-use Rattle.std.proofs.Common.{◌≡◌, inl, inr, ℕ, Bool, true, false, not, ◌&&◌, ◌||◌, List, [], ◌∷◌, Some, Result, Ok, Err, IfErr, refl, sym, ap, subst, ◌∙◌, arith}
+use Rattle.std.proofs.Common.{◌≡◌, inl, inr, ℕ, Bool, true, false, ◌||◌, List, [], ◌∷◌, Some, Result, Ok, Err, IfErr, refl, sym, ap, subst, ◌∙◌, arith}
+use Rattle.plain_laws.proofs.Texts.{same_bytes}
+use Rattle.plain_laws.proofs.Booleans.{never_both, never_deletes}
 use Rattle.ac_types.specs.declared.image_ref.ImageRef.{ImageRef}
 use Rattle.dir_model.specs.declared.area.Area.TheVariants as area
 use Rattle.dir_model.specs.declared.intent.Draw.{Draw}
@@ -17,7 +19,6 @@ use Rattle.dir_rules.specs.declared.seen.Entry.{Entry}
 use Rattle.dir_rules.specs.declared.seen.Seen.{Seen}
 use Rattle.dir_rules.specs.Rules.{runs}
 use Rattle.dir_rules.specs.Standing.{is_gate_shared, gives_up, holds_own, intends}
-use Rattle.dir_rules.proofs.Looks.{same_bytes}
 use Rattle.dir_trait.specs.DirCalls.{DirAt, ExtendsBy}
 use Rattle.dir_trait.specs.Effects.{OnlyAsks, LeavesOpen}
 use Rattle.spawner.specs.Calls.{SpawnerAt}
@@ -107,14 +108,6 @@ made_seen draw own intent entries = seen_making intent (own_held draw own (Some 
 
 runs_made : (draw : PodId) (own : Handle) (intent : Intent) (entries : List Entry) → runs (made_seen draw own intent entries) (pod_text draw.bytes) ≡ true
 runs_made draw own intent entries = rw (same_bytes (pod_text draw.bytes)) refl
-
-never_both : (b c : Bool) → not ((b && false) && c) ≡ true
-never_both true c = refl
-never_both false c = refl
-
-never_deletes : (b : Bool) → ((b && false) || false) ≡ false
-never_deletes true = refl
-never_deletes false = refl
 
 fresh_made : (draw : PodId) (own : Handle) (intent : Intent) (entries : List Entry) → RunsWithoutNotes draw (made_seen draw own intent entries)
 fresh_made draw own intent entries = record { runs_it = runs_made draw own intent entries; spares_it = never_deletes _; none = refl }

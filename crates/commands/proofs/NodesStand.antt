@@ -2,6 +2,7 @@
 use Rattle.std.proofs.Common.{◌≡◌, ◌<◌, ◌-◌, ℕ, zero, suc, Ok, List, [], ◌∷◌, ◌++◌, length, map, sym, subst}
 use Rattle.std.specs.List.{All, AllByRecursion}
 use Rattle.std.proofs.lemmas.List.Elements.{All-head, All-tail}
+use Rattle.plain_laws.proofs.Lists.{head_of, tail_of}
 use Rattle.ac_types.specs.declared.store_key.StoreKey.{StoreKey}
 use Rattle.dep_match.specs.declared.dep_tree.DepNode.{DepNode}
 use Rattle.dep_match.specs.declared.dep_tree.DepTree.{DepTree}
@@ -15,7 +16,7 @@ use Rattle.image_reading.specs.Places.{IsPresent}
 use Rattle.pod_plan.specs.Choices.{AreTrees}
 use Rattle.pod_plan.specs.Roots.{node_key}
 use Rattle.pod_plan.proofs.Keys.{key_there}
-use Rattle.pod_plan.proofs.Zips.{each_at, found_at, head_of, tail_of}
+use Rattle.pod_plan.proofs.Zips.{each_at, found_at}
 use Rattle.render.specs.Orders.{all_down, from_last, top_down}
 use Rattle.standing_images.specs.Images.{AreStore, StandsWithItsFiles}
 

@@ -1,5 +1,6 @@
 -- What a folder holds gives its apps one list of starts, or one reason for none.
 use Rattle.std.proofs.Common.{◌≡◌, inl, inr, ℕ, Option, Some, None, IfSome, List, [], ◌∷◌, Result, Ok, refl, sym, ap, subst, ◌∙◌}
+use Rattle.plain_laws.proofs.Lists.{both_lists}
 use Rattle.app_section.specs.AppData.{AppData}
 use Rattle.ac_types.specs.Outcomes.{reads}
 use Rattle.ac_types.specs.Outcomes as reading
@@ -32,9 +33,6 @@ one_token a b x y = x.so.0 ∙ (one_file x y ∙ sym y.so.0)
 
 one_listing : {es : List Entry} (app : List ℕ) (a b : List ListingLine) → HoldsListing es app a → HoldsListing es app b → a ≡ b
 one_listing app a b x y = no_two_listings_have_one_text a b x.so.kind.follow y.so.kind.follow (sym x.so.text ∙ (one_file x y ∙ y.so.text))
-
-both_lists : {X : Type 0} (a b : X) (xs ys : List X) → a ≡ b → xs ≡ ys → a ∷ xs ≡ b ∷ ys
-both_lists a b xs ys is are = cc
 
 one_listings : (es : List Entry) (apps : List RuntimeAppData) (xs ys : List (List ListingLine)) → HoldsListings es apps xs → HoldsListings es apps ys → xs ≡ ys
 one_listings es [] [] [] x y = refl

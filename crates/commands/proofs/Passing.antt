@@ -1,6 +1,9 @@
 -- Where nobody else steps, a pod that its process brought to run stands there in the end, without an owner.
 use Rattle.std.proofs.Common.{◌≡◌, ◌⊎◌, inl, inr, ℕ, Bool, true, false, not, ◌&&◌, ◌||◌, ◌==◌, cond, bytes_eq, Option, Some, None, is_some, List, [], ◌∷◌, ◌++◌, refl, sym, ap, subst, ◌∙◌, append_assoc}
 use Rattle.std.specs.List.{AllByRecursion}
+use Rattle.plain_laws.proofs.Texts.{same_bytes}
+use Rattle.plain_laws.proofs.Booleans.{or_nothing}
+use Rattle.plain_laws.proofs.Numbers.{no_number}
 use Rattle.dir_model.specs.declared.area.Area.{Area}
 use Rattle.dir_model.specs.declared.area.Area.TheVariants as area
 use Rattle.dir_model.specs.declared.area.Phase.{Phase}
@@ -22,7 +25,6 @@ use Rattle.dir_model.specs.Trace.{state_after, state_next, states_next, namespac
 use Rattle.dir_model.proofs.Allowed.{make_says, move_says}
 use Rattle.dir_model.proofs.Chains.{states_next-append, state_after-push, run_from-right}
 use Rattle.dir_model.proofs.Lists.{and_left, and_right, and_both, and_false, any_push, any_last, all_right, same_rest, same_self}
-use Rattle.dir_rules.proofs.Looks.{same_bytes}
 use Rattle.dir_rules.specs.Standing.{is_spot_of_pod}
 use Rattle.folder_contents.proofs.Spots.{one_location}
 use Rattle.lifecycle.specs.declared.machine.PodState.{PodState}
@@ -40,7 +42,6 @@ use Rattle.phase_read.specs.declared.found.Found.TheVariants.{At, Gone}
 use Rattle.phase_read.specs.Read.{pod_spot}
 use Rattle.phase_read.specs.Sequential.{sequential_read, found_in, or_in}
 use Rattle.commands.proofs.OwnSteps.{in_process, own_asked, same_folders}
-use Rattle.commands.proofs.LateTurns.{or_false}
 use Rattle.commands.proofs.RmBefore.{has_phase_now}
 use Rattle.commands.specs.RunQuiet.{IsPhaseAt, IsLeftInRun}
 
@@ -57,10 +58,6 @@ pub record Leaves (spot : Spot) (asks : Request → Bool) : Type 0 where
 
 never_stands : {X : Type 0} (o : Option ℕ) (k : ℕ) → o ≡ Some k → is_some o ≡ false → X
 never_stands {X} o k is none = let clash : true ≡ false = sym (ap (λ (x : Option ℕ). is_some x) is) ∙ none in cc
-
-no_number : (o : Option ℕ) → is_some o ≡ false → o ≡ None
-no_number None h = refl
-no_number (Some k) h = cc
 
 unmarked_if : (b : Bool) (t : Transition) → is_unmarked (Some t) ≡ true → is_unmarked (transition_if b t) ≡ true
 unmarked_if true t is = is
@@ -128,9 +125,9 @@ module _ (pod : PodId) (asks : Request → Bool) (l : Leaves (in_run pod) asks) 
     where
       by : (b : Bool) → spot_eq to spot ≡ b → folder_at (namespace_replied s.namespace me (MoveFolder from to) Done) spot ≡ Some k
       by true is = never_stands (folder_at s.namespace to) k (ap (folder_at s.namespace) (one_location to spot is) ∙ at) (move_says s me from to may).free
-      by false off = moved_elsewhere s.namespace spot from to off (l.moves from to (or_false (asks (MoveFolder from to)) h)) ∙ at
+      by false off = moved_elsewhere s.namespace spot from to off (l.moves from to (or_nothing (asks (MoveFolder from to)) h)) ∙ at
   stays_there k s (MoveFolder from to) reply may h at = at
-  stays_there k s (RemoveFolder gone) Done may h at = absurd (l.removes gone (or_false (asks (RemoveFolder gone)) h))
+  stays_there k s (RemoveFolder gone) Done may h at = absurd (l.removes gone (or_nothing (asks (RemoveFolder gone)) h))
   stays_there k s (RemoveFolder gone) reply may h at = at
   stays_there k s request reply may h at = ap (λ (fs : List (Option Spot)). folder_at (record s.namespace { folders = fs }) spot) (same_folders me s.namespace request reply refl (λ handle. refl)) ∙ at
 
@@ -146,7 +143,7 @@ module _ (pod : PodId) (asks : Request → Bool) (l : Leaves (in_run pod) asks) 
   -- its state
   unmarked : (n : Namespace) (x : PodState) (request : Request) (reply : Reply) → (is_kill request || in_process asks request) ≡ true → is_unmarked (transition u n x me request reply) ≡ true
   unmarked n x (MakeFolder here) Done h = unmarked_if _ turn.Make refl
-  unmarked n x (MoveFolder from to) Done h = unmarked_when (is_spot_of_pod u to) (arrival to.area) (l.marks from to (or_false (asks (MoveFolder from to)) h))
+  unmarked n x (MoveFolder from to) Done h = unmarked_when (is_spot_of_pod u to) (arrival to.area) (l.marks from to (or_nothing (asks (MoveFolder from to)) h))
   unmarked n x (TryLock handle Exclusive) Done h = unmarked_if _ turn.BeginDelete refl
   unmarked n x (TryLock handle Shared) Done h = refl
   unmarked n x (Close handle) Done h = unmarked_if _ turn.End refl

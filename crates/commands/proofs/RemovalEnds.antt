@@ -2,6 +2,7 @@
 use Rattle.std.proofs.Common.{◌≡◌, ◌⊎◌, inl, inr, ◌+◌, ℕ, Bool, true, false, not, ◌&&◌, ◌||◌, ◌==◌, cond, Option, Some, None, List, [], ◌∷◌, ◌++◌, map, append-nil, refl, sym, ap, subst, ◌∙◌, append_assoc}
 use Rattle.std.specs.List.{position, position_from, AllByRecursion}
 use Rattle.std.proofs.lemmas.Iterator.Adapters.{position_from-zero}
+use Rattle.plain_laws.proofs.Booleans.{or_nothing}
 use Rattle.ac_types.specs.declared.store_key.StoreKey.{StoreKey}
 use Rattle.dir_model.specs.declared.area.Area.TheVariants.{Images, Removed}
 use Rattle.dir_model.specs.declared.event.Event.{Event}
@@ -30,9 +31,9 @@ use Rattle.image_removal.specs.Requests.{away_spot, puts_away, removes_at}
 use Rattle.lifecycle.proofs.Places.{none_stands}
 use Rattle.command_outcomes.specs.Meanwhile.{Meanwhile}
 use Rattle.commands.specs.ImageRm.{RemovesStoredImage}
-use Rattle.commands.proofs.PlacesKept.{same_folders}
-use Rattle.commands.proofs.OwnSteps.{in_process}
+use Rattle.commands.proofs.OwnSteps.{in_process, same_folders}
 use Rattle.commands.proofs.RemovalQuiet.{held_before}
+use Rattle.commands.proofs.GcQuiet.{Leaves}
 
 -- no folder stands at the location
 abbrev pub NoneAt : Spot → List (Option Spot) → Type 0
@@ -121,10 +122,6 @@ module _ (Q : List (Option Spot) → Type 0) (asks : Request → Bool)
       let here : state_after b ≡ states_next (state_after a) y.0 = ap state_after y.1 ∙ states_next-append empty_state a y.0 in
       subst (λ (s : DirState). Q s.namespace.folders) (sym here) (kept_all me (state_after a) y.0 own asked q)
 
-pub or_false : (b : Bool) → (b || false) ≡ true → b ≡ true
-or_false true h = refl
-or_false false h = cc
-
 -- just after the own move was answered Ok none stands where it moved from, and after the own removal none where it removed
 pub after_move : (from to : Spot) → spot_eq to from ≡ false → {me : ℕ} {old new : List Event} → CallStep me old (MoveFolder from to) Done new → NoneAt from (state_after new).namespace.folders
 after_move from to apart {me} {old} {new} s = by s.own
@@ -159,7 +156,7 @@ module _ (key : StoreKey) (draw : PodId) where
   -- an own move is from the image's place, and so it moves nothing where none stands there
   same_after_move : (a b : Spot) (folders : List (Option Spot)) → Own (MoveFolder a b) → NoneAt home folders → map (moved a b) folders ≡ folders
   same_after_move a b folders h none =
-      let m : (spot_eq a home && spot_eq b away) ≡ true = or_false _ (or_false (removes_at key draw (MoveFolder a b)) h) in
+      let m : (spot_eq a home && spot_eq b away) ≡ true = or_nothing _ (or_nothing (removes_at key draw (MoveFolder a b)) h) in
       moves_nothing a b folders (subst (λ (x : Spot). NoneAt x folders) (sym (one_location a home (and_left (spot_eq a home) (spot_eq b away) m))) none)
 
   none_kept : (p : ℕ) (w : Namespace) (request : Request) (reply : Reply) → Own request → NoneAt home w.folders → NoneAt home (namespace_replied w p request reply).folders
@@ -230,10 +227,6 @@ module _ (key : StoreKey) (draw : PodId) where
             let y : Upto between b = (at.later ++ at.step ∷ [], ap (λ (h : List Event). h ++ at.step ∷ []) at.begins ∙ append_assoc between at.later (at.step ∷ [])) in
             let z = upto_more b m.ended new (at.rest, at.ends) last in
             (absent_at (state_after new).namespace home (none_home new (upto_more between b new y z) ([], sym (append-nil new))), inr (held_before (is_against Removed Exclusive) whole quiet))
-
--- a step that leaves each folder where it is
-abbrev pub Leaves : Event → Type 0
-Leaves e = (p : ℕ) (w : Namespace) → (namespace_replied w p e.request e.reply).folders ≡ w.folders
 
 pub folders_same : (s : DirState) (es : List Event) → AllByRecursion Leaves es → (states_next s es).namespace.folders ≡ s.namespace.folders
 folders_same s [] all = refl

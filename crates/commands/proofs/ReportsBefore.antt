@@ -1,5 +1,5 @@
 -- In a state of a conforming history a pod stands in one area at most, so its lines and its manifest are one function of the state.
-use Rattle.std.proofs.Common.{◌≡◌, inl, inr, ℕ, Bool, true, false, cond, is_some, codes, List, [], ◌∷◌, Option, Some, None, Ok, Err, refl, sym, ap, subst, ◌∙◌}
+use Rattle.std.proofs.Common.{◌≡◌, inl, inr, ℕ, Bool, true, false, cond, codes, List, [], ◌∷◌, Option, Some, Ok, Err, refl, sym, ap, subst, ◌∙◌}
 use Rattle.std.specs.List.{AllByRecursion, flat_map}
 use Rattle.ac_types.specs.Outcomes.{reads, fails}
 use Rattle.ac_types.specs.Outcomes as reading
@@ -9,15 +9,14 @@ use Rattle.dir_model.specs.declared.area.Area.{Area}
 use Rattle.dir_model.specs.declared.area.Area.TheVariants as area
 use Rattle.dir_model.specs.declared.area.Phase.{Phase}
 use Rattle.dir_model.specs.declared.event.Event.{Event}
-use Rattle.dir_model.specs.declared.item.Inner.{Inner}
 use Rattle.dir_model.specs.declared.pod.PodId.{PodId}
 use Rattle.dir_model.specs.declared.spot.Spot.{Spot}
 use Rattle.dir_model.specs.Areas.{is_stage, phase_in}
 use Rattle.dir_model.specs.Pods.{pod_text}
 use Rattle.dir_model.specs.Quiet.{Quiet}
-use Rattle.dir_model.specs.State.{DirState, folder_at, is_owned_at, stands}
+use Rattle.dir_model.specs.State.{DirState, is_owned_at, stands}
 use Rattle.dir_model.specs.Trace.{state_after}
-use Rattle.dir_files.specs.Reads.{bytes_in, file_at, inner_at}
+use Rattle.dir_files.specs.Reads.{file_at, inner_at}
 use Rattle.lifecycle.specs.Executions.{IsConforming}
 use Rattle.lifecycle.proofs.Draws.{conforming_left}
 use Rattle.phase_read.specs.declared.found.Found.{Found}
@@ -29,6 +28,7 @@ use Rattle.pod_report.specs.declared.line.PodLine.{PodLine}
 use Rattle.pod_report.specs.Before.{AreThePodLines, IsLineOfPod, names_in_file}
 use Rattle.pod_report.specs.Manifests.{PodHasManifest, PodLacksManifest, manifest_in_area}
 use Rattle.pod_report.specs.Snapshot.{lined}
+use Rattle.pod_report.proofs.QuietLines.{file_stands}
 use Rattle.command_outcomes.specs.declared.refusal.Refusal.TheVariants.{NoManifest, NoPod}
 use Rattle.command_outcomes.specs.Moments.{CommandOutcome}
 use Rattle.commands.specs.CatManifest.{file_said, manifest_in, manifest_line, manifest_said}
@@ -52,14 +52,6 @@ some_phase area.ExitedGarbage false stage = (_, refl)
 some_phase area.Garbage true stage = (_, refl)
 some_phase area.Garbage false stage = (_, refl)
 some_phase a owned stage = cc
-
--- a file is in a folder that stands
-file_stands : (s : DirState) (inner : Inner) (bytes : List ℕ) → file_at s inner ≡ Some bytes → stands s.namespace inner.spot ≡ true
-file_stands s inner bytes is = by (folder_at s.namespace inner.spot) is
-  where
-    by : (o : Option ℕ) → bytes_in s.entries inner.path o ≡ Some bytes → is_some o ≡ true
-    by (Some folder) h = refl
-    by None h = cc
 
 -- a line is printed by the uuid, the phase and the names
 line_same : (l : PodLine) (pod : PodId) (names others : Option (List (List ℕ))) → pod_text l.pod.bytes ≡ pod_text pod.bytes → names ≡ others → pod_line_text (record l { apps = names }) ≡ pod_line_text (record { pod = pod; phase = l.phase; apps = others })

@@ -5,8 +5,7 @@ use Rattle.dir_model.specs.declared.event.Event.{Event}
 use Rattle.dir_model.specs.declared.item.Inner.{Inner}
 use Rattle.dir_model.specs.declared.pod.PodId.{PodId}
 use Rattle.dir_model.specs.declared.request.Request.{Request}
-use Rattle.dir_model.specs.declared.request.Request.TheVariants.{Open, TryLock, Close, ListArea, ReadIn, MoveFolder, RemoveFolder, MakeDirIn, MakeFileIn, AppendIn, RemoveFileIn, RemoveDirIn}
-use Rattle.dir_model.specs.declared.spot.Mode.TheVariants.{Shared, Exclusive}
+use Rattle.dir_model.specs.declared.request.Request.TheVariants.{MoveFolder, RemoveFolder, MakeDirIn, MakeFileIn, AppendIn, RemoveFileIn, RemoveDirIn}
 use Rattle.dir_model.specs.declared.spot.Spot.{Spot}
 use Rattle.dir_model.specs.declared.tree.TreeEntry.{TreeEntry}
 use Rattle.dir_model.specs.State.{DirState, is_at, folder_at}
@@ -15,6 +14,7 @@ use Rattle.dir_model.proofs.Lists.{all_weaker}
 use Rattle.dir_model.proofs.Moments.{at_within}
 use Rattle.dir_files.specs.Reads.{bytes_in, file_at}
 use Rattle.metadata.specs.Looks.{looks_in_run}
+use Rattle.metadata.proofs.Calm.{looks_calm}
 use Rattle.phase_read.specs.declared.found.Found.{Found}
 use Rattle.phase_read.specs.declared.found.Found.TheVariants.{At, Gone}
 use Rattle.phase_read.specs.Read.{stages}
@@ -171,15 +171,5 @@ visits_change pod = changes_nothing (visits pod) (λ r h. survey_calm r (visits_
 pub inspects_change : (pod : PodId) → ChangesAt is_nowhere (inspects pod)
 inspects_change pod = changes_nothing (inspects pod) (inspect_calm pod)
 
--- nor do the looks of the metadata service
-pub service_calm : (r : Request) → looks_in_run r ≡ true → is_calm r ≡ true
-service_calm (Open spot which) h = refl
-service_calm (TryLock handle Shared) h = refl
-service_calm (TryLock handle Exclusive) h = cc
-service_calm (Close handle) h = refl
-service_calm (ListArea area) h = refl
-service_calm (ReadIn inner at room) h = refl
-service_calm r h = cc
-
 pub service_changes : ChangesAt is_nowhere looks_in_run
-service_changes = changes_nothing looks_in_run service_calm
+service_changes = changes_nothing looks_in_run looks_calm

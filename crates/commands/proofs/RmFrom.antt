@@ -2,6 +2,8 @@
 use Rattle.std.proofs.Common.{◌≡◌, inl, inr, ℕ, Bool, true, false, not, ◌&&◌, ◌||◌, ◌==◌, cond, bytes_eq, Option, Some, None, is_some, List, [], ◌∷◌, refl, sym, ap, subst, ◌∙◌}
 use Rattle.std.specs.List.{AllByRecursion}
 use Rattle.std.proofs.lemmas.Bool.{eqb-true}
+use Rattle.plain_laws.proofs.Texts.{same_bytes}
+use Rattle.plain_laws.proofs.Booleans.{or_nothing}
 use Rattle.dir_model.specs.declared.area.Area.{Area}
 use Rattle.dir_model.specs.declared.area.Area.TheVariants as area
 use Rattle.dir_model.specs.declared.area.Phase.{Phase}
@@ -22,7 +24,6 @@ use Rattle.dir_model.specs.Quiet.{Quiet, OwnsNothing}
 use Rattle.dir_model.specs.State.{DirState, spot_eq, stands}
 use Rattle.dir_model.specs.Trace.{state_after, namespace_replied}
 use Rattle.dir_model.proofs.Lists.{and_right, same_self}
-use Rattle.dir_rules.proofs.Looks.{same_bytes}
 use Rattle.dir_rules.specs.Standing.{is_spot_of_pod}
 use Rattle.lifecycle.specs.declared.machine.PodState.{PodState}
 use Rattle.lifecycle.specs.declared.machine.PodState.TheVariants as state
@@ -42,7 +43,7 @@ use Rattle.commands.specs.Opening.{OnceFound}
 use Rattle.commands.specs.Rm.{RemovesPod}
 use Rattle.commands.specs.RemovalQuiet.{IsRemovableNow}
 use Rattle.commands.proofs.OwnSteps.{in_process, forward, history_fixed, same_folders}
-use Rattle.commands.proofs.LateTurns.{is_late, late_turn, removes_late, rm_not_embryo, in_garbage, embryo_apart, or_false}
+use Rattle.commands.proofs.LateTurns.{is_late, late_turn, removes_late, rm_not_embryo, in_garbage, embryo_apart}
 use Rattle.commands.proofs.RmQuiet.{rm_gone, was_there}
 use Rattle.commands.proofs.RmBefore.{has_phase_now}
 
@@ -127,13 +128,13 @@ module _ (pod : PodId) (now : ℕ) {me : ℕ} {old new : List Event} (ext : Exte
   embryo_kept : (s : DirState) (request : Request) (reply : Reply) → (is_kill request || in_process (removes pod now) request) ≡ true → stands s.namespace spot ≡ true → stands (namespace_replied s.namespace me request reply) spot ≡ true
   embryo_kept s (MakeFolder here) reply h there = cc
   embryo_kept s (MoveFolder from to) Done h there =
-      let asked = or_false (removes pod now (MoveFolder from to)) h in
+      let asked = or_nothing (removes pod now (MoveFolder from to)) h in
       let f : spot_eq from spot ≡ false = ap (λ b. b && bytes_eq from.name u) (rm_not_embryo pod now from to asked) in
       let t : spot_eq to spot ≡ false = ap (λ b. b && bytes_eq to.name u) (embryo_apart to.area ((removes_late pod now).moves from to asked)) in
       ap (λ (o : Option ℕ). is_some o) (moved_elsewhere s.namespace spot from to t f) ∙ there
   embryo_kept s (MoveFolder from to) reply h there = there
   embryo_kept s (RemoveFolder gone) Done h there =
-      let g : spot_eq gone spot ≡ false = ap (λ b. b && bytes_eq gone.name u) (embryo_apart gone.area (in_garbage pod now gone (or_false _ h))) in
+      let g : spot_eq gone spot ≡ false = ap (λ b. b && bytes_eq gone.name u) (embryo_apart gone.area (in_garbage pod now gone (or_nothing _ h))) in
       ap (λ (o : Option ℕ). is_some o) (removed_elsewhere s.namespace spot gone g) ∙ there
   embryo_kept s (RemoveFolder gone) reply h there = there
   embryo_kept s request reply h there = ap (λ (fs : List (Option Spot)). stands (record s.namespace { folders = fs }) spot) (same_folders me s.namespace request reply refl (λ handle. refl)) ∙ there

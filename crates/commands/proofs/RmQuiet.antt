@@ -2,6 +2,7 @@
 use Rattle.std.proofs.Common.{arith, ◌≡◌, ◌⊎◌, inl, inr, ◌≤◌, ℕ, Bool, true, false, ◌&&◌, ◌||◌, cond, Option, Some, None, is_some, bytes_eq, List, [], ◌∷◌, ◌++◌, refl, sym, ap, subst, ◌∙◌, append_assoc}
 use Rattle.std.specs.List.{AllByRecursion}
 use Rattle.std.proofs.lemmas.Bool.Decides.{nat_tests}
+use Rattle.plain_laws.proofs.Texts.{same_bytes}
 use Rattle.dir_model.specs.declared.area.Area.{Area}
 use Rattle.dir_model.specs.declared.area.Area.TheVariants as area
 use Rattle.dir_model.specs.declared.area.Phase.{Phase}
@@ -20,7 +21,6 @@ use Rattle.dir_model.specs.Replies.{is_look_at}
 use Rattle.dir_model.specs.State.{Namespace, DirState, empty_state, folder_at, stands}
 use Rattle.dir_model.specs.Trace.{state_after, namespace_replied}
 use Rattle.dir_model.proofs.Moments.{at_grown, at_weaker}
-use Rattle.dir_rules.proofs.Looks.{same_bytes}
 use Rattle.dir_rules.specs.Standing.{is_spot_of_pod}
 use Rattle.lifecycle.specs.declared.machine.PodState.{PodState}
 use Rattle.lifecycle.specs.declared.machine.PodState.TheVariants as state
@@ -28,16 +28,16 @@ use Rattle.lifecycle.specs.declared.machine.Transition.{Transition}
 use Rattle.lifecycle.specs.declared.machine.Transition.TheVariants as turn
 use Rattle.lifecycle.specs.PodMachine.{pod_state, phase_of_state, pod_progress, exists, enabled, after_transition, transition_if, transition}
 use Rattle.lifecycle.specs.Executions.{IsConforming}
-use Rattle.lifecycle.proofs.Draws.{conforming_left}
-use Rattle.lifecycle.proofs.Forward.{ages}
 use Rattle.lifecycle.proofs.Phases.{enabled_each, stands_exists}
 use Rattle.lifecycle.proofs.Stays.{machine_append}
+use Rattle.lifecycle.proofs.Looking.{existing, grows}
 use Rattle.phase_read.specs.Read.{pod_spot, is_pod_spot, stages, LeftOut, WasFound, IsFound}
 use Rattle.phase_read.proofs.InTurn.{left_out_grown}
 use Rattle.pod_locks.specs.Work.{Grew}
 use Rattle.pod_locks.proofs.Times.{at_part}
 use Rattle.pod_locks.proofs.Traces.{grown_none, grown_more, grown_call}
 use Rattle.pod_locks.specs.Causes.{Did}
+use Rattle.pod_locks.proofs.ClaimLawful.{conforms_before}
 use Rattle.pod_gc.specs.RemovalCauses.{HasDeletedPod}
 use Rattle.pod_gc.specs.Removals.{FoundNoPod, FoundThenEnded}
 use Rattle.commands.specs.Opening.{OnceFound}
@@ -59,24 +59,11 @@ none_last state.Gone none h = refl
 none_last state.Absent none h = absurd (omega (arith, h))
 none_last s none h = cc
 
-exists_young : (s : PodState) → exists s ≡ true → 1 ≤ pod_progress s
-exists_young state.Absent h = cc
-exists_young state.Gone h = cc
-exists_young (state.Deleting owner area.ExitedGarbage) h = omega arith
-exists_young (state.Deleting owner from) h = omega arith
-exists_young s h = omega arith
-
-older : (u : List ℕ) (h more : List Event) → pod_progress (pod_state u h) ≤ pod_progress (pod_state u (h ++ more))
-older u h more = subst (λ (z : PodState). pod_progress (pod_state u h) ≤ pod_progress z) (sym (machine_append u h more empty_state state.Absent)) (ages u more (state_after h) (pod_state u h))
-
 gone_on : (u : List ℕ) (h more : List Event) → pod_state u h ≡ state.Gone → pod_state u (h ++ more) ≡ state.Gone
-gone_on u h more gone = is_last (pod_state u (h ++ more)) (subst (λ (s : PodState). pod_progress s ≤ pod_progress (pod_state u (h ++ more))) gone (older u h more))
+gone_on u h more gone = is_last (pod_state u (h ++ more)) (subst (λ (s : PodState). pod_progress s ≤ pod_progress (pod_state u (h ++ more))) gone (grows u h more))
 
 pub gone_after : (u : List ℕ) (a b : List Event) → Grew a b → pod_state u a ≡ state.Gone → pod_state u b ≡ state.Gone
 gone_after u a b ab gone = subst (λ (h : List Event). pod_state u h ≡ state.Gone) (sym ab.grown) (gone_on u a ab.more gone)
-
-conforming_before : {a b : List Event} → Grew a b → IsConforming b → IsConforming a
-conforming_before {a} ab conforming = conforming_left a ab.more (subst IsConforming ab.grown conforming)
 
 removed_now : (u : List ℕ) (spot : Spot) (me : ℕ) (h : List Event) → is_spot_of_pod u spot ≡ true → IsConforming (h ++ event me (RemoveFolder spot) Done ∷ []) → pod_state u (h ++ event me (RemoveFolder spot) Done ∷ []) ≡ state.Gone
 removed_now u spot me h its conforming =
@@ -92,7 +79,7 @@ did_remove u spot me old new its did conforming = by did.each.3.own
     by : TookPlace did.each.3.before me (RemoveFolder spot) Done did.each.1 ⊎ LeftNothing did.each.3.before me (RemoveFolder spot) Done did.each.1 → pod_state u new ≡ state.Gone
     by (inr left) = let clash : false ≡ true = left.late in cc
     by (inl took) =
-        let c = subst IsConforming took.grown (conforming_before did.each.4 conforming) in
+        let c = subst IsConforming took.grown (conforms_before did.each.4 conforming) in
         gone_after u did.each.1 new did.each.4 (subst (λ (h : List Event). pod_state u h ≡ state.Gone) (sym took.grown) (removed_now u spot me did.each.3.before its c))
 
 -- and it existed just before
@@ -109,7 +96,7 @@ did_exist pod spot me old new its did conforming = by did.each.3.own
     by (inl took) =
         let e = event me (RemoveFolder spot) Done in
         let h = did.each.3.before in
-        let c = subst IsConforming took.grown (conforming_before did.each.4 conforming) in
+        let c = subst IsConforming took.grown (conforms_before did.each.4 conforming) in
         record {
           then = h;
           first = grown_more did.each.2 (record { more = did.each.3.meanwhile.others; grown = did.each.3.meanwhile.grown });
@@ -154,7 +141,7 @@ module _ (pod : PodId) where
   was_young : (a : Area) (h : List Event) → rank a ≤ 5 → IsConforming h → stands (state_after h).namespace (pod_spot pod a) ≡ true → 1 ≤ pod_progress (pod_state u h)
   was_young a h stage conforming there =
       let its : is_spot_of_pod u (pod_spot pod a) ≡ true = ap (λ b. b && bytes_eq u u) (stage_of a stage) ∙ same_bytes u in
-      exists_young (pod_state u h) (stands_exists u h (pod_spot pod a) conforming its there).0
+      existing (pod_state u h) (stands_exists u h (pod_spot pod a) conforming its there).0
 
   ended_gone : (me : ℕ) (old new : List Event) → FoundThenEnded pod me old new → IsConforming new → pod_state u new ≡ state.Gone
   ended_gone me old new e conforming = by e.ended.ended
@@ -170,8 +157,8 @@ module _ (pod : PodId) where
           let to_first : Grew hx e.ended.between = grown_more (record { more = x.rest; grown = x.ends }) (grown_more (record { more = m.0; grown = m.1 }) e.ended.first) in
           let on : Grew hx hy = grown_more to_first (record { more = y.later ++ y.step ∷ []; grown = ap (λ (t : List Event). t ++ y.step ∷ []) y.begins ∙ append_assoc e.ended.between y.later (y.step ∷ []) }) in
           let last : Grew hy new = record { more = y.rest; grown = y.ends } in
-          let young = was_young e.missed.area hx e.missed.read.stage (conforming_before (grown_more on last) conforming) x.holds in
-          let old_enough : pod_progress (pod_state u hx) ≤ pod_progress (pod_state u hy) = subst (λ (h : List Event). pod_progress (pod_state u hx) ≤ pod_progress (pod_state u h)) (sym on.grown) (older u hx on.more) in
+          let young = was_young e.missed.area hx e.missed.read.stage (conforms_before (grown_more on last) conforming) x.holds in
+          let old_enough : pod_progress (pod_state u hx) ≤ pod_progress (pod_state u hy) = subst (λ (h : List Event). pod_progress (pod_state u hx) ≤ pod_progress (pod_state u h)) (sym on.grown) (grows u hx on.more) in
           gone_after u hy new last (none_last (pod_state u hy) y.holds (omega (arith, young, old_enough)))
 
   -- that it was there
@@ -189,7 +176,7 @@ module _ (pod : PodId) where
         then = hx;
         first = record { more = x.later ++ x.step ∷ []; grown = ap (λ (t : List Event). t ++ x.step ∷ []) x.begins ∙ append_assoc old x.later (x.step ∷ []) };
         last = to_end;
-        was = (stands_exists u hx (pod_spot pod e.missed.area) (conforming_before to_end c) its x.holds).0;
+        was = (stands_exists u hx (pod_spot pod e.missed.area) (conforms_before to_end c) its x.holds).0;
       }
 
   existed : (me : ℕ) (old new : List Event) → RemovesPod pod me old new → IsConforming new → ExistedBetween pod old new
@@ -199,7 +186,7 @@ module _ (pod : PodId) where
   rm_existed {me} {old} {new} m conforming =
       let last : Grew m.ended new = record { more = m.finishes.more; grown = m.finishes.grown } in
       let first : Grew old m.begun = record { more = m.begins.more; grown = m.begins.grown } in
-      let x = existed me m.begun m.ended m.so (conforming_before last conforming) in
+      let x = existed me m.begun m.ended m.so (conforms_before last conforming) in
       record { then = x.then; first = grown_more first x.first; last = grown_more x.last last; was = x.was }
 
   pub was_there : {me : ℕ} {old new : List Event} (m : OnceFound (RemovesPod pod) me old new) → IsConforming new → pod_state u old ≡ state.Gone → ⊥
@@ -220,7 +207,7 @@ module _ (pod : PodId) where
   pub rm_gone : {me : ℕ} {old new : List Event} → OnceFound (RemovesPod pod) me old new → IsConforming new → IsGoneForGood pod new
   rm_gone {me} {old} {new} m conforming =
       let last : Grew m.ended new = record { more = m.finishes.more; grown = m.finishes.grown } in
-      let then = conforming_before last conforming in
+      let then = conforms_before last conforming in
       let gone = gone_after u m.ended new last (elim m.so.did [ inl did ↦ deleted_gone me m.begun m.ended did then | inr e ↦ ended_gone me m.begun m.ended e then ]) in
       record { is = gone; nowhere = gone_nowhere new conforming gone }
 

@@ -1,5 +1,6 @@
 -- Where nobody else steps, what the first round of a removal found and did, by the state before.
 use Rattle.std.proofs.Common.{◌≡◌, inl, inr, ◌||◌, ◌==◌, ℕ, Bool, true, false, cond, codes, Option, Some, None, is_some, position, List, refl, sym, ap, subst, ◌∙◌}
+use Rattle.plain_laws.proofs.Booleans.{or_nothing}
 use Rattle.dir_model.specs.declared.area.Area.{Area}
 use Rattle.dir_model.specs.declared.area.Area.TheVariants as area
 use Rattle.dir_model.specs.declared.area.Phase.{Phase}
@@ -12,7 +13,7 @@ use Rattle.dir_model.specs.declared.spot.Spot.{Spot}
 use Rattle.dir_model.specs.declared.spot.Which.TheVariants.{Own, Claim}
 use Rattle.dir_model.specs.declared.request.Request.{Request}
 use Rattle.dir_model.specs.declared.request.Request.TheVariants.{MakeDirIn, AppendIn, MakeFileIn, RemoveFileIn, RemoveDirIn}
-use Rattle.dir_model.specs.Areas.{rank, is_stage, phase_in}
+use Rattle.dir_model.specs.Areas.{rank, phase_in}
 use Rattle.dir_model.specs.Calls.{is_kill, Extends}
 use Rattle.dir_model.specs.Quiet.{Quiet, OwnsNothing, SameNamespace}
 use Rattle.dir_model.specs.Replies.{is_look, is_look_at, is_any_spot}
@@ -40,7 +41,7 @@ use Rattle.commands.specs.RemovalTable.{is_held_in}
 use Rattle.commands.proofs.OwnSteps.{in_process, forward}
 use Rattle.commands.specs.Opening.{opens}
 use Rattle.commands.proofs.Starts.{open_is_harmless}
-use Rattle.commands.proofs.LateTurns.{removes_late, in_garbage, or_false}
+use Rattle.commands.proofs.LateTurns.{removes_late, in_garbage}
 use Rattle.commands.proofs.OneNumber.{one_number}
 use Rattle.commands.proofs.Lacking.{garbage_apart}
 use Rattle.commands.proofs.FolderItems.{changed}
@@ -48,9 +49,10 @@ use Rattle.commands.proofs.Manifests.{had_manifest}
 use Rattle.commands.proofs.RmLacking.{removes_aside}
 use Rattle.commands.proofs.GcTurn.{quiet_between, untaken_at}
 use Rattle.commands.proofs.GcGoes.{on_leaves}
-use Rattle.pod_gc.proofs.Onward.{moved_stands, stage_place}
+use Rattle.pod_gc.proofs.Onward.{moved_stands, stage_place, stage_aside}
 use Rattle.commands.proofs.GcArrived.{moved_by}
 use Rattle.commands.proofs.GcLocks.{turn_free}
+use Rattle.commands.proofs.GcWaited.{run_prepared}
 
 -- places and phases
 
@@ -78,22 +80,12 @@ unmoved_place kind.Exited is = cc
 unmoved_place kind.ExitedGarbage is = refl
 unmoved_place p is = refl
 
-pub aside_stage : (p : Phase) → is_stage (aside p) ≡ true
-aside_stage kind.Exited = refl
-aside_stage kind.ExitedGarbage = refl
-aside_stage p = refl
-
 pub put_grown : {pod : PodId} {me : ℕ} {a b : List Event} (p : Phase) → PutAway pod p me a b → Grew a b
 put_grown {pod} {me} {a} {b} p put = over (is_moved p) refl
   where
     over : (c : Bool) → is_moved p ≡ c → Grew a b
     over true is = grown_by (put.only is)
     over false is = subst (λ (h : List Event). Grew a h) (sym (put.still is)) grown_none
-
--- a removal changes nothing in prepared
-run_prepared : (x : Area) → (rank area.Run == rank x) ≡ true → (rank x == rank area.Prepared) ≡ false
-run_prepared area.Run is = refl
-run_prepared x is = cc
 
 apart : (pod : PodId) (spot : Spot) → (rank spot.area == rank area.Prepared) ≡ false → spot_eq spot (pod_spot pod area.Prepared) ≡ false
 apart pod spot other = rw other refl
@@ -103,15 +95,15 @@ rm_changed_off pod now (MakeDirIn i) h inner is = cc
 rm_changed_off pod now (AppendIn i piece) h inner is = cc
 rm_changed_off pod now (MakeFileIn i) h inner is =
     let same : i ≡ inner = cc in
-    let asked = or_false (removes pod now (MakeFileIn i)) h in
+    let asked = or_nothing (removes pod now (MakeFileIn i)) h in
     let run = and_left (rank area.Run == rank i.spot.area) _ (and_left (spot_eq (pod_spot pod area.Run) i.spot) _ asked) in
     subst (λ (x : Inner). spot_eq x.spot (pod_spot pod area.Prepared) ≡ false) same (apart pod i.spot (run_prepared i.spot.area run))
 rm_changed_off pod now (RemoveFileIn i) h inner is =
     let same : i ≡ inner = cc in
-    subst (λ (x : Inner). spot_eq x.spot (pod_spot pod area.Prepared) ≡ false) same (apart pod i.spot (garbage_apart i.spot.area (in_garbage pod now i.spot (or_false (removes pod now (RemoveFileIn i)) h))))
+    subst (λ (x : Inner). spot_eq x.spot (pod_spot pod area.Prepared) ≡ false) same (apart pod i.spot (garbage_apart i.spot.area (in_garbage pod now i.spot (or_nothing (removes pod now (RemoveFileIn i)) h))))
 rm_changed_off pod now (RemoveDirIn i) h inner is =
     let same : i ≡ inner = cc in
-    subst (λ (x : Inner). spot_eq x.spot (pod_spot pod area.Prepared) ≡ false) same (apart pod i.spot (garbage_apart i.spot.area (in_garbage pod now i.spot (or_false (removes pod now (RemoveDirIn i)) h))))
+    subst (λ (x : Inner). spot_eq x.spot (pod_spot pod area.Prepared) ≡ false) same (apart pod i.spot (garbage_apart i.spot.area (in_garbage pod now i.spot (or_nothing (removes pod now (RemoveDirIn i)) h))))
 rm_changed_off pod now request h inner is = cc
 
 -- a read of one state is that of another with the same folders and owners
@@ -275,4 +267,4 @@ module _ (pod : PodId) (now : ℕ) {me : ℕ} {old new : List Event} (ext : Exte
       let h = at_grown t.alone.free in
       let rest = grown_more (record { more = g.0; grown = g.1 }) (grown_more (record { more = h.0; grown = h.1 }) from_b) in
       let x = folder_aside p k at a t.between to_a rest t.put in
-      turn_free ext quiet conforming first from_b pod (aside p) (aside_stage p) k x.0 x.1 x.2 Own Exclusive t.alone
+      turn_free ext quiet conforming first from_b pod (aside p) (stage_aside p) k x.0 x.1 x.2 Own Exclusive t.alone

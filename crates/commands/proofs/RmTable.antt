@@ -46,8 +46,8 @@ use Rattle.commands.proofs.GcTable.{held_at}
 use Rattle.commands.proofs.GcLocks.{turn_held}
 use Rattle.commands.proofs.Manifests.{had_manifest}
 use Rattle.commands.proofs.RmLacking.{removes_aside}
-use Rattle.commands.proofs.RmRounds.{waits_there, aside_stage, rm_changed_off, found_before, found_place, found_folder, folder_aside, put_grown, never_missed, claim_free, own_free}
-use Rattle.pod_gc.proofs.Onward.{stage_place}
+use Rattle.commands.proofs.RmRounds.{waits_there, rm_changed_off, found_before, found_place, found_folder, folder_aside, put_grown, never_missed, claim_free, own_free}
+use Rattle.pod_gc.proofs.Onward.{stage_place, stage_aside}
 
 -- what one state asks for
 
@@ -214,7 +214,7 @@ module _ (pod : PodId) (now : ℕ) {me : ℕ} {old new : List Event} (ext : Exte
         let first = to_read (LockWasRefused pod which) f in
         let k = found_folder pod now ext quiet idle conforming begun begins (LockWasRefused pod which) x f upto in
         let h = folder_aside pod now ext quiet idle conforming begun begins p k.0 k.1 f.between r.between first from_mid r.put in
-        let held = turn_held ext quiet conforming (grown_more first (put_grown p r.put)) from_x pod (aside p) (aside_stage p) k.0 h.0 h.1 h.2 Own Exclusive r.held in
+        let held = turn_held ext quiet conforming (grown_more first (put_grown p r.put)) from_x pod (aside p) (stage_aside p) k.0 h.0 h.1 h.2 Own Exclusive r.held in
         answer (LockWasRefused pod which) f upto (Some (PodBusy pod which))
         (by_own me pod s k.0 true (area_of_phase p) k.1 (λ here. waited p f.removable k.0 k.1 f.between r.between first from_mid r.put.claimed here) held ∙ ap (λ (w : Which). Some (PodBusy pod w)) (sym r.own))
 

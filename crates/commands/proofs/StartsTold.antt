@@ -2,7 +2,7 @@
 use Rattle.std.proofs.Common.{arith, ◌≡◌, inl, inr, ◌<◌, ℕ, ◌==◌, true, false, cond, Option, Some, None, IfSome, option_map, List, [], ◌∷◌, ◌++◌, map, length, take, append-nil, append_assoc, refl, sym, ap, subst, ◌∙◌}
 use Rattle.std.specs.List.{list_all}
 use Rattle.std.proofs.lemmas.Bool.Decides.{nat_tests}
-use Rattle.std.proofs.lemmas.Grind.{common_steps}
+use Rattle.plain_laws.proofs.Fronts.{not_cut, within_take}
 use Rattle.app_section.specs.AppData.{app_data}
 use Rattle.app_section.specs.declared.app.App.{App}
 use Rattle.dir_model.specs.declared.event.Event.{Event}
@@ -68,12 +68,6 @@ file_is pod folder es s x path =
 -- a token's first bytes are all of it
 token_short : (bytes : List ℕ) → is_token bytes ≡ true → length bytes ≡ 32
 token_short bytes is = let h = and_left (length bytes == 32) (list_all is_digit bytes) is in grind (arith, nat_tests)
-
-not_cut : (n : ℕ) (bytes : List ℕ) → length (take n bytes) < n → take n bytes ≡ bytes
-not_cut n bytes within = grind (arith, common_steps)
-
-within_take : (n : ℕ) (bytes : List ℕ) → length bytes < n → take n bytes ≡ bytes
-within_take n bytes within = grind (arith, common_steps)
 
 token_front : (file token : List ℕ) → IsTokenOf token (take 33 file) → IsTokenOf token file
 token_front file token is =

@@ -2,6 +2,8 @@
 use Rattle.std.proofs.Common.{◌≡◌, ◌⊎◌, inl, inr, ℕ, Bool, true, false, not, ◌&&◌, ◌||◌, ◌==◌, cond, bytes_eq, Option, Some, None, List, [], ◌∷◌, ◌++◌, map, append-nil, refl, sym, ap, subst, ◌∙◌, append_assoc}
 use Rattle.std.specs.List.{list_any, cons_option, AllByRecursion}
 use Rattle.std.proofs.lemmas.Slice.Eq.{bytes_eq-Decides}
+use Rattle.std.proofs.lemmas.Bool.{or_left}
+use Rattle.plain_laws.proofs.Booleans.{or_nothing}
 use Rattle.dir_model.specs.declared.area.Area.{Area}
 use Rattle.dir_model.specs.declared.area.Area.TheVariants.{Incoming, Removed}
 use Rattle.dir_model.specs.declared.event.Event.{Event}
@@ -18,7 +20,7 @@ use Rattle.dir_model.specs.Trees.{names_in}
 use Rattle.dir_model.specs.Listings.{has_name}
 use Rattle.dir_model.specs.Calls.{event, is_finish, is_foreign, is_kill, IsRun, Extends, CallStep}
 use Rattle.dir_model.specs.Quiet.{Quiet}
-use Rattle.dir_model.proofs.Lists.{or_last, all_left, all_right, all_map, same_rest, same_self}
+use Rattle.dir_model.proofs.Lists.{or_last, all_left, all_right, all_map, same_rest, same_self, and_right}
 use Rattle.dir_model.proofs.Chains.{states_next-append, and_more, extends_wider, run-left}
 use Rattle.dir_model.proofs.Moments.{at_within}
 use Rattle.dir_rules.specs.Standing.{is_in}
@@ -33,10 +35,10 @@ use Rattle.image_removal.specs.Requests.{incoming_spot, removed_spot, moves_fold
 use Rattle.image_removal.specs.Sweeps.{WasLocked}
 use Rattle.command_outcomes.specs.Meanwhile.{Meanwhile}
 use Rattle.commands.specs.ImageGc.{SweepsImages}
-use Rattle.commands.proofs.PlacesKept.{same_folders}
-use Rattle.commands.proofs.OwnSteps.{in_process}
+use Rattle.commands.proofs.OwnSteps.{in_process, same_folders}
 use Rattle.commands.proofs.RemovalQuiet.{held_before}
-use Rattle.commands.proofs.RemovalEnds.{NoneAt, absent_at, after_move, after_removal, removal_keeps, or_false, Upto, upto_more, upto_call, kept_between, Leaves, folders_same}
+use Rattle.commands.proofs.RemovalEnds.{NoneAt, absent_at, after_move, after_removal, removal_keeps, Upto, upto_more, upto_call, kept_between, folders_same}
+use Rattle.commands.proofs.GcQuiet.{Leaves}
 
 -- the folder of this name in the area
 abbrev pub place_in : Area → List ℕ → Spot
@@ -201,13 +203,9 @@ moves_elsewhere name a b away folders none = all_map (λ x. is_at (incoming_spot
     by x at true = ap (λ c. c && bytes_eq b.name name) (not_incoming b.area away)
     by x at false = at
 
-and_second : (a b : Bool) → (a && b) ≡ true → b ≡ true
-and_second true b h = h
-and_second false b h = cc
-
 incoming_keeps : (name : List ℕ) → Keeps (in_process sweeps_store) (incoming_spot name)
 incoming_keeps name p w (MakeFolder here) reply h none = cc
-incoming_keeps name p w (MoveFolder a b) Done h none = moves_elsewhere name a b (and_second (is_in a.area Incoming) (is_in b.area Removed) (or_false (sweeps_store (MoveFolder a b)) h)) w.folders none
+incoming_keeps name p w (MoveFolder a b) Done h none = moves_elsewhere name a b (and_right (is_in a.area Incoming) (is_in b.area Removed) (or_nothing (sweeps_store (MoveFolder a b)) h)) w.folders none
 incoming_keeps name p w (MoveFolder a b) reply h none = none
 incoming_keeps name p w (RemoveFolder gone) Done h none = removal_keeps (incoming_spot name) gone w.folders none
 incoming_keeps name p w (RemoveFolder gone) reply h none = none
@@ -222,10 +220,10 @@ never [] = refl
 never (x ∷ xs) = never xs
 
 moves_never : (names : List (List ℕ)) (a b : Spot) → finishing names (MoveFolder a b) ≡ true → false ≡ true
-moves_never names a b h = sym (never (uuids names)) ∙ or_false (deleting names (MoveFolder a b)) h
+moves_never names a b h = sym (never (uuids names)) ∙ or_nothing (deleting names (MoveFolder a b)) h
 
 makes_never : (names : List (List ℕ)) (here : Spot) → finishing names (MakeFolder here) ≡ true → false ≡ true
-makes_never names here h = sym (never (uuids names)) ∙ or_false (deleting names (MakeFolder here)) h
+makes_never names here h = sym (never (uuids names)) ∙ or_nothing (deleting names (MakeFolder here)) h
 
 removed_keeps : (names : List (List ℕ)) (name : List ℕ) → Keeps (finishing names) (removed_spot name)
 removed_keeps names name p w (MakeFolder here) reply h none = let clash : false ≡ true = makes_never names here h in cc
@@ -233,10 +231,6 @@ removed_keeps names name p w (MoveFolder a b) reply h none = let clash : false �
 removed_keeps names name p w (RemoveFolder gone) Done h none = removal_keeps (removed_spot name) gone w.folders none
 removed_keeps names name p w (RemoveFolder gone) reply h none = none
 removed_keeps names name p w request reply h none = subst (λ (fs : List (Option Spot)). NoneAt (removed_spot name) fs) (sym (same_folders p w request reply refl (λ handle. refl))) none
-
-or_head : (a b : Bool) → a ≡ true → (a || b) ≡ true
-or_head true b h = refl
-or_head false b h = cc
 
 -- the passes, one after the other
 abbrev Pass : Area → (List ℕ → Request) → (List (List ℕ) → Request → Bool) → List SweepLine → ℕ → List Event → List Event → Type 0
@@ -339,8 +333,8 @@ module _ {me : ℕ} {old new : List Event} {lines : List SweepLine} (ext : Exten
   finishes_so : (d : Dealt Removed deletes deleting me between m.ended) → Extends (finishing d.names) me d.listed new
   finishes_so d =
       let names = d.names in
-      let first : Extends (finishing names) me d.listed d.done = extends_wider (λ r h. or_head (deleting names r) (is_close r || is_finish r) h) d.only in
-      let second : Extends (finishing names) me d.done m.ended = extends_wider (λ r h. or_last (deleting names r) (is_close r || is_finish r) (or_head (is_close r) (is_finish r) h)) d.gives_back in
+      let first : Extends (finishing names) me d.listed d.done = extends_wider (λ r h. or_left (deleting names r) (is_close r || is_finish r) h) d.only in
+      let second : Extends (finishing names) me d.done m.ended = extends_wider (λ r h. or_last (deleting names r) (is_close r || is_finish r) (or_left (is_close r) (is_finish r) h)) d.gives_back in
       let third : Extends (finishing names) me m.ended new = extends_wider (λ r h. or_last (deleting names r) (is_close r || is_finish r) (or_last (is_close r) (is_finish r) h)) m.finishes in
       and_more (and_more first refl second) refl third
 

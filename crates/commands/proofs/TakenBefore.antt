@@ -2,6 +2,7 @@
 -- pod twice. And nobody else held the lock of embryo before, where it was had.
 use Rattle.std.proofs.Common.{◌≡◌, ◌⊎◌, inl, inr, ℕ, Bool, true, false, not, ◌&&◌, ◌||◌, ◌==◌, cond, Option, Some, None, is_some, List, [], ◌∷◌, ◌++◌, append_assoc, append-nil, refl, sym, ap, subst, ◌∙◌}
 use Rattle.std.specs.List.{AllByRecursion}
+use Rattle.plain_laws.proofs.Booleans.{or_nothing}
 use Rattle.dir_model.specs.declared.area.Area.{Area}
 use Rattle.dir_model.specs.declared.area.Area.TheVariants as area
 use Rattle.dir_model.specs.declared.event.Event.{Event}
@@ -23,6 +24,7 @@ use Rattle.dir_model.specs.Trace.{namespace_replied, state_after, state_next, st
 use Rattle.dir_model.proofs.Chains.{state_after-push, states_next-append}
 use Rattle.dir_model.proofs.Lists.{and_left, and_right, same_self}
 use Rattle.dir_model.proofs.Moments.{some_number}
+use Rattle.dir_model.proofs.Spots.{spot_self}
 use Rattle.dir_rules.specs.declared.seen.Seen.{Seen}
 use Rattle.dir_rules.specs.declared.standing.Held.{Held}
 use Rattle.dir_rules.specs.declared.standing.Standing.{Standing}
@@ -33,7 +35,6 @@ use Rattle.dir_rules.specs.Standing.{find_held, is_in, looked_by, standing_repli
 use Rattle.dir_rules.proofs.Tied.{conforms-left, seen_after-append, was_allowed}
 use Rattle.dir_trait.specs.DirCalls.{DirAt, HeldBetween}
 use Rattle.dir_files.specs.AreaLocks.{IsFreeElsewhere, is_against}
-use Rattle.folder_building.proofs.Working.{at_spot}
 use Rattle.folder_contents.proofs.Spots.{one_location}
 use Rattle.impossible_replies.proofs.Refusals.{made_already}
 use Rattle.lifecycle.proofs.Makes.{made_by}
@@ -47,7 +48,6 @@ use Rattle.commands.specs.Run.{makes_and_runs}
 use Rattle.commands.proofs.OwnSteps.{asked_part, in_process, own_asked, own_part, same_folders}
 use Rattle.commands.proofs.Openings.{free_before}
 use Rattle.commands.proofs.Parts.{Part, held_wider}
-use Rattle.commands.proofs.RemovalQuiet.{or_false}
 
 -- what has been made stays so
 looked_made : (o : Option Held) (k : Standing) → k.made ≡ true → (looked_by o k).made ≡ true
@@ -250,7 +250,7 @@ module _ (draw : PodId) where
     stood_before : (old new : List Event) → Extends asks me old new → Quiet me old new → Conforms me new → Asked (Refused Exists 0) old new → Stood (state_after old).namespace
     stood_before old new ext quiet conforms x =
         let y = step_of (λ late. let clash : false ≡ true = late in cc) x in
-        refused_before old new y.h y.after y.later y.more 0 Here ext quiet conforms (at_spot Here) y.begins y.took y.ends
+        refused_before old new y.h y.after y.later y.more 0 Here ext quiet conforms (spot_self Here) y.begins y.took y.ends
 
     -- the process hadn't made it
     abbrev Unmade : List Event → Type 0
@@ -360,7 +360,7 @@ module _ (draw : PodId) where
 
   pub prepare_elsewhere : (request : Request) → in_process (prepares_pod draw) request ≡ true → MovesElsewhere draw request
   prepare_elsewhere (MoveFolder from to) h =
-      by (spot_eq from Here) (spot_eq to (pod_at area.Prepare draw)) (spot_eq from (pod_at area.Prepare draw)) (spot_eq to (pod_at area.Prepared draw)) refl refl refl refl (or_false (prepares_pod draw (MoveFolder from to)) h)
+      by (spot_eq from Here) (spot_eq to (pod_at area.Prepare draw)) (spot_eq from (pod_at area.Prepare draw)) (spot_eq to (pod_at area.Prepared draw)) refl refl refl refl (or_nothing (prepares_pod draw (MoveFolder from to)) h)
     where
       by : (a b d g : Bool) → spot_eq from Here ≡ a → spot_eq to (pod_at area.Prepare draw) ≡ b → spot_eq from (pod_at area.Prepare draw) ≡ d → spot_eq to (pod_at area.Prepared draw) ≡ g → (((a && b) || ((d && g) || false)) || false) ≡ true
           → (spot_eq to Here ≡ false) × (spot_eq from Here ≡ true → is_in area.Prepare to.area ≡ true)
@@ -375,7 +375,7 @@ module _ (draw : PodId) where
 
   pub run_elsewhere : (request : Request) → in_process (makes_and_runs draw) request ≡ true → MovesElsewhere draw request
   run_elsewhere (MoveFolder from to) h =
-      by (spot_eq from Here) (spot_eq to (pod_at area.Prepare draw)) (spot_eq from (pod_at area.Prepare draw)) (spot_eq to (pod_at area.Run draw)) refl refl refl refl (or_false (makes_and_runs draw (MoveFolder from to)) h)
+      by (spot_eq from Here) (spot_eq to (pod_at area.Prepare draw)) (spot_eq from (pod_at area.Prepare draw)) (spot_eq to (pod_at area.Run draw)) refl refl refl refl (or_nothing (makes_and_runs draw (MoveFolder from to)) h)
     where
       by : (a b d g : Bool) → spot_eq from Here ≡ a → spot_eq to (pod_at area.Prepare draw) ≡ b → spot_eq from (pod_at area.Prepare draw) ≡ d → spot_eq to (pod_at area.Run draw) ≡ g → (((a && b) || ((d && g) || false)) || false) ≡ true
           → (spot_eq to Here ≡ false) × (spot_eq from Here ≡ true → is_in area.Prepare to.area ≡ true)

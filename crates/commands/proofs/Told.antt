@@ -44,7 +44,7 @@ pub said_allowed : (pod : PodId) (e : RunError) (r : Refusal) → IsRunSaid pod 
 said_allowed pod e r (inl said) = subst (λ (x : Refusal). apps_refusal x ≡ true) (sym said) (run_allowed pod e)
 said_allowed pod e r (inr said) = subst (λ (x : Refusal). apps_refusal x ≡ true) (sym said) refl
 
-abbrev telling : Told → Answer
+abbrev pub telling : Told → Answer
 telling t = Ok t
 
 abbrev refusing : Refusal → Answer

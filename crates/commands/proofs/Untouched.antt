@@ -1,5 +1,6 @@
 -- A folder stays, and what stands directly in it, while only other folders are dealt with.
 use Rattle.std.proofs.Common.{◌≡◌, ◌||◌, ◌==◌, ℕ, true, false, bytes_eq, Option, Some, List, [], refl, sym, ap, subst, ◌∙◌}
+use Rattle.plain_laws.proofs.Texts.{same_text}
 use Rattle.dir_model.specs.declared.area.Area.{Area}
 use Rattle.dir_model.specs.declared.area.Area.TheVariants as area
 use Rattle.dir_model.specs.declared.item.Inner.{Inner}
@@ -28,7 +29,7 @@ use Rattle.pod_gc.specs.Told.{deals_with_pods}
 use Rattle.pod_gc.proofs.Asking.{some_sweep}
 use Rattle.commands.proofs.OwnSteps.{same_folders}
 use Rattle.commands.proofs.FolderItems.{changed, items_replied}
-use Rattle.commands.proofs.GcTells.{same_text, among, apart, deals_moves, deals_removes}
+use Rattle.commands.proofs.GcTells.{among, apart, deals_moves, deals_removes}
 
 module _ (spot : Spot) where
   -- what is asked for is of other folders

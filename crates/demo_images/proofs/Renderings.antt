@@ -24,6 +24,7 @@ use Rattle.render.proofs.LaidOver.{is_hidden, upper_or, laid_is_over, laid_itsel
 use Rattle.render.proofs.Laying.{test_here, test_at_key}
 use Rattle.render.proofs.PathOrder.{one_or_two}
 use Rattle.std.proofs.lemmas.List.Folds.{list_any-append}
+use Rattle.plain_laws.proofs.Booleans.{or_none}
 use Rattle.demo_images.specs.DemoImages.{common_path, own_path, AreDemoImages, IsDemoTree, AreDemoTrees}
 use Rattle.demo_line.specs.Ways.{way_within, dependency_way, rendering_size}
 use Rattle.demo_images.specs.DemoTrees.{nodes_within, nodes_of, paths_of}
@@ -122,10 +123,6 @@ laid_shows i own t tree below shown flat q =
     by false is b at = ap (λ h. not h && is_some (tree q)) is ∙ shown q
     by true is false at = ap (λ h. not h && is_some (tree q)) is ∙ sym at
     by true is true at = let clash : true ≡ false = sym (hidden_slash i own t q is) ∙ flat q at in cc
-
-or_none : (b : Bool) → (b || false) ≡ b
-or_none true = refl
-or_none false = refl
 
 together : (a b m : Bool) → ((a || (b || false)) || (a || m)) ≡ (a || (b || m))
 together true b m = refl

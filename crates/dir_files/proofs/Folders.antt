@@ -20,7 +20,7 @@ use Rattle.dir_model.specs.Calls.{Listing, ListStep, AtOwnStep, event}
 use Rattle.dir_model.proofs.Lists.{not_true, same_self}
 use Rattle.dir_model.proofs.Allowed.{allowed_reply}
 use Rattle.dir_laws.proofs.Directories.{item_name, inside_now}
-use Rattle.dir_laws.proofs.Open.{open_along, find_own, is_self}
+use Rattle.dir_laws.proofs.Open.{open_along, find_own}
 use Rattle.dir_trait.specs.DirCalls.{DirAt, ListCall, HeldBetween}
 use Rattle.dir_files.specs.Reads.{inner_at}
 use Rattle.dir_files.proofs.Listings.{began, ended, of_others, last_is, opened, same_namespace}
@@ -58,7 +58,7 @@ module _ (me : ℕ) (old new : List Event) (spot : Spot) (reply : Reply) (l : Li
   Begins o = record { process = me; listed = begun_at Before root o }
 
   begins_open : find (is_listing_of me) Now.listings ≡ Some (Begins (folder_at Before.namespace spot))
-  begins_open = opened me old new (ListIn root) reply l refl refl timely none_listing _ (find_own me Before.listings (Begins (folder_at Before.namespace spot)) none_listing (is_self me))
+  begins_open = opened me old new (ListIn root) reply l refl refl timely none_listing _ (find_own me Before.listings (Begins (folder_at Before.namespace spot)) none_listing (same_self me))
 
   abbrev apart_meanwhile : AllByRecursion (λ e. (e.process == me) ≡ false) Meanwhile
   apart_meanwhile = of_others me old new (ListIn root) reply l refl refl timely

@@ -1,5 +1,6 @@
 -- What a process knows by the calls on the lock of an area.
 use Rattle.std.proofs.Common.{◌≡◌, ℕ, Bool, true, false, not, ◌&&◌, ◌||◌, cond, Option, Some, None, List, [], ◌∷◌, map, filter, refl, ap, ◌∙◌}
+use Rattle.plain_laws.proofs.Booleans.{not_twice}
 use Rattle.dir_model.specs.declared.area.Area.{Area}
 use Rattle.dir_model.specs.declared.area.Area.TheVariants.{Embryo, Incoming}
 use Rattle.dir_model.specs.declared.item.Inner.{Inner}
@@ -31,10 +32,6 @@ use Rattle.dir_files.specs.AreaLocks.{on_gate, with_gate, MayLock, shared_given,
 and_true : (b : Bool) → (b && true) ≡ b
 and_true true = refl
 and_true false = refl
-
-not_twice : (b : Bool) → not (not b) ≡ true → b ≡ true
-not_twice true h = refl
-not_twice false h = cc
 
 filter_by : {X : Type 0} (t q : X → Bool) (xs : List X) → ((x : X) → t x ≡ q x) → filter t xs ≡ filter q xs
 filter_by t q [] same = refl

@@ -1,5 +1,5 @@
 -- What the calls that take the lock of an area leave open, and what a process then knows.
-use Rattle.std.proofs.Common.{◌≡◌, ℕ, Bool, true, false, ◌||◌, cond, Some, None, List, [], ◌∷◌, ◌++◌, map, refl, sym, ap, subst, ◌∙◌}
+use Rattle.std.proofs.Common.{◌≡◌, ℕ, Bool, true, false, cond, Some, None, List, [], ◌∷◌, ◌++◌, refl, sym, ap, subst, ◌∙◌}
 use Rattle.dir_model.specs.declared.area.Area.{Area}
 use Rattle.dir_model.specs.declared.opening.Holding.{Holding}
 use Rattle.dir_model.specs.declared.opening.Target.TheVariants.{Gate}
@@ -15,7 +15,7 @@ use Rattle.dir_model.specs.Local.{Local, is_handle_of, held_in, with_handle, wit
 use Rattle.dir_model.specs.State.{DirState}
 use Rattle.dir_model.proofs.Lists.{same_self, map_push, any_last}
 use Rattle.dir_model.proofs.Chains.{nothing_yet, and_call}
-use Rattle.dir_model.proofs.Holdings.{closed_after_lock}
+use Rattle.dir_model.proofs.Holdings.{closed_after_lock, none_locked}
 use Rattle.dir_model.proofs.Moments.{at_after, at_before}
 use Rattle.dir_rules.specs.declared.seen.Seen.{Seen}
 use Rattle.dir_rules.specs.Conforms.{IsTied}
@@ -32,15 +32,6 @@ mode_self Shared = refl
 mode_self Exclusive = refl
 
 -- what is open
-
-none_locked : (h : Handle) (mode : Mode) (hs : List Holding) → is_open_among h hs ≡ false → map (held_in h mode) hs ≡ hs
-none_locked h mode [] none = refl
-none_locked h mode (x ∷ xs) none = by (is_handle_of h x) none (λ rest. none_locked h mode xs rest)
-  where
-    by : (b : Bool) → (b || is_open_among h xs) ≡ false → (is_open_among h xs ≡ false → map (held_in h mode) xs ≡ xs) →
-        cond b (record x { lock = Some mode }) x ∷ map (held_in h mode) xs ≡ x ∷ xs
-    by true none rest = cc
-    by false none rest = ap (λ (l : List Holding). x ∷ l) (rest none)
 
 pub locked_by : {a b : Local} (m : Local) (h : Handle) (area : Area) (mode : Mode) → IsUnopened m h → a ≡ with_handle m h (Gate area) →
     b ≡ with_lock a h mode → b ≡ and_area_lock m h area mode

@@ -1,6 +1,7 @@
 -- Reads of a file one after the other, and what they tell of it.
-use Rattle.std.proofs.Common.{◌≡◌, ◌⊎◌, inl, inr, ◌≤◌, ℕ, Bool, true, false, not, ◌&&◌, cond, bytes_eq, Option, Some, None, is_some, IsErrOf, Result, Ok, Err, List, [], ◌∷◌, ◌++◌, length, take, drop, refl, sym, ap, subst, ◌∙◌, arith, append_assoc, append-nil}
+use Rattle.std.proofs.Common.{◌≡◌, ◌⊎◌, inl, inr, ◌≤◌, ℕ, Bool, true, false, not, ◌&&◌, cond, Option, Some, None, is_some, IsErrOf, Result, Ok, Err, List, [], ◌∷◌, ◌++◌, length, take, drop, refl, sym, ap, subst, ◌∙◌, arith, append_assoc, append-nil}
 use Rattle.std.proofs.lemmas.Slice.Eq.{bytes_eq-Decides}
+use Rattle.plain_laws.proofs.Fronts.{taken_past, next_first, short_whole}
 use Rattle.dir_model.specs.declared.area.Area.{Area}
 use Rattle.dir_model.specs.declared.area.Area.TheVariants.{Images}
 use Rattle.dir_model.specs.declared.event.Event.{Event}
@@ -10,26 +11,24 @@ use Rattle.dir_model.specs.declared.request.DirError.TheVariants.{Missing, Exist
 use Rattle.dir_model.specs.declared.request.Request.TheVariants.{ReadIn}
 use Rattle.dir_model.specs.declared.request.Reply.{Reply}
 use Rattle.dir_model.specs.declared.request.Reply.TheVariants.{Read, Refused}
-use Rattle.dir_model.specs.State.{DirState, folder_at, spot_eq}
+use Rattle.dir_model.specs.State.{DirState, folder_at}
 use Rattle.dir_model.specs.Trace.{state_next, state_after}
 use Rattle.dir_model.specs.Trees.{has_file, content}
 use Rattle.dir_model.specs.Replies.{read_reply, may_refuse, is_apps_inner, is_any_reply, is_state_reply, is_read_answer, refusal, refused_in, file_refusal, bytes_at, is_error}
 use Rattle.dir_model.specs.Calls.{AtOwnStep, is_allowed, event}
-use Rattle.dir_model.specs.Local.{Local, local_replied}
-use Rattle.dir_model.proofs.Lists.{and_left, and_right, and_both, not_true}
-use Rattle.dir_model.proofs.Spots.{spot_self}
+use Rattle.dir_model.proofs.Lists.{and_left, and_right, not_true}
 use Rattle.dir_model.proofs.Chains.{nothing_yet, and_call, and_more}
 use Rattle.dir_model.proofs.Moments.{step_at, at_after, at_grown}
 use Rattle.dir_model.proofs.Allowed.{allowed_reply}
 use Rattle.dir_rules.specs.declared.seen.Seen.{Seen}
 use Rattle.dir_rules.specs.Conforms.{seen_replied}
-use Rattle.dir_rules.specs.Seen.{inner_eq}
 use Rattle.dir_rules.specs.Rules.{may_read_area}
+use Rattle.dir_laws.proofs.Spots.{inner_self}
 use Rattle.dir_trait.specs.DirCalls.{DirAt, DirCall}
 use Rattle.dir_trait.specs.Knowledge.{Knows}
 use Rattle.dir_trait.proofs.Knowing.{knows_call}
+use Rattle.dir_trait.proofs.ListCalls.{local_read}
 use Rattle.dir_files.specs.Reads.{bytes_in, file_at, TellsFile, IsPiece, Piece, joined_pieces, AreTold, IsShort, HasReadSoFar, ReadsUp, ReadsNext, WasMissing, may_read, OnlyReads, is_read_refusal, StaysFrom, FileStaysBetween}
-use Rattle.dir_files.proofs.Fronts.{taken_past, next_first, short_whole}
 
 -- what a read leaves of what a process knows
 look_same : (s : Seen) (area : Area) → may_read area s.standing ≡ true → may_read_area s area ≡ true
@@ -40,13 +39,6 @@ seen_same : (s : Seen) (inner : Inner) (at room : ℕ) (filled : List ℕ) (r : 
 seen_same s inner at room filled (Ok n) h = ap (λ (b : Bool). record s { kept = b && s.kept }) (look_same s inner.spot.area h)
 seen_same s inner at room filled (Err e) h = ap (λ (b : Bool). record s { kept = b && s.kept }) (look_same s inner.spot.area h)
 
-local_same : (m : Local) (inner : Inner) (at room : ℕ) (filled : List ℕ) (r : Result ℕ DirError) → local_replied m (ReadIn inner at room) (read_reply filled r) ≡ m
-local_same m inner at room filled (Ok n) = refl
-local_same m inner at room filled (Err e) = refl
-
-inner_self : (inner : Inner) → inner_eq inner inner ≡ true
-inner_self inner = and_both (spot_eq inner.spot inner.spot) (bytes_eq inner.path inner.path) (spot_self inner.spot) ((bytes_eq-Decides inner.path inner.path).1 refl)
-
 pub only_none : {observed : Bool} {inner : Inner} {d : DirAt} → OnlyReads observed inner d d
 only_none = record { same = refl; faults = omega arith; local = refl; extends = λ t. nothing_yet; known = λ t s may k. k }
 
@@ -54,7 +46,7 @@ pub only_call : {observed : Bool} {old new : DirAt} (inner : Inner) (at room : �
 only_call {observed} {old} {new} inner at room filled r c = record {
   same = c.same;
   faults = c.faults;
-  local = c.local ∙ local_same old.local inner at room filled r;
+  local = c.local ∙ local_read old.local inner at room filled r;
   extends = λ t. and_call nothing_yet refl (inner_self inner) (c.step t);
   known = λ t s may k. subst (λ (x : Seen). Knows new x) (seen_same s inner at room filled r may) (knows_call t k refl refl c);
 }

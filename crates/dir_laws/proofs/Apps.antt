@@ -1,9 +1,9 @@
 -- Where the roots of started apps are: what doesn't begin as their paths do is no app's own.
-use Rattle.std.proofs.Common.{arith, ◌≡◌, ℕ, Bool, true, false, not, ◌&&◌, ◌||◌, ◌==◌, cond, bytes_eq, nat_eq, slice_index, Option, Some, None, option_to_list, List, [], ◌∷◌, ◌++◌, length, drop, append-nil, refl, sym, ap, subst, ◌∙◌}
+use Rattle.std.proofs.Common.{◌≡◌, ℕ, Bool, true, false, not, ◌&&◌, ◌||◌, ◌==◌, cond, bytes_eq, nat_eq, slice_index, Option, Some, None, option_to_list, List, [], ◌∷◌, ◌++◌, length, drop, append-nil, refl, sym, ap, subst, ◌∙◌}
 use Rattle.std.specs.List.{AllByRecursion, starts_with}
-use Rattle.std.proofs.lemmas.Bool.Decides.{Decides-eqb, nat_tests}
-use Rattle.std.proofs.lemmas.Grind.{common_steps}
+use Rattle.std.proofs.lemmas.Bool.Decides.{Decides-eqb}
 use Rattle.std.proofs.lemmas.Slice.Eq.{bytes_eq-Decides, starts_is}
+use Rattle.plain_laws.proofs.Texts.{not_empty}
 use Rattle.dir_model.specs.declared.event.Event.{Event}
 use Rattle.dir_model.specs.declared.item.Inner.{Inner}
 use Rattle.dir_model.specs.declared.tree.StartedApp.{StartedApp}
@@ -46,10 +46,6 @@ all_rooted s (e ∷ es) a = all_rooted (state_next s e) es (all_both IsRooted s.
 -- each app that was ever started
 pub apps_rooted : (h : List Event) → AllByRecursion IsRooted (state_after h).apps
 apps_rooted h = all_rooted empty_state h tt
-
--- what lies below a path begins with it
-pub not_empty : (x : ℕ) (xs : List ℕ) → (length (x ∷ xs) == 0) ≡ false
-not_empty x xs = grind (arith, nat_tests, common_steps)
 
 pub below_front : (path q : List ℕ) → (length q == 0) ≡ false → lies_below path q ≡ true → path ≡ q ++ drop (length q) path
 unfolding lies_below

@@ -2,8 +2,7 @@
 use Rattle.std.proofs.Common.{◌≡◌, ◌⊎◌, inl, inr, ℕ, ◌+◌, ◌≤◌, Result, Ok, Err, IfOk, IfErr, Option, Some, None, Bool, true, false, not, ◌&&◌, ◌==◌, cond, length, take, drop, List, [], ◌∷◌, ◌++◌, arith, refl, sym, ap, subst, ◌∙◌, append_assoc, append-nil}
 use Rattle.std.specs.List.{list_any, list_all, AllByRecursion}
 use Rattle.std.specs.List.Sorted.{IsStrictlySortedBy}
-use Rattle.std.specs.declared.cmp.Ordering.{Ordering}
-use Rattle.std.specs.declared.cmp.Ordering.TheVariants.{Less, Equal, Greater}
+use Rattle.std.specs.declared.cmp.Ordering.TheVariants.{Less}
 use Rattle.std.specs.Ordering.{nat_cmp, is_lt}
 use Rattle.std.specs.Cmp.Lexicographic.{slice_cmp}
 use Rattle.std.proofs.lemmas.Grind.{common_steps}
@@ -34,6 +33,7 @@ use Rattle.dir_trait.specs.DirCalls.{DirCall, ListCall}
 use Rattle.dir_state.specs.Parts.{kill_of}
 use Rattle.dir_state.specs.Answers.{free_handle, opened_or_refused, granted, answer_by, answer}
 use Rattle.dir_state.proofs.Answering.{refusal_named, free_unopened, fault_named}
+use Rattle.dir_state.proofs.Orders.{less}
 use Rattle.dir_memory.specs.Schedules.{due}
 use Rattle.dir_memory.specs.Interludes.{Interlude}
 use Rattle.dir_memory.specs.Memories.{Memory, raised, is_to_fail, before_call, still_pending, next_reply, answer_or_failure, CallerWasKilled, MemoryFollows, FollowsListing, once_begun, before_end, is_end_of, is_numbered, is_plain_reply, is_opening, is_read_request, has_shape, dir_of_memory, memory_given_up}
@@ -402,11 +402,6 @@ given_called old request new which is run over = record {
         }
 
 -- the end of a listing as an answer
-
-less : (o : Ordering) → is_lt o ≡ true → o ≡ Less
-less Less h = refl
-less Equal h = cc
-less Greater h = cc
 
 all_less : (y : List ℕ) (ys : List (List ℕ)) → list_all (λ z. is_lt (slice_cmp nat_cmp y z)) ys ≡ true → AllByRecursion (λ z. slice_cmp nat_cmp y z ≡ Less) ys
 all_less y [] h = tt

@@ -1,7 +1,6 @@
 -- In a run only processes that began have ended.
-use Rattle.std.proofs.Common.{arith, ◌≡◌, ◌⊎◌, inl, inr, ℕ, Bool, true, false, not, ◌||◌, ◌==◌, List, [], ◌∷◌, ◌++◌, refl, sym, ap, subst, ◌∙◌, append-nil}
+use Rattle.std.proofs.Common.{◌≡◌, ◌⊎◌, inl, inr, ℕ, Bool, true, false, not, ◌||◌, ◌==◌, List, [], ◌∷◌, ◌++◌, refl, sym, ap, subst, ◌∙◌, append-nil}
 use Rattle.std.specs.List.{list_any}
-use Rattle.std.proofs.lemmas.Bool.Decides.{nat_tests}
 use Rattle.dir_model.specs.declared.event.Event.{Event}
 use Rattle.dir_model.specs.declared.request.Request.{Request}
 use Rattle.dir_model.specs.declared.request.Request.TheVariants.{Begin, Open, OpenArea, ListArea, ListIn, Finish, Kill}
@@ -10,7 +9,7 @@ use Rattle.dir_model.specs.declared.request.Reply.TheVariants.{Done, Opened}
 use Rattle.dir_model.specs.State.{Namespace, DirState, empty_state, has_begun, has_ended, lives}
 use Rattle.dir_model.specs.Trace.{state_after, state_next, states_next, namespace_replied}
 use Rattle.dir_model.specs.Calls.{IsRun, is_run_from, is_allowed, may_step, event}
-use Rattle.dir_model.proofs.Lists.{and_left, and_right, any_push}
+use Rattle.dir_model.proofs.Lists.{and_left, and_right, any_push, same_number}
 use Rattle.dir_model.proofs.Chains.{state_after-push}
 use Rattle.dir_model.proofs.Allowed.{allowed_step}
 use Rattle.dir_model.specs.Paths.{is_path}
@@ -30,9 +29,6 @@ any_last_cases t (x ∷ xs) y h = by (t x) (λ later. any_last_cases t xs y late
     by : (b : Bool) → (list_any t (xs ++ y ∷ []) ≡ true → (list_any t xs ≡ true) ⊎ (t y ≡ true)) → (b || list_any t (xs ++ y ∷ [])) ≡ true → ((b || list_any t xs) ≡ true) ⊎ (t y ≡ true)
     by true later h = inl refl
     by false later h = later h
-
-same_number : (p x : ℕ) → (p == x) ≡ true → p ≡ x
-same_number p x h = grind (arith, nat_tests)
 
 abbrev EndedBegan : ℕ → Namespace → Type 0
 EndedBegan x n = has_ended n x ≡ true → has_begun n x ≡ true

@@ -1,6 +1,7 @@
 -- What the trace and a process's own view agree on, kept by the events of others and by its own.
 use Rattle.std.proofs.Common.{◌≡◌, ℕ, ◌+◌, ◌≤◌, Bool, true, false, not, ◌&&◌, ◌||◌, ◌==◌, cond, is_some, List, [], ◌∷◌, ◌++◌, refl, sym, ap, ◌∙◌, append-nil}
 use Rattle.std.specs.List.{list_any}
+use Rattle.plain_laws.proofs.Booleans.{or_none}
 use Rattle.dir_model.specs.Reserved.{Reserved}
 use Rattle.dir_model.specs.declared.event.Event.{Event}
 use Rattle.dir_model.specs.declared.request.Request.{Request}
@@ -26,14 +27,10 @@ pub record Facts (h : List Event) (me : ℕ) (m : Local) : Type 0 where
   pub ended : has_ended (state_after h).namespace me ≡ m.finished
   pub holds : holdings_in (state_after h).namespace me ≡ m.holdings
 
-or_false : (b : Bool) → (b || false) ≡ b
-or_false true = refl
-or_false false = refl
-
 pub facts_of : (past : Reserved Event) (me : ℕ) (m : Local) (held : ℕ) (killed : Bool) → IsMemory past me m held killed → killed ≡ false → Facts past.items me m
 facts_of past me m held killed i live = record {
   begun = i.begun;
-  ended = i.ended ∙ (ap (λ b. m.finished || b) live ∙ or_false m.finished);
+  ended = i.ended ∙ (ap (λ b. m.finished || b) live ∙ or_none m.finished);
   holds = i.holds live;
 }
 
@@ -116,7 +113,7 @@ pub memory_now : (past : Reserved Event) (me : ℕ) (m : Local) (held : ℕ) (ki
 memory_now past me m held killed live f none run room = record {
   run = run;
   begun = f.begun;
-  ended = f.ended ∙ sym (ap (λ b. m.finished || b) live ∙ or_false m.finished);
+  ended = f.ended ∙ sym (ap (λ b. m.finished || b) live ∙ or_none m.finished);
   holds = λ no_kill. f.holds;
   listing = none;
   was = λ is. let clash : true ≡ false = sym is ∙ live in cc;

@@ -1,7 +1,6 @@
 -- The listing that a process has open, after the events of others and its own.
-use Rattle.std.proofs.Common.{arith, ◌≡◌, ℕ, Bool, true, false, not, ◌||◌, ◌==◌, cond, is_some, Option, Some, None, List, [], ◌∷◌, ◌++◌, find, option_map, option_to_list, refl, ap, ◌∙◌, append-nil}
+use Rattle.std.proofs.Common.{◌≡◌, ℕ, Bool, true, false, not, ◌||◌, ◌==◌, cond, is_some, Option, Some, None, List, [], ◌∷◌, ◌++◌, find, option_map, option_to_list, refl, ap, ◌∙◌, append-nil}
 use Rattle.std.specs.List.{list_any}
-use Rattle.std.proofs.lemmas.Bool.Decides.{nat_tests}
 use Rattle.dir_model.specs.declared.tree.Listed.{Listed}
 use Rattle.dir_model.specs.declared.tree.Listed.TheVariants as listed
 use Rattle.dir_model.specs.declared.tree.OpenListing.{OpenListing}
@@ -13,7 +12,7 @@ use Rattle.dir_model.specs.State.{DirState}
 use Rattle.dir_model.specs.Trace.{changes_names, listings_done, listings_ended, listings_replied}
 use Rattle.dir_model.specs.Listings.{is_listing_request, is_listing_of, is_listing, listing_noted, noted_by, noted_all, listing_begun, without_listing, listing_of, is_about, is_open_listing}
 use Rattle.dir_model.proofs.Lists.{or_left_false, or_right_false, or_none}
-use Rattle.dir_state.proofs.Notes.{noted_found}
+use Rattle.dir_laws.proofs.Open.{noted_found, find_without, find_begun}
 
 -- the two are open alike: both or none, and about the same
 pub record Alike (a b : Option OpenListing) : Type 0 where
@@ -39,31 +38,6 @@ noted_alike s (Some l) = record { some = refl; about = λ r. area_about r s l.li
 -- what is open now is about what it was when its end is judged
 pub listing_about : (s : DirState) (p : ℕ) (r : Request) → is_open_listing r (listing_of s p) ≡ is_open_listing r (find (is_listing_of p) s.listings)
 listing_about s p r = ap (is_open_listing r) (noted_found s p s.listings) ∙ (noted_alike s (find (is_listing_of p) s.listings)).about r
-
-apart_clash : (a p me : ℕ) → (a == p) ≡ true → (a == me) ≡ true → (p == me) ≡ false → ⊥
-apart_clash a p me x y z = grind (arith, nat_tests)
-
-find_cond : (b : Bool) (t : OpenListing → Bool) (xs ys : List OpenListing) → find t (cond b xs ys) ≡ cond b (find t xs) (find t ys)
-find_cond true t xs ys = refl
-find_cond false t xs ys = refl
-
-find_without : (p me : ℕ) (ls : List OpenListing) → (p == me) ≡ false → find (is_listing_of me) (without_listing p ls) ≡ find (is_listing_of me) ls
-find_without p me [] apart = refl
-find_without p me (l ∷ ls) apart = find_cond (not (l.process == p)) (is_listing_of me) (l ∷ without_listing p ls) (without_listing p ls) ∙ by (l.process == p) (l.process == me) (λ a b. apart_clash l.process p me a b apart) (find_without p me ls apart)
-  where
-    by : (a b : Bool) → (a ≡ true → b ≡ true → ⊥) → find (is_listing_of me) (without_listing p ls) ≡ find (is_listing_of me) ls → cond (not a) (cond b (Some l) (find (is_listing_of me) (without_listing p ls))) (find (is_listing_of me) (without_listing p ls)) ≡ cond b (Some l) (find (is_listing_of me) ls)
-    by true true never rest = absurd (never refl refl)
-    by true false never rest = rest
-    by false b never rest = ap (λ o. cond b (Some l) o) rest
-
-find_past : (me : ℕ) (ls : List OpenListing) (l : OpenListing) → is_listing_of me l ≡ false → find (is_listing_of me) (ls ++ l ∷ []) ≡ find (is_listing_of me) ls
-find_past me [] l other = rw other refl
-find_past me (x ∷ xs) l other = ap (λ o. cond (is_listing_of me x) (Some x) o) (find_past me xs l other)
-
-find_begun : (s : DirState) (p me : ℕ) (request : Request) (ls : List OpenListing) → (p == me) ≡ false → find (is_listing_of me) (ls ++ option_to_list (listing_begun s p request)) ≡ find (is_listing_of me) ls
-find_begun s p me (ListArea area) ls apart = find_past me ls _ apart
-find_begun s p me (ListIn inner) ls apart = find_past me ls _ apart
-find_begun s p me _ ls apart = ap (find (is_listing_of me)) (append-nil ls)
 
 cond_alike : (b : Bool) (xs ys : List OpenListing) (t : OpenListing → Bool) (o : Option OpenListing) → Alike (find t xs) o → Alike (find t ys) o → Alike (find t (cond b xs ys)) o
 cond_alike true xs ys t o a b = a

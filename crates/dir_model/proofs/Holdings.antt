@@ -1,8 +1,7 @@
 -- What a process has open by its own answers: a handle that is opened and closed again leaves what was open before, and
 -- while the process lives it is what the namespace says.
-use Rattle.std.proofs.Common.{arith, ◌≡◌, ℕ, Bool, true, false, not, ◌&&◌, ◌||◌, ◌==◌, cond, Some, None, is_some, List, [], ◌∷◌, ◌++◌, map, filter, Result, Ok, Err, refl, sym, ap, ◌∙◌}
+use Rattle.std.proofs.Common.{◌≡◌, ℕ, Bool, true, false, not, ◌&&◌, ◌||◌, ◌==◌, cond, Some, None, is_some, List, [], ◌∷◌, ◌++◌, map, filter, Result, Ok, Err, refl, sym, ap, ◌∙◌}
 use Rattle.std.specs.List.{list_any}
-use Rattle.std.proofs.lemmas.Bool.Decides.{nat_tests}
 use Rattle.dir_model.specs.declared.spot.Handle.{Handle}
 use Rattle.dir_model.specs.declared.spot.Mode.{Mode}
 use Rattle.dir_model.specs.declared.opening.Opening.{Opening}
@@ -19,14 +18,14 @@ use Rattle.dir_model.specs.Trace.{locked, opened, opened_gate, namespace_replied
 use Rattle.dir_model.specs.Replies.{done_reply}
 use Rattle.dir_model.specs.Calls.{is_kill}
 use Rattle.dir_model.specs.Local.{Local, is_handle_of, with_handle, held_in, with_lock, without, local_replied, is_open_among, is_locking, IsOpen, IsUnopened, IsUnlocked, holding_of, holdings_in}
-use Rattle.dir_model.proofs.Lists.{and_left, and_false, same_self, any_last, any_last_not, any_fewer, filter_past, filter_push, map_push}
+use Rattle.dir_model.proofs.Lists.{and_left, and_false, same_self, any_last, any_last_not, any_fewer, filter_past, filter_push, map_push, apart_clash}
 
 not_twice : (b : Bool) → not (not b) ≡ b
 not_twice true = refl
 not_twice false = refl
 
 -- closing a handle that isn't open changes nothing
-none_closed : (h : Handle) (hs : List Holding) → is_open_among h hs ≡ false → filter (λ x. not (is_handle_of h x)) hs ≡ hs
+pub none_closed : (h : Handle) (hs : List Holding) → is_open_among h hs ≡ false → filter (λ x. not (is_handle_of h x)) hs ≡ hs
 none_closed h [] none = refl
 none_closed h (x ∷ xs) none = by (is_handle_of h x) none (λ rest. none_closed h xs rest)
   where
@@ -35,7 +34,7 @@ none_closed h (x ∷ xs) none = by (is_handle_of h x) none (λ rest. none_closed
     by false none rest = ap (λ l. x ∷ l) (rest none)
 
 -- and locking one neither
-none_locked : (h : Handle) (mode : Mode) (hs : List Holding) → is_open_among h hs ≡ false → map (held_in h mode) hs ≡ hs
+pub none_locked : (h : Handle) (mode : Mode) (hs : List Holding) → is_open_among h hs ≡ false → map (held_in h mode) hs ≡ hs
 none_locked h mode [] none = refl
 none_locked h mode (x ∷ xs) none = by (is_handle_of h x) none (λ rest. none_locked h mode xs rest)
   where
@@ -83,7 +82,7 @@ tried_by {m} {a} {b} {c} h target mode answer new open_is try_is close_is =
 
 -- the namespace's list
 
-abbrev mine : ℕ → Opening → Bool
+abbrev pub mine : ℕ → Opening → Bool
 mine me o = o.process == me
 
 abbrev own : ℕ → List Opening → List Holding
@@ -141,9 +140,6 @@ replied_same n me m Finish Done lives same = ended_none me n.openings
 replied_same n me m Kill Done lives same = let clash : true ≡ false = lives in cc
 replied_same n me m _ Done lives same = same
 replied_same n me m request reply lives same = same
-
-apart_clash : (a p me : ℕ) → (a == p) ≡ true → (a == me) ≡ true → (p == me) ≡ false → ⊥
-apart_clash a p me x y z = grind (arith, nat_tests)
 
 other_locked : (p me : ℕ) (h : Handle) (mode : Mode) → (p == me) ≡ false → (o : Opening) → (o.process == me) ≡ true → holding_of (locked p h mode o) ≡ holding_of o
 other_locked p me h mode apart o is = by (is_handle p h o) (λ it. and_left (o.process == p) (o.handle.number == h.number) it)

@@ -1,8 +1,9 @@
 -- A handle that is opened, asked for a shared lock and closed again leaves what is known as it was, but for where it looked.
 use Rattle.std.proofs.Common.{◌≡◌, ℕ, Bool, true, false, not, ◌&&◌, ◌||◌, ◌==◌, cond, bytes_eq, Option, Some, None, List, [], ◌∷◌, ◌++◌, map, filter, find, Result, Ok, Err, refl, sym, ap, subst, ◌∙◌, append_assoc}
 use Rattle.std.specs.List.{list_any}
+use Rattle.plain_laws.proofs.Texts.{same_bytes}
 use Rattle.dir_model.specs.declared.area.Area.{Area}
-use Rattle.dir_model.specs.declared.area.Area.TheVariants.{Embryo, Prepare, Prepared, Run, ExitedGarbage, Garbage, Incoming}
+use Rattle.dir_model.specs.declared.area.Area.TheVariants.{Embryo, Prepare, Prepared, Run, ExitedGarbage, Garbage, Incoming, Images}
 use Rattle.dir_model.specs.declared.opening.Target.{Target}
 use Rattle.dir_model.specs.declared.opening.Target.TheVariants.{Own, Claim, Gate}
 use Rattle.dir_model.specs.declared.spot.Handle.{Handle}
@@ -25,10 +26,10 @@ use Rattle.dir_model.specs.Areas.{is_stage, rank}
 use Rattle.dir_rules.specs.LockRules.{is_removal_held, is_removal_target, is_same_target, is_open_on, is_second, is_alone, may_lock_own, may_lock_by}
 use Rattle.dir_model.specs.Local.{is_own_of}
 use Rattle.dir_rules.specs.Seen.{is_free, still_listed, still_shown, still_known}
-use Rattle.dir_rules.specs.Rules.{is_deleting, allows}
+use Rattle.dir_rules.specs.Rules.{is_deleting, allows, may_read_area}
 use Rattle.dir_rules.specs.Conforms.{seen_replied, Looked, is_lookable}
 use Rattle.dir_model.specs.Locks.{is_exclusive}
-use Rattle.dir_model.proofs.Lists.{and_both, same_self, and_false}
+use Rattle.dir_model.proofs.Lists.{same_self, and_false}
 use Rattle.dir_model.specs.declared.spot.Which.TheVariants as which
 
 pub looked_same : (s : Seen) → Looked s s
@@ -39,10 +40,6 @@ looked_more {a} {b} {c} ab bc = record {
   free = bc.free ++ ab.free;
   same = bc.same ∙ ap (λ (x : Seen). let r : Seen = record x { standing = record x.standing { looked = bc.free ++ x.standing.looked } } in r) ab.same ∙ ap (λ (l : List Spot). let r : Seen = record a { standing = record a.standing { looked = l } } in r) (sym (append_assoc bc.free ab.free a.standing.looked));
 }
-
-pub same_bytes : (bs : List ℕ) → bytes_eq bs bs ≡ true
-same_bytes [] = refl
-same_bytes (b ∷ bs) = and_both _ _ (same_self b) (same_bytes bs)
 
 -- a number that isn't open: nothing is given up, dropped or locked by it
 abbrev pub Fresh : Handle → List Held → Type 0
@@ -57,7 +54,7 @@ none_given test h (x ∷ hs) fresh = by (test x) (is_handle_held h x) fresh (λ 
     by true false f go = go f
     by false false f go = go f
 
-none_dropped : (h : Handle) (hs : List Held) → Fresh h hs → filter (λ g. not (is_handle_held h g)) hs ≡ hs
+pub none_dropped : (h : Handle) (hs : List Held) → Fresh h hs → filter (λ g. not (is_handle_held h g)) hs ≡ hs
 none_dropped h [] fresh = refl
 none_dropped h (x ∷ hs) fresh = by (is_handle_held h x) fresh (λ f. none_dropped h hs f)
   where
@@ -277,3 +274,8 @@ deletes_none name (g ∷ hs) h = by g.target (is_exclusive g.lock) h (λ k. dele
         apart : (y : Bool) → (is_stage spot.area && bytes_eq spot.name name) ≡ y → (y || is_open_on (Own (record { area = Prepare; name = name })) hs) ≡ false → (((y && b) && is_garbage spot.area) || list_any (is_deleting name) hs) ≡ false
         apart true is h = cc
         apart false is h = more h
+
+-- the areas of pods may be looked at
+pub looks_there : (s : Seen) (place : Area) → is_stage place ≡ true → may_read_area s place ≡ true
+looks_there s Images is = cc
+looks_there s _ is = refl

@@ -1,12 +1,13 @@
 -- What a process knows of locks and places is a part of what it knows, and their rules a part of its rules.
-use Rattle.std.proofs.Common.{◌≡◌, ℕ, Bool, true, false, ◌||◌, cond, List, [], ◌∷◌, refl, ap, subst, ◌∙◌}
+use Rattle.std.proofs.Common.{◌≡◌, ℕ, Bool, true, false, ◌||◌, cond, Option, Some, None, List, [], ◌∷◌, refl, ap, subst, ◌∙◌}
 use Rattle.dir_model.specs.declared.event.Event.{Event}
 use Rattle.dir_model.specs.declared.request.Request.{Request}
 use Rattle.dir_model.specs.declared.request.Reply.{Reply}
 use Rattle.dir_rules.specs.declared.standing.Standing.{Standing}
+use Rattle.dir_rules.specs.declared.standing.Held.{Held}
 use Rattle.dir_rules.specs.declared.seen.Seen.{Seen}
 use Rattle.dir_model.specs.Calls.{is_foreign}
-use Rattle.dir_rules.specs.Standing.{standing_replied, stood, standing_from, standing_of}
+use Rattle.dir_rules.specs.Standing.{looked_by, standing_replied, stood, standing_from, standing_of}
 use Rattle.dir_rules.specs.LockRules.{keeps_lock_rules_from, lock_rules_allow}
 use Rattle.dir_rules.specs.Rules.{allows, content_rules_allow}
 use Rattle.dir_rules.specs.Conforms.{nothing_seen, seen_replied, seen_after_event, seen_after, seen_of}
@@ -48,3 +49,8 @@ keeps_after me s (e ∷ es) h = and_both (is_foreign me e || lock_rules_allow s.
     by : (b : Bool) → (b || allows s e.request) ≡ true → (b || lock_rules_allow s.standing e.request) ≡ true
     by true k = refl
     by false k = allowed_asks s e.request k
+
+-- where it looked is no handle
+pub looked_holdings : (o : Option Held) (s : Standing) → (looked_by o s).holdings ≡ s.holdings
+looked_holdings None s = refl
+looked_holdings (Some h) s = refl

@@ -5,6 +5,7 @@ use Rattle.dir_model.specs.declared.intent.Start.{Start}
 use Rattle.dir_model.proofs.Lists.{any_last_not}
 use Rattle.std.proofs.Common.{◌≡◌, ◌⊎◌, inl, inr, ℕ, Bool, true, false, not, ◌&&◌, ◌||◌, ◌==◌, cond, Option, Some, None, option_map, List, [], ◌∷◌, ◌++◌, refl, sym, ap, subst, ◌∙◌}
 use Rattle.std.specs.List.{list_any, AllByRecursion}
+use Rattle.plain_laws.proofs.Booleans.{no_more}
 use Rattle.dir_model.specs.declared.area.Area.{Area}
 use Rattle.dir_model.specs.declared.area.Area.TheVariants.{Prepare, Prepared, Run, Incoming, Images}
 use Rattle.dir_model.specs.declared.spot.Spot.{Spot}
@@ -45,11 +46,6 @@ own_seen me h request reply alive = seen_after-append me _ h (event me request r
     by : (b : Bool) → b ≡ false → cond b (seen_of me h) (seen_replied (seen_of me h) request reply) ≡ seen_replied (seen_of me h) request reply
     by true h = cc
     by false h = refl
-
--- a spoilt folder allows no more than the same folder unspoilt
-no_more : (b : Bool) → (b && false) ≡ true → ⊥
-no_more true h = cc
-no_more false h = cc
 
 moves_lost : (s : Seen) (kept : Bool) (m : Making) (from to : Spot) (a b : Area) → contents_allow_move (record s { kept = kept; making = Some (spoilt m) }) from to a b ≡ true → contents_allow_move (record s { making = Some m }) from to a b ≡ true
 moves_lost s kept m from to Prepare Prepared h = absurd (no_more (makes_at (Some m) from) h)
@@ -150,7 +146,7 @@ pub lived_before : (me : ℕ) (s : DirState) (es : List Event) → AllByRecursio
 lived_before me s [] f a = a
 lived_before me s (e ∷ es) f a = lived_step me s.namespace e.process e.request e.reply f.0 (lived_before me (state_next s e) es f.1 a)
 
-abbrev Lives : ℕ → List Event → Type 0
+abbrev pub Lives : ℕ → List Event → Type 0
 Lives me h = lives (state_after h).namespace me ≡ true
 
 pub lived_meanwhile : {me : ℕ} {old new : List Event} → Interference me old new → Lives me new → Lives me old
@@ -249,4 +245,11 @@ pub tied_unbegun : (me : ℕ) (h : List Event) (s : Seen) (request : Request) �
 tied_unbegun me h s request tied = record {
   living = λ now. let a = tied.living now in record { spoils = a.spoils; same = ap (λ (x : Seen). let r : Seen = record x { kept = allows s request && s.kept } in r) a.same };
   conforms = λ kept. tied.conforms (and_right _ _ kept);
+}
+
+-- what a process knew before a call, it knew at the call's step
+pub tied_meanwhile : {me : ℕ} {old new : List Event} {s : Seen} → IsTied me old s → Interference me old new → IsTied me new s
+tied_meanwhile {me} {old} {new} {s} tied m = record {
+  living = λ now. subst (Agrees s) (sym (meanwhile_unseen m)) (tied.living (lived_meanwhile m now));
+  conforms = λ kept. ap (λ (x : Seen). x.kept) (meanwhile_unseen m) ∙ tied.conforms kept;
 }

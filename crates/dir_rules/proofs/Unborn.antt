@@ -4,6 +4,7 @@ use Rattle.dir_model.proofs.Begun.{begun_stays}
 use Rattle.dir_model.proofs.Allowed.{allowed_step, allowed_reply}
 use Rattle.std.proofs.Common.{arith, ◌≡◌, ◌⊎◌, inl, inr, ℕ, Bool, true, false, not, ◌&&◌, ◌||◌, ◌==◌, cond, List, [], ◌∷◌, refl, sym, ap, subst, ◌∙◌}
 use Rattle.std.proofs.lemmas.Bool.Decides.{nat_tests}
+use Rattle.plain_laws.proofs.Booleans.{clash}
 use Rattle.dir_model.specs.declared.event.Event.{Event}
 use Rattle.dir_model.specs.declared.intent.Intent.{Intent}
 use Rattle.dir_model.specs.declared.request.Request.{Request}
@@ -19,10 +20,6 @@ use Rattle.dir_rules.specs.Conforms.{nothing_seen, seen_replied, seen_after_even
 use Rattle.dir_model.proofs.Lists.{not_true, and_left, and_right, any_last, same_self, and_false}
 use Rattle.dir_model.proofs.Chains.{states_next-append, run_before}
 use Rattle.dir_rules.proofs.Tied.{meanwhile_unseen, own_seen}
-
-clash : (b : Bool) → b ≡ true → b ≡ false → ⊥
-clash true h k = cc
-clash false h k = cc
 
 unborn_all : (me : ℕ) (s : DirState) (es : List Event) → has_begun (states_next s es).namespace me ≡ false → has_begun s.namespace me ≡ false
 unborn_all me s es a = by (has_begun s.namespace me) refl

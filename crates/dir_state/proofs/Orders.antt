@@ -7,7 +7,7 @@ use Rattle.std.specs.Ordering.{nat_cmp, is_lt, is_eq, match_ordering, ordering_r
 use Rattle.std.specs.Cmp.Lexicographic.{slice_cmp, texts_ties}
 use Rattle.std.specs.BTreeSet.{insert_key}
 use Rattle.std.proofs.lemmas.Cmp.{nat_list_cmp_total}
-use Rattle.std.proofs.lemmas.Slice.Eq.{bytes_eq-Decides}
+use Rattle.plain_laws.proofs.Texts.{same_bytes as self}
 use Rattle.dir_model.specs.Listings.{ascend, has_name}
 use Rattle.dir_model.proofs.Lists.{and_left, and_right, and_both, or_true, or_map}
 use Rattle.dir_state.specs.Answers.{inserted_in_order}
@@ -18,7 +18,7 @@ compare = slice_cmp nat_cmp
 abbrev below : List ℕ → List ℕ → Bool
 below x y = is_lt (compare x y)
 
-less : (o : Ordering) → is_lt o ≡ true → o ≡ Less
+pub less : (o : Ordering) → is_lt o ≡ true → o ≡ Less
 less Less h = refl
 less Equal h = cc
 less Greater h = cc
@@ -79,9 +79,6 @@ stays (x ∷ xs) k name h = by (compare k x) (λ later. stays xs k name later)
     by Less later = rw h (or_true (bytes_eq k name))
     by Equal later = h
     by Greater later = or_map (bytes_eq x name) (has_name xs name) (has_name (insert_key compare xs k) name) later h
-
-self : (k : List ℕ) → bytes_eq k k ≡ true
-self k = (bytes_eq-Decides k k).1 refl
 
 arrives : (xs : List (List ℕ)) (k : List ℕ) → has_name (insert_key compare xs k) k ≡ true
 arrives [] k = rw (self k) refl

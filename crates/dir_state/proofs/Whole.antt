@@ -1,6 +1,5 @@
 -- A listing that has begun is open, and what it shows if it ends at once.
 use Rattle.std.proofs.Common.{◌≡◌, ℕ, Bool, true, false, cond, Option, Some, None, List, [], ◌∷◌, ◌++◌, find, option_map, option_to_list, refl, sym, ap, ◌∙◌, append-nil, append_assoc}
-use Rattle.std.specs.List.{list_any}
 use Rattle.std.proofs.lemmas.Slice.Eq.{bytes_eq-Decides}
 use Rattle.dir_model.specs.declared.event.Event.{Event}
 use Rattle.dir_model.specs.declared.item.Inner.{Inner}
@@ -19,11 +18,11 @@ use Rattle.dir_model.specs.State.{Namespace, DirState, folder_at}
 use Rattle.dir_model.specs.Trace.{state_next, state_after}
 use Rattle.dir_model.specs.Listings.{is_listing_request, is_listing_of, is_listing, listing_noted, noted_by, listing_begun, begun_at, listing_of, is_inner, is_about, is_open_listing}
 use Rattle.dir_model.specs.Calls.{may_step, is_allowed, event}
-use Rattle.dir_model.proofs.Lists.{and_both, same_self, or_left_false, or_right_false}
+use Rattle.dir_model.proofs.Lists.{and_both, same_self}
 use Rattle.dir_model.proofs.Spots.{spot_self}
 use Rattle.dir_model.proofs.Chains.{state_after-push}
+use Rattle.dir_laws.proofs.Open.{noted_found, find_own}
 use Rattle.dir_state.specs.Answers.{shown_or_refused, listing_answer, step_of}
-use Rattle.dir_state.proofs.Notes.{noted_found}
 use Rattle.dir_state.proofs.Ending.{end_allowed}
 
 -- what stands is noted by the folders and the entries alone
@@ -37,21 +36,12 @@ after_begun s p (ListArea area) x asks = same_noted s.namespace (s.entries ++ []
 after_begun s p (ListIn inner) x asks = same_noted s.namespace (s.entries ++ []) s.entries (s.apps ++ []) s.apps (s.listings ++ option_to_list (listing_begun s p (ListIn inner))) s.listings (append-nil s.entries) x
 after_begun s p _ x asks = cc
 
--- the listing that was begun last, where none of the process was open
-found_last : (p : ℕ) (ls : List OpenListing) (l : OpenListing) → list_any (is_listing_of p) ls ≡ false → is_listing_of p l ≡ true → find (is_listing_of p) (ls ++ l ∷ []) ≡ Some l
-found_last p [] l none is = rw is refl
-found_last p (x ∷ xs) l none is = by (is_listing_of p x) (or_left_false (is_listing_of p x) (list_any (is_listing_of p) xs) none) (found_last p xs l (or_right_false (is_listing_of p x) (list_any (is_listing_of p) xs) none) is)
-  where
-    by : (b : Bool) → b ≡ false → find (is_listing_of p) (xs ++ l ∷ []) ≡ Some l → cond b (Some x) (find (is_listing_of p) (xs ++ l ∷ [])) ≡ Some l
-    by true h rest = cc
-    by false h rest = rest
-
 module _ (s : DirState) (p : ℕ) (none : is_listing s p ≡ false) where
   listing_by : (request : Request) (x : Listed) → is_listing_request request ≡ true → listing_begun s p request ≡ Some (record { process = p; listed = x }) → listing_of (state_next s (event p request Begun)) p ≡ Some (record { process = p; listed = listing_noted s x })
   listing_by request x asks is =
       let next : DirState = state_next s (event p request Begun) in
       let l : OpenListing = record { process = p; listed = x } in
-      let open_now : find (is_listing_of p) (s.listings ++ option_to_list (listing_begun s p request)) ≡ Some l = ap (λ (o : Option OpenListing). find (is_listing_of p) (s.listings ++ option_to_list o)) is ∙ found_last p s.listings l none (same_self p) in
+      let open_now : find (is_listing_of p) (s.listings ++ option_to_list (listing_begun s p request)) ≡ Some l = ap (λ (o : Option OpenListing). find (is_listing_of p) (s.listings ++ option_to_list o)) is ∙ find_own p s.listings l none (same_self p) in
       noted_found next p next.listings
       ∙ (ap (option_map (noted_by next)) open_now
       ∙ ap (λ (y : Listed). Some (record { process = p; listed = y })) (after_begun s p request x asks))

@@ -1,5 +1,5 @@
 -- One call more, and what a process then knows.
-use Rattle.std.proofs.Common.{◌≡◌, ℕ, Bool, true, false, not, ◌&&◌, ◌||◌, cond, Option, Some, None, List, [], ◌∷◌, ◌++◌, map, filter, refl, sym, ap, subst, ◌∙◌}
+use Rattle.std.proofs.Common.{◌≡◌, ℕ, Bool, true, false, not, ◌&&◌, ◌||◌, cond, Some, None, List, [], ◌∷◌, ◌++◌, map, filter, refl, sym, ap, subst, ◌∙◌}
 use Rattle.std.specs.List.{list_any}
 use Rattle.dir_model.specs.declared.area.Area.TheVariants.{Embryo}
 use Rattle.dir_model.specs.declared.intent.Intent.{Intent}
@@ -21,10 +21,11 @@ use Rattle.dir_model.proofs.Lists.{any_of_map}
 use Rattle.dir_rules.specs.declared.standing.Held.{Held}
 use Rattle.dir_rules.specs.declared.standing.Standing.{Standing}
 use Rattle.dir_rules.specs.declared.seen.Seen.{Seen}
-use Rattle.dir_rules.specs.Standing.{shares_area, holds_claim, is_own_in_prepared, is_handle_held, held_with_mode, uncover, uncovered_by_close, find_held, looked_by, standing_replied}
+use Rattle.dir_rules.specs.Standing.{shares_area, holds_claim, is_own_in_prepared, is_handle_held, held_with_mode, uncover, uncovered_by_close, find_held, standing_replied}
 use Rattle.dir_rules.specs.Conforms.{nothing_seen, seen_replied, IsTied}
 use Rattle.dir_rules.proofs.Tied.{tied_call}
 use Rattle.dir_rules.proofs.Unborn.{tied_begun}
+use Rattle.dir_rules.proofs.Standings.{looked_holdings}
 use Rattle.dir_trait.specs.DirCalls.{DirAt, DirCall}
 use Rattle.dir_trait.specs.Knowledge.{holding_of_held, SameHandles, Knows}
 
@@ -76,10 +77,6 @@ module _ (held : List Held) (holdings : List Holding) (same : SameHandles held h
 
   same_opened : (h : Held) → SameHandles (h ∷ held) (holdings ++ holding_of_held h ∷ [])
   same_opened h test = ap (λ b. test (holding_of_held h) || b) (same test) ∙ any_of_push test holdings (holding_of_held h)
-
-looked_holdings : (o : Option Held) (s : Standing) → (looked_by o s).holdings ≡ s.holdings
-looked_holdings None s = refl
-looked_holdings (Some h) s = refl
 
 -- what is open is told alike
 same_replied : (s : Standing) (m : Local) (request : Request) (reply : Reply) → SameHandles s.holdings m.holdings → SameHandles (standing_replied s request reply).holdings (local_replied m request reply).holdings

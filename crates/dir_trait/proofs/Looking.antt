@@ -28,7 +28,7 @@ looks_more ab bc s k =
     record { known = y.known; looked = looked_more x.looked y.looked; knows = y.knows }
 
 -- a handle that isn't open isn't known
-fresh_of : {d : DirAt} {s : Seen} (h : Handle) → Knows d s → IsUnopened d.local h → Fresh h s.standing.holdings
+pub fresh_of : {d : DirAt} {s : Seen} (h : Handle) → Knows d s → IsUnopened d.local h → Fresh h s.standing.holdings
 fresh_of h k unopened = k.handles (is_handle_of h) ∙ unopened
 
 -- nor is a handle on the pod's lock

@@ -36,7 +36,7 @@ made_both (e ∷ first) second entries m =
     }
 
 -- the paths of a listing are absolute
-absolute : (done lines : List ListingLine) → AllFollow done lines → AllByRecursion (λ l. IsAbsPath l.path) lines
+pub absolute : (done lines : List ListingLine) → AllFollow done lines → AllByRecursion (λ l. IsAbsPath l.path) lines
 absolute done [] f = tt
 absolute done (l ∷ lines) f = (f.0.line.path, absolute (done ++ l ∷ []) lines f.1)
 

@@ -34,7 +34,7 @@ use Rattle.folder_building.proofs.FilePaths.{begins_with, below_is_path, parent_
 use Rattle.folder_building.proofs.Nexts.{one_more}
 
 -- which paths a plan has made, and which directories
-path_outline : (path : List ℕ) (plan : List PlanEntry) → has_path_among path (planned_entries plan) ≡ is_in_plan path plan
+pub path_outline : (path : List ℕ) (plan : List PlanEntry) → has_path_among path (planned_entries plan) ≡ is_in_plan path plan
 path_outline path plan = any_of_map outline_of (λ e. bytes_eq e.path path) plan
 
 among_both : (path : List ℕ) (xs ys : List PlanEntry) → is_in_plan path xs ≡ false → is_in_plan path ys ≡ false → is_in_plan path (xs ++ ys) ≡ false

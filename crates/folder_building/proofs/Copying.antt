@@ -1,5 +1,5 @@
 -- A file copied piece by piece.
-use Rattle.std.proofs.Common.{◌≡◌, ◌≤◌, ◌<◌, ◌==◌, ◌↔◌, ℕ, ◌+◌, ◌-◌, Bool, true, false, IsTrue, Option, Some, None, take, List, [], ◌∷◌, ◌++◌, length, Result, Ok, Err, IfOk, IfErr, refl, sym, ap, subst, ◌∙◌, append_assoc, append-nil, arith}
+use Rattle.std.proofs.Common.{◌≡◌, ◌≤◌, ◌<◌, ◌==◌, ◌↔◌, ℕ, ◌+◌, ◌-◌, Bool, true, false, IsTrue, Option, Some, None, take, List, [], ◌∷◌, ◌++◌, length, Result, Ok, Err, IfOk, refl, sym, ap, subst, ◌∙◌, append_assoc, append-nil, arith}
 use Rattle.std.specs.List.{concat}
 use Rattle.std.proofs.lemmas.List.Folds.{concat-append}
 use Rattle.std.proofs.lemmas.List.{length-append}
@@ -104,22 +104,9 @@ copies_end {observed} {source} {spot} {path} {x} {y} {a} {b} piece none taken re
 pub copies_all : {observed : Bool} {source : SourceAt} {spot : Spot} {path : List ℕ} {n : ℕ} {x y : FileCheck} {a b : DirAt} (size : ℕ) (sha : List ℕ) (f : CopiesOn observed source spot path n x y a b) → length (concat f.pieces) ≡ size → sha512 (concat f.pieces) ≡ sha → Copies observed source spot path size sha a b
 copies_all size sha f sized hashed = record { pieces = f.pieces; sized = sized; hashed = hashed; appends = f.appends }
 
--- what follows from an answer
-pub ok_more : {T E : Type 0} (P Q : T → Type 0) (r : Result T E) → ((x : T) → P x → Q x) → IfOk r P → IfOk r Q
-ok_more P Q (Ok x) f h = f x h
-ok_more P Q (Err e) f h = h
-
-pub err_more : {T E : Type 0} (P Q : E → Type 0) (r : Result T E) → ((e : E) → P e → Q e) → IfErr r P → IfErr r Q
-err_more P Q (Ok x) f h = h
-err_more P Q (Err e) f h = f e h
-
 pub ok_any : {T E : Type 0} {P : Type 0} (r : Result T E) → P → IfOk r (λ x. P)
 ok_any (Ok x) h = h
 ok_any (Err e) h = tt
-
-pub err_any : {T E : Type 0} (P : Type 0) (r : Result T E) → P → IfErr r (λ e. P)
-err_any P (Ok x) h = tt
-err_any P (Err e) h = h
 
 -- a file that was made and filled
 pub gives_file : {observed : Bool} {spot : Spot} {path bytes : List ℕ} {b c : DirAt} (a : DirAt) → (observed ≡ true → Makes spot path true a b) → AppendsInPieces observed spot path bytes b c → MakesGivenFile observed spot path bytes a c

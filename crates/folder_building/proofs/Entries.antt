@@ -1,8 +1,8 @@
 -- What was made, and the plan that asks for it.
-use Rattle.std.proofs.Common.{◌≡◌, ℕ, ◌<◌, Bool, true, false, not, ◌&&◌, ◌||◌, cond, bytes_eq, List, [], ◌∷◌, ◌++◌, filter, take, length, get_or, codes, nat_le, zero, suc, ◌==◌, refl, sym, ap, subst, ◌∙◌, append_assoc, append-nil, arith}
-use Rattle.std.proofs.lemmas.Bool.Decides.{nat_tests}
+use Rattle.std.proofs.Common.{◌≡◌, ℕ, ◌<◌, Bool, true, false, not, ◌&&◌, ◌||◌, cond, bytes_eq, List, [], ◌∷◌, ◌++◌, filter, take, length, get_or, codes, nat_le, zero, suc, refl, sym, ap, subst, ◌∙◌, append_assoc, append-nil, arith}
 use Rattle.std.specs.List.{list_any, list_all}
 use Rattle.std.proofs.lemmas.List.Folds.{list_any-append}
+use Rattle.plain_laws.proofs.Texts.{same_bytes, bytes_turned}
 use Rattle.dir_model.specs.declared.area.Area.{Area}
 use Rattle.dir_model.specs.declared.area.Area.TheVariants.{Prepare}
 use Rattle.dir_model.specs.declared.tree.TreeNode.TheVariants.{Dir, Piece}
@@ -13,7 +13,6 @@ use Rattle.dir_rules.specs.declared.seen.Seen.{Seen}
 use Rattle.dir_rules.specs.Marks.{parent, created_mark}
 use Rattle.dir_rules.specs.Rules.{is_dir, has_path_among, has_dir_among, has_file_among, is_in_directory, is_new_path, is_in_order}
 use Rattle.dir_rules.specs.Standing.{intends}
-use Rattle.dir_rules.proofs.Looks.{same_bytes}
 use Rattle.folder_building.specs.declared.plan.PlanEntry.{PlanEntry}
 use Rattle.folder_building.specs.declared.plan.Content.{Content}
 use Rattle.folder_building.specs.declared.plan.Content.TheVariants.{Directory, Given, Copied}
@@ -155,16 +154,6 @@ owed_parent before e h =
 pub all_wider : (p q : List ℕ → Bool) → ((x : List ℕ) → p x ≡ true → q x ≡ true) → (xs : List (List ℕ)) → list_all p xs ≡ true → list_all q xs ≡ true
 all_wider p q wider [] h = refl
 all_wider p q wider (x ∷ xs) h = and_both _ _ (wider x (and_left _ _ h)) (all_wider p q wider xs (and_right _ _ h))
-
--- a path that is synced is owed no more
-bytes_turned : (a b : List ℕ) → bytes_eq b a ≡ bytes_eq a b
-bytes_turned [] [] = refl
-bytes_turned [] (y ∷ ys) = refl
-bytes_turned (x ∷ xs) [] = refl
-bytes_turned (x ∷ xs) (y ∷ ys) = rw (turned x y, bytes_turned xs ys) refl
-  where
-    turned : (n m : ℕ) → (m == n) ≡ (n == m)
-    turned n m = grind (arith, nat_tests)
 
 still_owed : (e : PlanEntry) (rest : List PlanEntry) (p : List ℕ) → bytes_eq p e.path ≡ false → is_owed (e ∷ rest) p ≡ true → is_owed rest p ≡ true
 still_owed e rest p apart k = subst (λ (b : Bool). (is_empty p || (b || is_in_plan p rest)) ≡ true) (bytes_turned p e.path ∙ apart) k

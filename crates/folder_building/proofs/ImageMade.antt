@@ -3,6 +3,7 @@ use Rattle.std.proofs.Common.{◌≡◌, ℕ, Bool, true, false, not, ◌&&◌, 
 use Rattle.std.specs.List.{list_any, list_all, flat_map, concat}
 use Rattle.std.proofs.lemmas.Slice.Eq.{bytes_eq-Decides}
 use Rattle.std.proofs.lemmas.List.Folds.{list_any-append}
+use Rattle.plain_laws.proofs.Texts.{same_bytes}
 use Rattle.dir_model.specs.Trees.{is_dir, bytes_of}
 use Rattle.dir_model.proofs.Lists.{and_left, and_right, and_both, or_last}
 use Rattle.dir_rules.specs.declared.seen.Entry.{Entry}
@@ -75,17 +76,14 @@ filter_none path (e ∷ es) none = by (is_entry_at path e) none (filter_none pat
     by true h rest = cc
     by false h rest = rest h
 
-pub same_path : (path : List ℕ) → bytes_eq path path ≡ true
-same_path path = (bytes_eq-Decides path path).1 refl
-
 pub filter_own : (path : List ℕ) (pieces : List (List ℕ)) → filter (is_entry_at path) (pieces_at path pieces) ≡ pieces_at path pieces
 filter_own path [] = refl
-filter_own path (p ∷ ps) = rw (same_path path) (ap (λ rest. piece_at path p ∷ rest) (filter_own path ps))
+filter_own path (p ∷ ps) = rw (same_bytes path) (ap (λ rest. piece_at path p ∷ rest) (filter_own path ps))
 
-bytes_own : (path : List ℕ) (pieces : List (List ℕ)) → joined_file_pieces path (file_in_pieces path pieces) ≡ concat pieces
-bytes_own path pieces = rw (same_path path) (ap (flat_map (λ (e : Entry). bytes_of e.node)) (filter_own path pieces) ∙ pieces_bytes path pieces)
+pub bytes_own : (path : List ℕ) (pieces : List (List ℕ)) → joined_file_pieces path (file_in_pieces path pieces) ≡ concat pieces
+bytes_own path pieces = rw (same_bytes path) (ap (flat_map (λ (e : Entry). bytes_of e.node)) (filter_own path pieces) ∙ pieces_bytes path pieces)
 
-bytes_among : (path : List ℕ) (xs ys zs : List Entry) → list_any (is_entry_at path) xs ≡ false → list_any (is_entry_at path) zs ≡ false → joined_file_pieces path (xs ++ (ys ++ zs)) ≡ joined_file_pieces path ys
+pub bytes_among : (path : List ℕ) (xs ys zs : List Entry) → list_any (is_entry_at path) xs ≡ false → list_any (is_entry_at path) zs ≡ false → joined_file_pieces path (xs ++ (ys ++ zs)) ≡ joined_file_pieces path ys
 bytes_among path xs ys zs a b =
     ap (flat_map (λ (e : Entry). bytes_of e.node))
     (filter_both path xs (ys ++ zs) ∙ (ap (λ l. l ++ filter (is_entry_at path) (ys ++ zs)) (filter_none path xs a)
@@ -94,7 +92,7 @@ bytes_among path xs ys zs a b =
 pub there_among : (path : List ℕ) (xs zs : List Entry) (pieces : List (List ℕ)) → has_file_among path (xs ++ (file_in_pieces path pieces ++ zs)) ≡ true
 there_among path xs zs pieces =
     list_any-append (λ e. not (is_dir e.node) && bytes_eq e.path path) xs (file_in_pieces path pieces ++ zs)
-    ∙ or_last (has_file_among path xs) (has_file_among path (file_in_pieces path pieces ++ zs)) (rw (same_path path) refl)
+    ∙ or_last (has_file_among path xs) (has_file_among path (file_in_pieces path pieces ++ zs)) (rw (same_bytes path) refl)
 
 -- a file with given bytes, where no other entry of the plan has its path
 pub has_given : (before after : List PlanEntry) (path bytes : List ℕ) (entries : List Entry) → AllPlanned (is_elsewhere path) before → AllPlanned (is_elsewhere path) after → AreMade (before ++ given_file path bytes ∷ after) entries → has_bytes path bytes entries ≡ true
@@ -116,4 +114,4 @@ has_directory before after path entries made =
     let f = m.later in
     let is : entries ≡ m.front ++ (directory_entry path ∷ f.rest) = m.is ∙ ap (λ l. m.front ++ l) (f.is ∙ ap (λ l. l ++ f.rest) f.first) in
     subst (λ (l : List Entry). has_dir_among path l ≡ true) (sym is)
-    (list_any-append (λ e. is_dir e.node && bytes_eq e.path path) m.front (directory_entry path ∷ f.rest) ∙ or_last (has_dir_among path m.front) (has_dir_among path (directory_entry path ∷ f.rest)) (rw (same_path path) refl))
+    (list_any-append (λ e. is_dir e.node && bytes_eq e.path path) m.front (directory_entry path ∷ f.rest) ∙ or_last (has_dir_among path m.front) (has_dir_among path (directory_entry path ∷ f.rest)) (rw (same_bytes path) refl))

@@ -1,6 +1,7 @@
 -- The plan of an image is a plan, and what it makes is the image.
 use Rattle.std.proofs.Common.{◌≡◌, ℕ, Bool, true, false, not, ◌&&◌, ◌||◌, codes, None, Result, Ok, Err, IfOk, List, [], ◌∷◌, ◌++◌, refl, sym, ap, subst, ◌∙◌, append-nil, arith}
 use Rattle.std.specs.List.{list_any, list_all, AllByRecursion}
+use Rattle.plain_laws.proofs.Texts.{same_bytes}
 use Rattle.dir_model.specs.Paths.{is_path, is_empty, lies_below}
 use Rattle.dir_model.specs.Trees.{is_within}
 use Rattle.dir_model.proofs.Lists.{and_left, and_right, and_both}
@@ -10,27 +11,23 @@ use Rattle.path_map.specs.declared.entry.Entry.{Entry as TreeEntry}
 use Rattle.path_map.specs.declared.entry.Entry.TheVariants.{Dir, File, Link}
 use Rattle.path_map.specs.Paths.{IsAbsPath}
 use Rattle.tree_digest.specs.declared.line.ListingLine.{ListingLine}
-use Rattle.tree_digest.specs.Listings.{listing_text, IsListing, AllFollow}
+use Rattle.tree_digest.specs.Listings.{listing_text, IsListing}
 use Rattle.folder_building.specs.declared.plan.PlanEntry.{PlanEntry}
 use Rattle.folder_building.specs.declared.plan.Content.TheVariants.{Directory}
 use Rattle.folder_building.specs.Plans.{planned_entries, may_follow_entries, is_plan, is_plan_after}
 use Rattle.folder_building.specs.Materialized.{has_bytes, materializes, stands_for}
 use Rattle.folder_building.specs.TreePlans.{plan_entry_at, tree_entries, IsTreePrefix, CarriesOn, MakesTree}
-use Rattle.folder_building.proofs.Among.{MadeBoth, made_both, tree_among}
+use Rattle.folder_building.proofs.Among.{MadeBoth, made_both, tree_among, absolute}
 use Rattle.folder_building.proofs.FilePaths.{begins_with, lies_there}
 use Rattle.folder_building.specs.ImagePlans.{id_file, imported_mark, given_file, mark_file, image_head_entries, image_entries, is_of_image, MakesImage}
 use Rattle.folder_building.proofs.Marks.{mark_is_path, manifest_path, id_path, tree_path, root_path, mark_parent}
-use Rattle.folder_building.proofs.ImageMade.{plan_both, AllPlanned, made_passes, none_passes, is_elsewhere, same_path, has_given, has_directory}
+use Rattle.folder_building.proofs.ImageMade.{plan_both, AllPlanned, made_passes, none_passes, is_elsewhere, has_given, has_directory}
 
 abbrev Root : List ℕ
 Root = codes "rootfs"
 
 abbrev tree_of : List ListingLine → List PlanEntry
 tree_of lines = tree_entries Root None Root lines
-
-pub absolute : (done lines : List ListingLine) → AllFollow done lines → AllByRecursion (λ l. IsAbsPath l.path) lines
-absolute done [] f = tt
-absolute done (l ∷ lines) f = (f.0.line.path, absolute (done ++ l ∷ []) lines f.1)
 
 -- what holds of each path below the directory holds of the tree's
 tree_passes : (t : List ℕ → Bool) → ((rest : List ℕ) → t (Root ++ 47 ∷ rest) ≡ true) → (lines : List ListingLine) → AllByRecursion (λ l. IsAbsPath l.path) lines → AllPlanned t (tree_of lines)
@@ -112,7 +109,7 @@ module _ (manifest id : List ℕ) (lines : List ListingLine) (now : ℕ) (listin
           more (e ∷ es) o = and_both (is_elsewhere path e.path) (list_all (λ x. is_elsewhere path x.path) (es ++ Tree)) (and_left (is_elsewhere path e.path) (list_all (λ x. is_elsewhere path x.path) es) o) (more es (and_right (is_elsewhere path e.path) (list_all (λ x. is_elsewhere path x.path) es) o))
 
       mark_of : is_of_image now (imported_mark now) ≡ true
-      mark_of = rw (same_path (imported_mark now)) refl
+      mark_of = rw (same_bytes (imported_mark now)) refl
 
       below_root : (r : List ℕ) → is_of_image now (Root ++ 47 ∷ r) ≡ true
       below_root r = lies_there Root r refl

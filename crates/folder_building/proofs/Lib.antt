@@ -8,7 +8,7 @@ pub mod Filling
 pub mod Reading
 pub mod Stored
 pub mod Among
-mod Carries
+pub mod Carries
 pub mod FilePaths
 pub mod Made
 mod Nexts
@@ -16,3 +16,4 @@ mod Texts
 pub mod ImageMade
 pub mod Marks
 pub mod Images
+pub mod Following

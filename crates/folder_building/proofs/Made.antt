@@ -8,6 +8,7 @@ use Rattle.std.proofs.lemmas.Map.Keys.{sorted_head, sorted_tail}
 use Rattle.std.proofs.lemmas.Slice.Eq.{bytes_eq-Decides}
 use Rattle.std.proofs.lemmas.List.Folds.{list_any-append}
 use Rattle.std.proofs.lemmas.Grind.{flat_map-append}
+use Rattle.plain_laws.proofs.Texts.{same_text, same_bytes}
 use Rattle.sha2.specs.Sha512.{sha512}
 use Rattle.dir_model.specs.Paths.{lies_below}
 use Rattle.dir_model.specs.Trees.{is_dir, bytes_of}
@@ -22,7 +23,7 @@ use Rattle.tree_digest.proofs.MapLines.{rising_lines, differ_if_less}
 use Rattle.folder_building.specs.Plans.{is_entry_at, pieces_at, file_in_pieces, directory_entry, AreMade}
 use Rattle.folder_building.specs.Materialized.{prefixed_path, joined_file_pieces, has_file_of, stands_at, is_kind_of_line, is_named_by_lines, are_standing, are_named}
 use Rattle.folder_building.specs.TreePlans.{tree_entries, MakesTree}
-use Rattle.folder_building.proofs.Texts.{is_same, same_bytes, not_same, same_end}
+use Rattle.folder_building.proofs.Texts.{not_same, same_end}
 
 -- what stands at one path, and what doesn't
 
@@ -142,7 +143,7 @@ module _ (prefix : List ℕ) (folder : Option (List ℕ)) (from : List ℕ) wher
   none_named path (l ∷ lines) e later named at = by (is_kind_of_line l.entry e.node) (bytes_eq e.path (prefixed_path prefix l.path)) refl (λ h. none_named path lines e later.1 h at) named
     where
       by : (a b : Bool) → bytes_eq e.path (prefixed_path prefix l.path) ≡ b → (is_named_by_lines prefix lines e ≡ true → ⊥) → ((a && b) || is_named_by_lines prefix lines e) ≡ true → ⊥
-      by true true is rest h = differ_if_less path l.path later.0 (same_end prefix path l.path (sym (is_same e.path (prefixed_path prefix path) at) ∙ is_same e.path (prefixed_path prefix l.path) is))
+      by true true is rest h = differ_if_less path l.path later.0 (same_end prefix path l.path (sym (same_text e.path (prefixed_path prefix path) at) ∙ same_text e.path (prefixed_path prefix l.path) is))
       by true false is rest h = rest h
       by false b is rest h = rest h
 

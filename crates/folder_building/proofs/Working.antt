@@ -7,11 +7,7 @@ use Rattle.dir_model.specs.declared.request.Request.TheVariants.{AppendIn}
 use Rattle.dir_model.specs.declared.request.Reply.{Reply}
 use Rattle.dir_model.specs.Replies.{done_reply, append_reply}
 use Rattle.dir_model.specs.Local.{Local, local_replied}
-use Rattle.dir_model.specs.declared.spot.Spot.{Spot}
-use Rattle.dir_model.specs.Areas.{rank}
-use Rattle.dir_model.specs.State.{spot_eq}
-use Rattle.dir_model.proofs.Lists.{or_last, and_both, same_self}
-use Rattle.dir_rules.proofs.Looks.{same_bytes}
+use Rattle.dir_model.proofs.Lists.{or_last}
 use Rattle.dir_model.proofs.Chains.{nothing_yet, and_call, and_more, extends_wider}
 use Rattle.dir_trait.specs.DirCalls.{DirAt, DirCall, AppendCall}
 use Rattle.dir_trait.specs.Effects.{OnlyAsks}
@@ -70,7 +66,3 @@ worked_append {observed} {asks} {old} {new} inner piece answer asked c = record 
   local = c.local ∙ kept_local old.local inner piece answer;
   extends = λ t. and_call nothing_yet refl asked (c.step t).step;
 }
-
--- a change at a spot is at that spot
-pub at_spot : (spot : Spot) → spot_eq spot spot ≡ true
-at_spot spot = and_both _ _ (same_self (rank spot.area)) (same_bytes spot.name)

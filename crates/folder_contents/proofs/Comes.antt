@@ -1,5 +1,7 @@
 -- What stands in prepared and in run was handed over by its maker, and lasts.
-use Rattle.std.proofs.Common.{◌≡◌, ◌⊎◌, inl, inr, ◌<◌, ℕ, Bool, true, false, Some, None, unwrap_or, List, [], ◌∷◌, ◌++◌, append_assoc, refl, sym, ap, subst, ◌∙◌}
+use Rattle.std.proofs.Common.{◌≡◌, ◌⊎◌, inl, inr, ◌<◌, ℕ, Bool, true, false, Some, None, List, [], ◌∷◌, ◌++◌, append_assoc, refl, sym, ap, subst, ◌∙◌}
+use Rattle.plain_laws.proofs.Booleans.{clash}
+use Rattle.plain_laws.proofs.Numbers.{one_number}
 use Rattle.dir_model.specs.declared.area.Area.{Area}
 use Rattle.dir_model.specs.declared.area.Area.TheVariants.{Prepare, Prepared, Run}
 use Rattle.dir_model.specs.declared.event.Event.{Event}
@@ -19,7 +21,6 @@ use Rattle.dir_rules.specs.LockRules.{lock_rules_allow}
 use Rattle.dir_rules.specs.Rules.{allows, may_make_in, contents_allow_move}
 use Rattle.dir_rules.specs.Conforms.{seen_of}
 use Rattle.lifecycle.specs.Executions.{IsConforming}
-use Rattle.lifecycle.proofs.Handles.{clash}
 use Rattle.lifecycle.proofs.Places.{made_elsewhere, moved_there, moved_away, moved_elsewhere, removed_there, removed_elsewhere, none_stands}
 use Rattle.lifecycle.proofs.Step.{stands_from}
 use Rattle.folder_contents.specs.Handing.{hands_over, then_moved, HandsOver}
@@ -106,9 +107,6 @@ no_make : (s : Seen) (name : List ℕ) (a : Area) → is_after_handover a ≡ tr
 no_make s name Prepared f = refl
 no_make s name Run f = refl
 no_make s name a f = cc
-
-one_number : (f g : ℕ) → Some f ≡ Some g → f ≡ g
-one_number f g e = ap (λ o. unwrap_or o f) e
 
 moved_in : (h : List Event) (p : ℕ) (from to : Spot) (folder : ℕ) → IsConforming (then_moved h p from to) → PodsAreFilled h →
     is_after_handover to.area ≡ true → folder_at (state_after (then_moved h p from to)).namespace to ≡ Some folder → KeepsMadeContents (then_moved h p from to) folder

@@ -1,8 +1,10 @@
 -- One step: what lasts in a pod that stands in prepared or in run, and where the pod stands then.
 use Rattle.std.proofs.Common.{arith, ◌≡◌, ◌⊎◌, inl, inr, ◌<◌, ℕ, Bool, true, false, not, ◌&&◌, ◌==◌, cond, Option, Some, None, option_map, option_to_list, unwrap_or, List, [], ◌∷◌, ◌++◌, slice_get, take, append-nil, refl, sym, ap, subst, ◌∙◌}
-use Rattle.std.specs.Prelude.{zero, suc, nat_lt}
+use Rattle.std.specs.Prelude.{nat_lt}
 use Rattle.std.proofs.lemmas.Option.{slice_get-map}
 use Rattle.std.proofs.lemmas.Bool.Decides.{nat_tests}
+use Rattle.plain_laws.proofs.Booleans.{clash}
+use Rattle.plain_laws.proofs.Lists.{get_pushed}
 use Rattle.dir_model.specs.declared.area.Area.{Area}
 use Rattle.dir_model.specs.declared.area.Area.TheVariants.{Embryo, Prepare, Prepared, Run, ExitedGarbage, Garbage, Incoming, Images, Trees, Removed}
 use Rattle.dir_model.specs.declared.event.Event.{Event}
@@ -25,7 +27,6 @@ use Rattle.dir_rules.specs.declared.seen.Entry.{Entry}
 use Rattle.dir_rules.specs.LockRules.{lock_rules_allow}
 use Rattle.dir_rules.specs.Rules.{allows, content_rules_allow}
 use Rattle.dir_rules.specs.Conforms.{seen_of}
-use Rattle.lifecycle.proofs.Handles.{clash}
 use Rattle.lifecycle.proofs.Places.{area_same, spot_turn}
 use Rattle.folder_contents.specs.Entries.{entries_in}
 use Rattle.folder_contents.proofs.Along.{Happens}
@@ -103,11 +104,6 @@ lasts h e x spot k filled at =
 abbrev pub is_late : Option Spot → Bool
 is_late None = true
 is_late (Some spot) = nat_lt 3 (rank spot.area)
-
-pub get_pushed : {X : Type 0} (xs : List X) (z y : X) (k : ℕ) → slice_get xs k ≡ Some y → slice_get (xs ++ z ∷ []) k ≡ Some y
-get_pushed [] z y k e = cc
-get_pushed (x ∷ xs) z y zero e = e
-get_pushed (x ∷ xs) z y (suc k) e = get_pushed xs z y k e
 
 abbrev pub IsLate : Namespace → ℕ → Type 0
 IsLate n k = (z : Option Spot) × ((slice_get n.folders k ≡ Some z) × (is_late z ≡ true))

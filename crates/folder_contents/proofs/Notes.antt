@@ -2,7 +2,9 @@
 use Rattle.std.proofs.Common.{arith, ◌≡◌, ℕ, zero, suc, ◌/◌, ◌%◌, ◌+◌, ◌<◌, Bool, true, false, not, ◌&&◌, ◌||◌, ◌==◌, cond, bytes_eq, Option, Some, None, List, [], ◌∷◌, ◌++◌, codes, length, nat_lt, drop, refl, sym, ap, subst, ◌∙◌}
 use Rattle.std.specs.List.{list_all}
 use Rattle.std.proofs.lemmas.Bool.Decides.{nat_tests}
+use Rattle.std.proofs.lemmas.Bool.{and_parts}
 use native.Mathlib.Nat.{mod-lt}
+use Rattle.plain_laws.proofs.Texts.{same_text}
 use Rattle.dir_model.specs.declared.area.Area.{Area}
 use Rattle.dir_model.specs.declared.area.Area.TheVariants.{Prepare, Prepared, Run, ExitedGarbage, Garbage, Removed}
 use Rattle.dir_model.specs.declared.intent.Intent.{Intent}
@@ -23,8 +25,6 @@ use Rattle.dir_rules.specs.Standing.{began_as, is_remover}
 use Rattle.dir_rules.specs.LockRules.{lock_rules_allow, may_remove, is_removal_held, is_removal_target}
 use Rattle.dir_rules.specs.Rules.{allows, content_rules_allow, may_note, may_mark, has_note, runs, makes_here, may_make_dir, may_make_file_in, may_append_in}
 use Rattle.lifecycle.proofs.Lists.{any_in}
-use Rattle.lifecycle.proofs.Handles.{both}
-use Rattle.lifecycle.proofs.Places.{name_same}
 use Rattle.folder_contents.specs.Filled.{is_after_handover, is_note}
 
 -- no digit is a slash
@@ -67,7 +67,7 @@ mark_note now = by (has_slash (marked_mark now)) (no_slashes (marked_mark now) (
 
 own_note : (o : Option Intent) (path : List ℕ) → is_own_mark o path ≡ true → is_note path ≡ true
 own_note None path h = cc
-own_note (Some intent) path h = subst (λ (p : List ℕ). is_note p ≡ true) (sym (name_same path (marked_mark intent.now) h)) (mark_note intent.now)
+own_note (Some intent) path h = subst (λ (p : List ℕ). is_note p ≡ true) (sym (same_text path (marked_mark intent.now) h)) (mark_note intent.now)
 
 -- the mark of a started app is one, and the file of a status
 started : (a b s m z : Bool) → (a && b && not s) ≡ true → (cond s false (cond a true m) || z) ≡ true
@@ -129,7 +129,7 @@ no_directory g i filled may =
 pub no_removal : (k : Standing) (spot : Spot) → may_remove k spot ≡ true → is_after_handover spot.area ≡ false
 no_removal k spot h =
     let e = any_in (is_removal_held spot) k.holdings h in
-    by e.0.target spot.area (both (is_exclusive e.0.lock) (is_removal_target spot e.0.target) e.1.1).1
+    by e.0.target spot.area (and_parts (is_exclusive e.0.lock) (is_removal_target spot e.0.target) e.1.1).1
   where
     by : (t : Target) (a : Area) → is_removal_target (record { area = a; name = spot.name }) t ≡ true → is_after_handover a ≡ false
     by (Own here) ExitedGarbage h = refl

@@ -1,5 +1,7 @@
 -- What a maker's own step is to the folder that it makes.
 use Rattle.std.proofs.Common.{◌≡◌, inl, inr, ℕ, Bool, true, false, ◌&&◌, ◌||◌, ◌==◌, cond, bytes_eq, Option, Some, None, option_to_list, List, [], ◌∷◌, ◌++◌, length, take, append-nil, refl, sym, ap, subst, ◌∙◌}
+use Rattle.std.proofs.lemmas.Bool.{and_parts}
+use Rattle.plain_laws.proofs.Booleans.{clash}
 use Rattle.dir_model.specs.declared.area.Area.{Area}
 use Rattle.dir_model.specs.declared.area.Area.TheVariants as area
 use Rattle.dir_model.specs.declared.item.Inner.{Inner}
@@ -28,7 +30,7 @@ use Rattle.dir_rules.specs.Rules.{allows, may_move_by_contents, contents_allow_m
 use Rattle.dir_rules.specs.Conforms.{seen_replied}
 use Rattle.dir_model.proofs.Lists.{and_left, and_right}
 use Rattle.dir_model.proofs.Spots.{spot_self}
-use Rattle.lifecycle.proofs.Handles.{Sound, both, clash, none_refused, refused_if}
+use Rattle.lifecycle.proofs.Handles.{Sound, none_refused, refused_if}
 use Rattle.lifecycle.proofs.Linked.{Linked}
 use Rattle.lifecycle.proofs.Places.{made_there, moved_there, none_stands, spot_turn}
 use Rattle.lifecycle.proofs.Step.{stands_from}
@@ -267,7 +269,7 @@ module _ (st : DirState) (p : ℕ) (s : Seen) (m : Making) (sound : Sound st.nam
   moves from to is may = by (spot_eq m.spot from) refl
     where
       x : (may_move_by_locks s.standing from to ≡ true) × (may_move_by_contents g from to ≡ true)
-      x = both (may_move_by_locks s.standing from to) (may_move_by_contents g from to) may
+      x = and_parts (may_move_by_locks s.standing from to) (may_move_by_contents g from to) may
 
       ask : is_stage from.area ≡ true → locks_allow_move s.standing from.name from.area to.area ≡ true
       ask stage = and_right (bytes_eq from.name to.name) (locks_allow_move s.standing from.name from.area to.area)

@@ -1,9 +1,11 @@
 -- What a listing and a removal leave known.
-use Rattle.std.proofs.Common.{◌≡◌, ℕ, Bool, true, false, not, ◌&&◌, ◌||◌, cond, bytes_eq, List, [], ◌∷◌, ◌++◌, map, filter, Result, Ok, Err, IfOk, IfErr, refl, sym, ap, subst, ◌∙◌, append_assoc, append-nil}
+use Rattle.std.proofs.Common.{◌≡◌, ℕ, Bool, true, false, not, ◌&&◌, ◌||◌, cond, bytes_eq, List, [], ◌∷◌, ◌++◌, map, filter, Result, Ok, Err, refl, sym, ap, subst, ◌∙◌, append_assoc, append-nil}
 use Rattle.std.specs.List.{list_any, list_all}
 use Rattle.std.proofs.lemmas.List.{map-append}
 use Rattle.std.proofs.lemmas.List.Elements.{filter-append}
 use Rattle.std.proofs.lemmas.List.Folds.{list_any-append, list_all-append}
+use Rattle.std.proofs.lemmas.Bool.{or_left, or_right}
+use Rattle.plain_laws.proofs.Lists.{filter_twice, filter_kept}
 use Rattle.dir_model.specs.declared.area.Area.{Area}
 use Rattle.dir_model.specs.declared.area.Area.TheVariants.{Images}
 use Rattle.dir_model.specs.declared.spot.Spot.{Spot}
@@ -18,7 +20,7 @@ use Rattle.dir_model.specs.declared.request.Reply.TheVariants.{Done, Begun, Item
 use Rattle.dir_model.specs.Paths.{is_empty}
 use Rattle.dir_model.specs.State.{spot_eq}
 use Rattle.dir_model.specs.Replies.{items_reply, done_reply}
-use Rattle.dir_model.proofs.Lists.{and_left, and_right, and_both, any_last, any_fewer}
+use Rattle.dir_model.proofs.Lists.{and_left, and_right, and_both, any_last, any_fewer, or_none}
 use Rattle.dir_model.proofs.Spots.{spot_self}
 use Rattle.dir_rules.specs.declared.seen.Seen.{Seen}
 use Rattle.dir_rules.specs.declared.seen.ShownItem.{ShownItem}
@@ -27,24 +29,12 @@ use Rattle.dir_rules.specs.Seen.{inner_eq, shown_in, is_item_at, is_item_in, wit
 use Rattle.dir_rules.specs.LockRules.{may_remove}
 use Rattle.dir_rules.specs.Rules.{allows, root_of, may_read_area, is_file_item, is_item_shown, is_emptied}
 use Rattle.dir_rules.specs.Conforms.{seen_replied, seen_listed}
+use Rattle.dir_laws.proofs.Spots.{inner_self}
 use Rattle.folder_removal.specs.declared.task.Task.{Task}
 use Rattle.folder_removal.specs.Tasks.{deletion_task_of, with_listed, is_dir_item, is_unlisted, has_plain_name, are_distinct, is_in_tasks, are_nested}
 use Rattle.folder_removal.specs.Removal.{is_removal_area, asks_deletion_at, task_inner, removal_by, removal_of}
 use Rattle.folder_removal.specs.Known.{task_shown_at, is_there, OnlyThere, MayDelete, has_listed, IsDeletionUnderWay, ForgetsFolder}
-use Rattle.folder_removal.proofs.Nested.{or_left, or_right, none_left, none_right, none_both, false_if, same_bytes, nested-append, nested_rest, last_new, last_childless, nested_listed, nested_children, all_new, is_known, is_childless}
-
--- lists
-filter_kept : {X : Type 0} (q : X → Bool) (xs : List X) → list_any q xs ≡ false → filter (λ x. not (q x)) xs ≡ xs
-filter_kept q [] none = refl
-filter_kept q (x ∷ xs) none = rw (none_left (q x) _ none) (ap (λ l. x ∷ l) (filter_kept q xs (none_right (q x) (list_any q xs) none)))
-
-filter_twice : {X : Type 0} (p q : X → Bool) → ((x : X) → p x ≡ true → q x ≡ true) → (xs : List X) → filter p (filter q xs) ≡ filter p xs
-filter_twice p q more [] = refl
-filter_twice {X} p q more (x ∷ xs) = by (q x) (more x) (filter_twice p q more xs)
-  where
-    by : (a : Bool) → (p x ≡ true → a ≡ true) → filter p (filter q xs) ≡ filter p xs → filter p (cond a (x ∷ filter q xs) (filter q xs)) ≡ cond (p x) (x ∷ filter p xs) (filter p xs)
-    by true h same = ap (λ (l : List X). cond (p x) (x ∷ l) l) same
-    by false h same = rw (false_if (p x) (λ is. let e : false ≡ true = h is in cc)) same
+use Rattle.folder_removal.proofs.Nested.{nested-append, nested_rest, last_new, last_childless, nested_listed, nested_children, all_new, is_known, is_childless}
 
 filter_none : {X Y : Type 0} (p : X → Bool) (f : Y → X) → ((y : Y) → p (f y) ≡ false) → (ys : List Y) → filter p (map f ys) ≡ []
 filter_none p f none [] = refl
@@ -57,9 +47,6 @@ any_mapped p q f same (y ∷ ys) = rw (same y, any_mapped p q f same ys) refl
 all_more : {X : Type 0} (p q : X → Bool) → ((x : X) → p x ≡ true → q x ≡ true) → (xs : List X) → list_all p xs ≡ true → list_all q xs ≡ true
 all_more p q more [] h = refl
 all_more p q more (x ∷ xs) h = and_both (q x) (list_all q xs) (more x (and_left (p x) (list_all p xs) h)) (all_more p q more xs (and_right (p x) (list_all p xs) h))
-
-inner_self : (inner : Inner) → inner_eq inner inner ≡ true
-inner_self inner = and_both (spot_eq inner.spot inner.spot) _ (spot_self inner.spot) (same_bytes inner.path)
 
 -- looking is allowed there
 looks : (s : Seen) (area : Area) → is_removal_area area ≡ true → may_read_area s area ≡ true
@@ -199,7 +186,7 @@ module _ (spot : Spot) (d : List ℕ) (tasks : List Task) (items : List Item) (s
   dir_at = record { spot = spot; path = d }
 
   none_there : list_any (is_item_in dir_at) s.items ≡ false
-  none_there = ap (list_any (is_item_in dir_at)) r.items ∙ list_any-append (is_item_in dir_at) r.others (map (task_shown_at spot) tasks) ∙ none_both _ _ (apart_in spot d r.others r.apart) (shown_within spot d tasks ∙ r.childless)
+  none_there = ap (list_any (is_item_in dir_at)) r.items ∙ list_any-append (is_item_in dir_at) r.others (map (task_shown_at spot) tasks) ∙ or_none _ _ (apart_in spot d r.others r.apart) (shown_within spot d tasks ∙ r.childless)
 
   worked : IsDeletionUnderWay spot (tasks ++ map (deletion_task_of d) items) (after_listing spot d s area true items)
   worked = record {
@@ -272,7 +259,7 @@ module _ (spot : Spot) (xs : List Task) (t : Task) (s : Seen) (w : IsDeletionUnd
       by false is h = cc
 
   is_bare : list_any (is_item_in (task_inner spot t)) s.items ≡ false
-  is_bare = ap (list_any (is_item_in (task_inner spot t))) w.items ∙ list_any-append (is_item_in (task_inner spot t)) w.others (map (task_shown_at spot) (xs ++ t ∷ [])) ∙ none_both _ _ (apart_in spot t.path w.others w.apart) (shown_within spot t.path (xs ++ t ∷ []) ∙ last_childless xs t w.nested)
+  is_bare = ap (list_any (is_item_in (task_inner spot t))) w.items ∙ list_any-append (is_item_in (task_inner spot t)) w.others (map (task_shown_at spot) (xs ++ t ∷ [])) ∙ or_none _ _ (apart_in spot t.path w.others w.apart) (shown_within spot t.path (xs ++ t ∷ []) ∙ last_childless xs t w.nested)
 
   pub may_remove_task : is_unlisted t ≡ false → allows s (removal_of spot t) ≡ true
   may_remove_task done = by t.kind refl
@@ -296,7 +283,7 @@ module _ (spot : Spot) (xs : List Task) (t : Task) (s : Seen) (w : IsDeletionUnd
   elsewhere i = not (is_item_at (task_inner spot t) i)
 
   none_left_at : list_any (is_item_at (task_inner spot t)) (w.others ++ map (task_shown_at spot) xs) ≡ false
-  none_left_at = list_any-append (is_item_at (task_inner spot t)) w.others (map (task_shown_at spot) xs) ∙ none_both _ _ (apart_at spot t.path w.others w.apart)
+  none_left_at = list_any-append (is_item_at (task_inner spot t)) w.others (map (task_shown_at spot) xs) ∙ or_none _ _ (apart_at spot t.path w.others w.apart)
       (any_mapped (is_item_at (task_inner spot t)) (λ e. bytes_eq e.path t.path) (task_shown_at spot) (λ e. ap (λ (b : Bool). b && bytes_eq e.path t.path) (spot_self spot)) xs ∙ last_new xs t w.nested)
 
   only_it : filter elsewhere s.items ≡ w.others ++ map (task_shown_at spot) xs
@@ -354,17 +341,3 @@ asks_removal spot t = by t.kind
     by item.Dir = spot_self spot
     by item.File = spot_self spot
     by item.Other = spot_self spot
-
--- of an Ok answer
-pub ok_more : {X E : Type 0} (P Q : X → Type 0) (r : Result X E) → ((x : X) → P x → Q x) → IfOk r P → IfOk r Q
-ok_more P Q (Ok x) more h = more x h
-ok_more P Q (Err e) more h = h
-
-pub ok_any : {X E : Type 0} (Q : X → Type 0) (r : Result X E) → ((x : X) → Q x) → IfOk r Q
-ok_any Q (Ok x) all = all x
-ok_any Q (Err e) all = tt
-
--- of an Err answer
-pub err_any : {X E : Type 0} (Q : E → Type 0) (r : Result X E) → ((e : E) → Q e) → IfErr r Q
-err_any Q (Ok x) all = tt
-err_any Q (Err e) all = all e

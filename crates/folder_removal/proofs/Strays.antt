@@ -1,6 +1,8 @@
 -- Where a stray answer comes from.
 use Rattle.std.proofs.Common.{◌≡◌, ◌⊎◌, inl, inr, ℕ, Bool, true, false, not, ◌&&◌, ◌==◌, bytes_eq, List, [], ◌∷◌, ◌++◌, map, refl, sym, ap, subst, ◌∙◌, append_assoc, append-nil}
 use Rattle.std.specs.List.{list_any}
+use Rattle.std.proofs.lemmas.Bool.{or_left}
+use Rattle.plain_laws.proofs.Texts.{same_bytes, bytes_turned}
 use Rattle.dir_model.specs.declared.event.Event.{Event}
 use Rattle.dir_model.specs.declared.item.Inner.{Inner}
 use Rattle.dir_model.specs.declared.item.ItemKind.{ItemKind}
@@ -16,7 +18,7 @@ use Rattle.dir_model.specs.Calls.{CallStep, ListStep, TookPlace, LeftNothing, Ex
 use Rattle.dir_model.specs.State.{spot_eq, stands}
 use Rattle.dir_model.specs.Replies.{is_fault, may_refuse, is_late_reply}
 use Rattle.dir_model.specs.declared.item.Item.{Item}
-use Rattle.dir_model.proofs.Lists.{and_false, and_left, and_both, or_last, same_self, all_weaker, all_left, all_right, all_both, all_push}
+use Rattle.dir_model.proofs.Lists.{and_false, and_left, and_both, or_last, same_self, all_weaker, all_left, all_right, all_both, all_push, or_left_false, or_right_false}
 use Rattle.dir_model.proofs.Spots.{spot_self}
 use Rattle.dir_model.proofs.Moments.{at_within}
 use Rattle.dir_trait.specs.DirCalls.{DirAt}
@@ -28,7 +30,7 @@ use Rattle.folder_removal.specs.Tasks.{deletion_task_of, with_listed, is_dir_ite
 use Rattle.folder_removal.specs.Removal.{asks_deletion_at, inner_at, task_inner, removal_by, removal_of, is_stray_deletion, is_dir_named, spares_dir, DirectoryWasShown, IsCalledFor, WasCalledFor, ListsStray, WasStrayDeletion, WentUnasked, WentUnremoved, AsksRemoval, StrayTurn, spares_folders, lists_at, WasTaskShown, AreShown, AreAtHand, HandsOn, StrayAfter}
 use Rattle.folder_removal.specs.Known.{IsListedAsTasks}
 use Rattle.folder_removal.proofs.Steps.{asks_removal}
-use Rattle.folder_removal.proofs.Nested.{or_left, none_left, none_right, same_bytes, swapped, nested_rest, last_new, nested_root, nested_with_children}
+use Rattle.folder_removal.proofs.Nested.{nested_rest, last_new, nested_root, nested_with_children}
 
 -- a refusal that is no fault
 pub stray_listing : (inner : Inner) (e : DirError) → may_refuse (ListIn inner) e ≡ true → is_fault e ≡ false → is_stray_deletion (ListIn inner) (Refused e 0) ≡ true
@@ -112,7 +114,7 @@ spares_other : (spot : Spot) (t other : Task) → bytes_eq other.path t.path ≡
 spares_other spot t other apart = by t.kind
   where
     by : (kind : ItemKind) → spares_dir (task_inner spot other) (removal_by kind (task_inner spot t)) ≡ true
-    by item.Dir = ap (λ (b : Bool). not (spot_eq spot spot && b)) (swapped other.path t.path ∙ apart) ∙ ap not (and_false (spot_eq spot spot))
+    by item.Dir = ap (λ (b : Bool). not (spot_eq spot spot && b)) (bytes_turned other.path t.path ∙ apart) ∙ ap not (and_false (spot_eq spot spot))
     by item.File = refl
     by item.Other = refl
 
@@ -197,8 +199,8 @@ module _ (spot : Spot) (me : ℕ) (start old new : List Event) where
   removed_still : (t : Task) (tasks : List Task) → is_in_tasks t.path tasks ≡ false → AsksRemoval spot t me old new → AreShown spot tasks me start old → AreShown spot tasks me start new
   removed_still t [] apart asked all = tt
   removed_still t (x ∷ xs) apart asked all = (
-    λ unlisted. shown_still (all.0 unlisted) (step_extends (spares_dir (task_inner spot x)) me old (removal_of spot t) asked.reply new (spares_other spot t x (none_left (bytes_eq x.path t.path) _ apart)) asked.step),
-    removed_still t xs (none_right (bytes_eq x.path t.path) (is_in_tasks t.path xs) apart) asked all.1,
+    λ unlisted. shown_still (all.0 unlisted) (step_extends (spares_dir (task_inner spot x)) me old (removal_of spot t) asked.reply new (spares_other spot t x (or_left_false (bytes_eq x.path t.path) _ apart)) asked.step),
+    removed_still t xs (or_right_false (bytes_eq x.path t.path) (is_in_tasks t.path xs) apart) asked all.1,
   )
 
   all_since : (tasks : List Task) → Extends (asks_deletion_at spot) me start old → AreShown spot tasks me old new → AreShown spot tasks me start new

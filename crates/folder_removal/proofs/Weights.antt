@@ -1,10 +1,10 @@
 -- A listing makes the work less.
-use Rattle.std.proofs.Common.{arith, ◌≡◌, ◌≤◌, ◌<◌, ◌+◌, ◌-◌, ◌*◌, ◌^◌, zero, suc, ℕ, length, Bool, true, false, ◌&&◌, cond, List, [], ◌∷◌, ◌++◌, map, refl, ap, subst, ◌∙◌}
+use Rattle.std.proofs.Common.{arith, ◌≡◌, ◌≤◌, ◌<◌, ◌+◌, ◌-◌, ◌*◌, ◌^◌, zero, suc, ℕ, length, Bool, true, false, cond, List, [], ◌∷◌, ◌++◌, map, refl, ap, subst, ◌∙◌}
 use Rattle.std.specs.List.{list_all}
 use Rattle.std.proofs.lemmas.Bool.{leb-true}
 use Rattle.dir_model.specs.declared.item.Item.{Item}
 use Rattle.dir_rules.specs.Marks.{path_in}
-use Rattle.dir_model.proofs.Lists.{and_left, and_right}
+use Rattle.dir_model.proofs.Lists.{and_left, and_right, and_false}
 use Rattle.folder_removal.specs.declared.task.Task.{Task}
 use Rattle.folder_removal.specs.Tasks.{is_plain_name, deletion_task_of, with_listed, is_unlisted, has_plain_name, is_short_task, is_dir_item, AreChildren}
 use Rattle.folder_removal.specs.Weights.{weight, task_weight, weigh}
@@ -76,10 +76,6 @@ times_less n m w h = grind (arith, h)
 few_enough : (n w : ℕ) → n < 2 ^ 64 → 1 + n * w < 2 + 2 ^ 64 * w
 few_enough n w h = omega (arith, times_less n (2 ^ 64) w (omega (arith, h)))
 
-not_listed : (a : Bool) → (a && false) ≡ false
-not_listed true = refl
-not_listed false = refl
-
 -- a directory that was listed, and its items, are less work than before
 module _ (before : List Task) (t : Task) (children : List Task) (items : List Item) (unlisted : is_unlisted t ≡ true) (are : AreChildren t.path items children) where
   short_items : list_all is_short_task (map (deletion_task_of t.path) items) ≡ true
@@ -93,7 +89,7 @@ module _ (before : List Task) (t : Task) (children : List Task) (items : List It
   before_is = weigh-append before (t ∷ []) ∙ rw unlisted (omega arith)
 
   after_is : weigh ((before ++ with_listed t ∷ []) ++ children) ≡ weigh before + (1 + weigh children)
-  after_is = weigh-append (before ++ with_listed t ∷ []) children ∙ ap (λ (n : ℕ). n + weigh children) (weigh-append before (with_listed t ∷ []) ∙ ap (λ (b : Bool). weigh before + (cond b (weight (8192 - length t.path)) 1 + 0)) (not_listed (is_dir_item t.kind))) ∙ omega arith
+  after_is = weigh-append (before ++ with_listed t ∷ []) children ∙ ap (λ (n : ℕ). n + weigh children) (weigh-append before (with_listed t ∷ []) ∙ ap (λ (b : Bool). weigh before + (cond b (weight (8192 - length t.path)) 1 + 0)) (and_false (is_dir_item t.kind))) ∙ omega arith
 
   pub listed_less : weigh ((before ++ with_listed t ∷ []) ++ children) < weigh (before ++ t ∷ [])
   listed_less = omega (arith, before_is, after_is, by_room (8192 - length t.path) refl, ap weigh are.are)

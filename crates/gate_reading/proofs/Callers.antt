@@ -16,6 +16,7 @@ use Rattle.dir_rules.specs.Standing.{is_in}
 use Rattle.dir_trait.specs.DirCalls.{DirAt, ExtendsBy}
 use Rattle.dir_files.specs.Reads.{inner_at, file_at, FileStaysBetween}
 use Rattle.dir_model.specs.declared.item.Item.{Item}
+use Rattle.dir_laws.proofs.Living.{lived_first}
 use Rattle.dir_files.specs.Listed.{Stretch, ShowsArea, ShowsAreaBetween, ShowsDirectory, ShowsDirectoryBetween}
 use Rattle.folder_contents.specs.Entries.{entries_in}
 use Rattle.folder_contents.proofs.GateKept.{gate_is_kept}
@@ -27,7 +28,7 @@ use Rattle.gate_reading.specs.Areas.{NamesImages}
 use Rattle.gate_reading.specs.Gate.{HasGate, GoesOnUnderLock}
 use Rattle.gate_reading.specs.Files.{is_outside_stage1, FindsFrom}
 use Rattle.gate_reading.proofs.StoredFiles.{finds, files_stay, none_comes}
-use Rattle.gate_reading.proofs.GoingOn.{lived_first, begins_never, lived_at_first, has_gate, whole_trace}
+use Rattle.gate_reading.proofs.GoingOn.{begins_never, lived_at_first, has_gate, whole_trace}
 
 module _ {asks : Request → Bool} {s : Seen} {old new : DirAt} (g : GoesOnUnderLock asks s old new) where
   -- a file that stands there stays

@@ -17,8 +17,6 @@ use Rattle.dir_model.specs.Trees.{is_within, mark_prefix, app_root, is_apps_own}
 use Rattle.dir_model.specs.Trace.{is_mark, marked_app, app_started, state_next, states_next, state_after}
 use Rattle.dir_model.specs.Replies.{is_own_at, is_apps_inner}
 use Rattle.dir_model.proofs.Lists.{and_left, and_false, or_none, not_true, all_both}
-use Rattle.lifecycle.proofs.Handles.{clash}
-use Rattle.lifecycle.proofs.Places.{name_same}
 use Rattle.gate_reading.specs.Files.{is_outside_stage1}
 use Rattle.dir_laws.proofs.Apps.{not_apps_own}
 

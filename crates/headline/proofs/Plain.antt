@@ -1,12 +1,13 @@
 -- A pod holds nothing, when it is made, of what is noted while it runs.
 use Rattle.std.proofs.Common.{◌≡◌, ℕ, Bool, true, false, not, ◌||◌, cond, bytes_eq, codes, List, [], ◌∷◌, refl, sym, ap, subst, ◌∙◌}
 use Rattle.std.specs.List.{list_any, list_all, AllByRecursion}
+use Rattle.plain_laws.proofs.Texts.{same_text}
+use Rattle.plain_laws.proofs.Booleans.{or_nothing}
 use Rattle.dir_model.specs.Paths.{lies_below}
 use Rattle.dir_model.specs.Trees.{is_dir, app_root}
 use Rattle.dir_model.proofs.Lists.{and_left, and_right}
 use Rattle.dir_rules.specs.declared.seen.Entry.{Entry}
 use Rattle.dir_rules.specs.Marks.{created_mark, has_slash}
-use Rattle.lifecycle.proofs.Places.{name_same}
 use Rattle.folder_contents.specs.Filled.{is_note, lasting}
 use Rattle.pod_plan.specs.PodFiles.{info_directory, stage_directory, app_manifest_path, tree_file, shared_directories, is_path_among, is_shared_place, is_app_place, is_pod_path}
 use Rattle.pod_plan.proofs.Under.{below_text}
@@ -20,7 +21,7 @@ one_plain [] path all is = cc
 one_plain (p ∷ paths) path all is = by (λ h. one_plain paths path all.1 h) (bytes_eq path p) refl is
   where
     by : (is_path_among paths path ≡ true → IsPlain path) → (b : Bool) → bytes_eq path p ≡ b → (b || is_path_among paths path) ≡ true → IsPlain path
-    by rest true e h = subst IsPlain (sym (name_same path p e)) all.0
+    by rest true e h = subst IsPlain (sym (same_text path p e)) all.0
     by rest false e h = rest h
 
 either_false : (b : Bool) → (cond b false false || false) ≡ false
@@ -31,10 +32,6 @@ shared_plain : (now : ℕ) (directory : Bool) (path : List ℕ) → is_shared_pl
 shared_plain now true path is = one_plain shared_directories path (refl, (refl, (refl, (refl, (refl, (refl, (refl, tt))))))) is
 shared_plain now false path is = one_plain (created_mark now ∷ codes "token" ∷ codes "pod" ∷ []) path (either_false (has_slash (created_mark now)), (refl, (refl, tt))) is
 
-or_left : (b : Bool) → (b || false) ≡ true → b ≡ true
-or_left true h = refl
-or_left false h = cc
-
 app_plain : (name : List ℕ) (directory : Bool) (path : List ℕ) → is_app_place name directory path ≡ true → IsPlain path
 app_plain name directory path is = by directory (lies_below path (app_root name)) refl is
   where
@@ -44,8 +41,8 @@ app_plain name directory path is = by directory (lies_below path (app_root name)
     by : (d b : Bool) → lies_below path (app_root name) ≡ b →
         (cond d (is_path_among (info_directory name ∷ stage_directory name ∷ app_root name ∷ []) path) (is_path_among (app_manifest_path name ∷ tree_file name ∷ []) path) || b) ≡ true → IsPlain path
     by d true e h = below e
-    by true false e h = one_plain (info_directory name ∷ stage_directory name ∷ app_root name ∷ []) path (refl, (refl, (refl, tt))) (or_left _ h)
-    by false false e h = one_plain (app_manifest_path name ∷ tree_file name ∷ []) path (refl, (refl, tt)) (or_left _ h)
+    by true false e h = one_plain (info_directory name ∷ stage_directory name ∷ app_root name ∷ []) path (refl, (refl, (refl, tt))) (or_nothing _ h)
+    by false false e h = one_plain (app_manifest_path name ∷ tree_file name ∷ []) path (refl, (refl, tt)) (or_nothing _ h)
 
 apps_plain : (names : List (List ℕ)) (directory : Bool) (path : List ℕ) → list_any (λ name. is_app_place name directory path) names ≡ true → IsPlain path
 apps_plain [] directory path is = cc

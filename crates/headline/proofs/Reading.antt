@@ -1,6 +1,7 @@
 -- What is read of a pod is what its maker made.
 use Rattle.std.proofs.Common.{◌≡◌, ℕ, Bool, true, false, not, ◌&&◌, cond, bytes_eq, Option, Some, None, is_some, filter, List, [], ◌∷◌, ◌++◌, take, drop, refl, sym, ap, subst, ◌∙◌}
 use Rattle.std.specs.List.{flat_map}
+use Rattle.plain_laws.proofs.Texts.{same_text}
 use Rattle.dir_model.specs.declared.event.Event.{Event}
 use Rattle.dir_model.specs.declared.item.Inner.{Inner}
 use Rattle.dir_model.specs.declared.tree.TreeEntry.{TreeEntry}
@@ -14,7 +15,6 @@ use Rattle.dir_model.specs.Replies.{is_reply, is_state_reply, is_any_reply, is_r
 use Rattle.dir_rules.specs.declared.seen.Entry.{Entry}
 use Rattle.lifecycle.proofs.Deletions.{reply_at}
 use Rattle.lifecycle.proofs.Draws.{conforming_left}
-use Rattle.lifecycle.proofs.Places.{name_same}
 use Rattle.folder_contents.specs.Entries.{entries_in, file_bytes}
 use Rattle.folder_contents.proofs.ReadFiles.{reads_tell_files}
 use Rattle.folder_contents.specs.Filled.{is_note, lasting}
@@ -33,7 +33,7 @@ module _ (path : List ℕ) (lasts : is_note path ≡ false) where
     where
       by : (b : Bool) → is_note e.path ≡ b → (c : Bool) → here e ≡ c → filter here (lasting es) ≡ filter here es →
           filter here (cond (not b) (e ∷ lasting es) (lasting es)) ≡ cond c (e ∷ filter here es) (filter here es)
-      by true noted true same go = let clash : true ≡ false = sym noted ∙ (ap is_note (name_same e.path path same) ∙ lasts) in cc
+      by true noted true same go = let clash : true ≡ false = sym noted ∙ (ap is_note (same_text e.path path same) ∙ lasts) in cc
       by true noted false apart go = go
       by false stays c is go = ap (λ d. cond d (e ∷ filter here (lasting es)) (filter here (lasting es))) is ∙ ap (λ (l : List Entry). cond c (e ∷ l) l) go
 

@@ -2,10 +2,10 @@
 use Rattle.std.proofs.Common.{arith, ◌≡◌, ◌≤◌, ◌+◌, ℕ, Bool, true, false, ◌&&◌, cond, nat_le, bytes_eq, Option, Some, None, List, [], ◌∷◌, ◌++◌, length, take, drop, append-nil, refl, sym, ap, subst, ◌∙◌}
 use Rattle.std.specs.Prelude.{MatchOption}
 use Rattle.std.specs.List.{cons_option}
-use Rattle.std.proofs.lemmas.Bool.Decides.{nat_tests}
 use Rattle.dir_model.specs.declared.item.Item.{Item}
 use Rattle.dir_model.proofs.Lists.{all_both, all_weaker}
 use Rattle.std.proofs.lemmas.List.Elements.{filter_map-append, Contains-append_left, Contains-append_right}
+use Rattle.plain_laws.proofs.Numbers.{at_most_back, not_at_most}
 use Rattle.image_reading.specs.Places.{mark_name}
 use Rattle.dir_rules.specs.Marks.{mark_moment}
 use Rattle.dir_rules.specs.Seen.{later}
@@ -23,12 +23,6 @@ IsBest moments best = MatchOption best (moments ≡ []) (IsGreatest moments)
 alone : (m : ℕ) → IsGreatest (m ∷ []) m
 alone m = record { one = (0, omega arith, refl); most = (omega arith, tt) }
 
-not_less : (b m : ℕ) → nat_le b m ≡ false → m ≤ b
-not_less b m h = grind (arith, nat_tests)
-
-less : (b m : ℕ) → nat_le b m ≡ true → b ≤ m
-less b m h = grind (arith, nat_tests)
-
 best_more : (moments : List ℕ) (best o : Option ℕ) → IsBest moments best → IsBest (moments ++ cons_option o []) (later best o)
 best_more moments None None is = append-nil moments ∙ is
 best_more moments None (Some m) is = subst (λ (ms : List ℕ). IsGreatest (ms ++ m ∷ []) m) (sym is) (alone m)
@@ -36,8 +30,8 @@ best_more moments (Some b) None is = subst (λ (ms : List ℕ). IsGreatest ms b)
 best_more moments (Some b) (Some m) is = by (nat_le b m) refl
   where
     by : (x : Bool) → nat_le b m ≡ x → IsBest (moments ++ m ∷ []) (cond x (Some m) (Some b))
-    by true h = record { one = Contains-append_right moments (m ∷ []) m (alone m).one; most = all_both (λ n. n ≤ m) moments (m ∷ []) (all_weaker (λ n. n ≤ b) (λ n. n ≤ m) (λ n l. omega (arith, l, less b m h)) moments is.most) (omega arith, tt) }
-    by false h = record { one = Contains-append_left moments (m ∷ []) b is.one; most = all_both (λ n. n ≤ b) moments (m ∷ []) is.most (not_less b m h, tt) }
+    by true h = record { one = Contains-append_right moments (m ∷ []) m (alone m).one; most = all_both (λ n. n ≤ m) moments (m ∷ []) (all_weaker (λ n. n ≤ b) (λ n. n ≤ m) (λ n l. omega (arith, l, at_most_back b m h)) moments is.most) (omega arith, tt) }
+    by false h = record { one = Contains-append_left moments (m ∷ []) b is.one; most = all_both (λ n. n ≤ b) moments (m ∷ []) is.most (not_at_most b m h, tt) }
 
 pub best_next : (items : List Item) (i : ℕ) (item : Item) (best : Option ℕ) → take (i + 1) items ≡ take i items ++ item ∷ [] → IsBest (imported_moments (take i items)) best → IsBest (imported_moments (take (i + 1) items)) (later best (imported_moment item.name))
 best_next items i item best more is =

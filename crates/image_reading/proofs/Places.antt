@@ -2,12 +2,11 @@
 use Rattle.std.proofs.Common.{arith, ◌≡◌, ◌<◌, ◌≤◌, ◌+◌, ◌*◌, ◌/◌, ◌%◌, ℕ, suc, true, ◌&&◌, Option, Some, None, List, [], ◌∷◌, ◌++◌, length, slice_index, codes, refl, sym, ap, ◌∙◌, length-append}
 use Rattle.std.specs.List.{list_all}
 use Rattle.std.specs.Prelude.{nat_lt}
-use Rattle.std.specs.Str.{is_utf8, IsAscii}
-use Rattle.std.proofs.lemmas.Bool.{and_parts, ltb-true}
+use Rattle.std.specs.Str.{is_utf8}
 use Rattle.std.proofs.lemmas.Str.{IsUtf8-from_ascii, is_utf8-from_IsUtf8}
-use Rattle.std.proofs.lemmas.Str.Ascii.{IsAscii-nil, IsAscii-cons}
 use Rattle.std.proofs.lemmas.List.Sums.{AllPass-from_list_all}
 use Rattle.std.proofs.lemmas.List.Folds.{list_all-append}
+use Rattle.plain_laws.proofs.Texts.{ascii_from}
 use Rattle.hex.specs.Hex.{IsBytes, encode_with, lower_digits}
 use Rattle.hex.proofs.HexLemmas.{length-encode_with}
 use Rattle.ac_types.specs.declared.store_key.StoreKey.{StoreKey}
@@ -59,12 +58,6 @@ name_key name key short is = ap some_key (sym is ∙ read_alone name short)
 
 pub name_no_key : (name : List ℕ) → length name ≤ 71 → key_read name ≡ None → None ≡ key_of_name name
 name_no_key name short is = ap some_key (sym is ∙ read_alone name short)
-
-pub ascii_from : (bytes : List ℕ) → list_all (λ b. nat_lt b 128) bytes ≡ true → IsAscii bytes
-ascii_from [] all = IsAscii-nil
-ascii_from (x ∷ xs) all =
-    let parts = and_parts _ _ all in
-    IsAscii-cons x xs (ltb-true x 128 parts.0) (ascii_from xs parts.1)
 
 ascii_utf8 : (bytes : List ℕ) → list_all (λ b. nat_lt b 128) bytes ≡ true → is_utf8 bytes ≡ true
 ascii_utf8 bytes all = is_utf8-from_IsUtf8 bytes (IsUtf8-from_ascii bytes (ascii_from bytes all))

@@ -1,5 +1,6 @@
 -- A process that has just begun may remove an image, or sweep.
 use Rattle.std.proofs.Common.{◌≡◌, true, bytes_eq, refl, ap, ◌∙◌}
+use Rattle.plain_laws.proofs.Texts.{same_bytes}
 use Rattle.dir_model.specs.declared.intent.Intent.{Intent}
 use Rattle.dir_model.specs.declared.pod.PodId.{PodId}
 use Rattle.dir_model.specs.declared.request.Request.TheVariants.{Begin}
@@ -7,7 +8,6 @@ use Rattle.dir_model.specs.declared.request.Reply.TheVariants.{Done}
 use Rattle.dir_model.specs.Pods.{pod_text}
 use Rattle.dir_rules.specs.Standing.{is_image_rm, is_image_remover}
 use Rattle.dir_rules.specs.Conforms.{nothing_seen, seen_replied}
-use Rattle.dir_rules.proofs.Looks.{same_bytes}
 use Rattle.image_removal.specs.Work.{MayRemoveImage, MaySweepStore}
 
 pub begun_removes : (intent : Intent) (draw : PodId) → is_image_rm intent.kind ≡ true → intent.draw ≡ draw → MayRemoveImage draw (seen_replied nothing_seen (Begin intent) Done)

@@ -21,10 +21,12 @@ use Rattle.dir_model.specs.Replies.{may_refuse, is_error}
 use Rattle.dir_model.specs.Calls.{CallStep, Extends}
 use Rattle.dir_model.proofs.Allowed.{allowed_reply}
 use Rattle.dir_model.proofs.Moments.{missed, step_at}
+use Rattle.dir_laws.proofs.Rose.{rose_later, rose_still}
 use Rattle.dir_trait.specs.DirCalls.{DirAt, DirCall, HeldBetween, ExtendsBy}
 use Rattle.dir_files.specs.declared.lock_error.LockError.{LockError}
 use Rattle.dir_files.specs.declared.lock_error.LockError.TheVariants as lock
 use Rattle.dir_files.specs.AreaLocks.{is_taking_area, IsBusy, IsBusyElsewhere}
+use Rattle.folder_building.proofs.Following.{Follows}
 use Rattle.folder_removal.specs.declared.error.DeleteError.{DeleteError}
 use Rattle.folder_removal.specs.declared.error.DeleteError.TheVariants as delete
 use Rattle.folder_removal.specs.Removal.{is_stray_deletion, EndsWithStrayDeletion}
@@ -35,7 +37,7 @@ use Rattle.image_removal.specs.Requests.{incoming_spot, removed_spot, away_spot,
 use Rattle.image_removal.specs.Causes.{lock_refusal, lock_free, change_refusal, look_answer, move_refusal, delete_refusal, is_removal_work_refusal}
 use Rattle.image_removal.specs.Causes.{is_fault_refusal, is_move_refusal, is_remove_refusal, WasStrayRemoval, RemovalWorkCause, WasTold, MoveCause, ImageRemovalCause, RemovalBusyElsewhere}
 use Rattle.image_removal.specs.Calls.{WasCalled}
-use Rattle.image_removal.proofs.Times.{Follows, rose_later, rose_still, called_self, called_after, called_before, due_of}
+use Rattle.image_removal.proofs.Times.{called_self, called_after, called_before, due_of}
 
 -- a lock that wasn't had
 pub lock_removing : {observed : Bool} {key : StoreKey} {draw : PodId} {old new : DirAt} (e : LockError) → (e ≡ lock.DirFault → Rose old.faults new.faults)

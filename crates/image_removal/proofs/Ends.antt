@@ -1,5 +1,5 @@
 -- What the parts of a removal and of a sweep come to.
-use Rattle.std.proofs.Common.{◌≡◌, inl, inr, ℕ, Bool, true, false, ◌||◌, List, Result, Ok, Err, IfOk, IfErr, refl, subst, ◌∙◌, arith}
+use Rattle.std.proofs.Common.{◌≡◌, inl, inr, ℕ, Bool, true, false, ◌||◌, List, Result, Ok, Err, refl, subst, ◌∙◌, arith}
 use Rattle.ac_types.specs.declared.store_key.StoreKey.{StoreKey}
 use Rattle.dir_model.specs.declared.area.Area.TheVariants.{Images, Removed}
 use Rattle.dir_model.specs.declared.event.Event.{Event}
@@ -12,7 +12,6 @@ use Rattle.dir_model.specs.declared.spot.Which.TheVariants as which
 use Rattle.dir_model.specs.declared.request.DirError.{DirError}
 use Rattle.dir_model.specs.declared.request.Request.{Request}
 use Rattle.dir_model.specs.declared.request.Request.TheVariants.{MoveFolder, Open, Close, RemoveFolder}
-use Rattle.dir_model.specs.declared.request.Reply.{Reply}
 use Rattle.dir_model.specs.declared.request.Reply.TheVariants.{Done, Opened, Refused}
 use Rattle.dir_model.specs.State.{DirState, spot_eq}
 use Rattle.dir_model.specs.Local.{IsUnopened}
@@ -54,12 +53,6 @@ pub worked_move : {observed : Bool} {old new : DirAt} (from to : Spot) (answer :
     → OnlyAsks observed (moves_folder from to) old new
 worked_move from to (Ok done) c = worked_call (and_both (spot_eq from from) (spot_eq to to) (spot_self from) (spot_self to)) refl c
 worked_move from to (Err error) c = worked_call (and_both (spot_eq from from) (spot_eq to to) (spot_self from) (spot_self to)) refl c
-
--- the same call, by what its locations are
-pub with_spots : {observed : Bool} {old new : DirAt} {from from' to to' : Spot} {reply : Reply} → from ≡ from' → to ≡ to' → DirCall observed old (MoveFolder from to) reply new
-    → DirCall observed old (MoveFolder from' to') reply new
-with_spots {observed} {old} {new} {from} {from'} {to} {to'} {reply} a b c =
-    subst (λ (t : Spot). DirCall observed old (MoveFolder from' t) reply new) b (subst (λ (f : Spot). DirCall observed old (MoveFolder f to) reply new) a c)
 
 -- what each part asks for is among a removal's requests
 module _ (key : StoreKey) (draw : PodId) where
@@ -104,12 +97,3 @@ is_removed key draw a b c Busy same moved gone = record {
   moved = moved;
   gone = subst (λ (me : ℕ). IsGoneUnless Busy (away_spot draw) me b.trace c.trace) same gone;
 }
-
--- what holds whatever the value is
-pub ok_any : {T E : Type 0} (P : Type 0) (r : Result T E) → P → IfOk r (λ x. P)
-ok_any P (Ok x) p = p
-ok_any P (Err e) p = tt
-
-pub err_any : {T E : Type 0} (P : Type 0) (r : Result T E) → P → IfErr r (λ e. P)
-err_any P (Ok x) p = tt
-err_any P (Err e) p = p

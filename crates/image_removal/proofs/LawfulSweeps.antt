@@ -5,6 +5,9 @@ use Rattle.std.specs.List.Sorted.{IsStrictlySortedBy}
 use Rattle.std.specs.Ordering.{nat_cmp, is_eq}
 use Rattle.std.specs.Cmp.Lexicographic.{slice_cmp}
 use Rattle.std.proofs.lemmas.Map.Text.{is_eq-slice_cmp}
+use Rattle.std.proofs.lemmas.Bool.{and_parts, or_left}
+use Rattle.plain_laws.proofs.Texts.{same_bytes, same_text}
+use Rattle.plain_laws.proofs.Booleans.{clash}
 use Rattle.dir_model.specs.declared.area.Area.{Area}
 use Rattle.dir_model.specs.declared.area.Area.TheVariants.{Incoming}
 use Rattle.dir_model.specs.declared.event.Event.{Event}
@@ -32,15 +35,12 @@ use Rattle.dir_rules.specs.Anomalies.{is_foreign_write, is_its_folder, knows_fol
 use Rattle.dir_rules.specs.Conforms.{nothing_seen, seen_after_event, seen_after, seen_of, seen_replied, IsTied}
 use Rattle.dir_rules.specs.LockRules.{may_remove}
 use Rattle.dir_rules.specs.Rules.{root_of, is_item_shown, is_file_item}
-use Rattle.dir_rules.proofs.Looks.{same_bytes}
 use Rattle.dir_rules.proofs.Tied.{meanwhile_unseen, lived_meanwhile, own_seen, seen_after-append, tied_call}
 use Rattle.dir_trait.specs.DirCalls.{DirAt, DirCall}
 use Rattle.lifecycle.specs.Executions.{IsConforming}
 use Rattle.lifecycle.proofs.Draws.{conforming_left}
 use Rattle.lifecycle.proofs.Closes.{any_mapped}
-use Rattle.lifecycle.proofs.Handles.{both, clash}
-use Rattle.lifecycle.proofs.Places.{name_same}
-use Rattle.lifecycle.proofs.Lists.{In, any_in, in_any, in_filter, filter_in, map_in, or_left}
+use Rattle.lifecycle.proofs.Lists.{In, any_in, in_any, in_filter, filter_in, map_in}
 use Rattle.folder_contents.proofs.Spots.{one_location}
 use Rattle.folder_removal.specs.Known.{HasAsked, IsListingDue, StrayKnowing}
 use Rattle.folder_removal.specs.Removal.{asks_deletion_at, is_stray_deletion, removes_folder, KeptFolders, WasStrayDeletion}
@@ -219,14 +219,14 @@ module _ {me : ℕ} {from new : List Event} (name : List ℕ) (shown : WasListed
           → list_any (λ a. is_in Incoming a.area && has_name a.names name) (map (moved_away here) areas) ≡ true
       away n i here at areas had =
           let y = any_in (λ a. is_in Incoming a.area && has_name a.names name) areas had in
-          let z = both (is_in Incoming y.0.area) (has_name y.0.names name) y.1.1 in
+          let z = and_parts (is_in Incoming y.0.area) (has_name y.0.names name) y.1.1 in
           in_any (λ a. is_in Incoming a.area && has_name a.names name) (moved_away here y.0) (map (moved_away here) areas) (map_in (moved_away here) y.0 areas y.1.0)
           (kept (is_in here.area y.0.area) y.0 z.0 z.1)
         where
           differs : (k : List ℕ) → bytes_eq k name ≡ true → (b : Bool) → bytes_eq k here.name ≡ b → not b ≡ true
           differs k is false e = refl
           differs k is true e =
-              let same : n ≡ name = sym (name_same k n (ap (λ (s : Spot). bytes_eq k s.name) (sym at) ∙ e)) ∙ name_same k name is in
+              let same : n ≡ name = sym (same_text k n (ap (λ (s : Spot). bytes_eq k s.name) (sym at) ∙ e)) ∙ same_text k name is in
               clash (has_name others name) (in_any (λ l. bytes_eq l name) n others i (ap (λ l. bytes_eq l name) same ∙ same_bytes name)) apart
 
           filtered : (ns : List (List ℕ)) → has_name ns name ≡ true → has_name (filter (λ l. not (bytes_eq l here.name)) ns) name ≡ true
@@ -240,7 +240,7 @@ module _ {me : ℕ} {from new : List Event} (name : List ℕ) (shown : WasListed
           kept false a area has = and_both (is_in Incoming a.area) (has_name a.names name) area has
 
       by : (n : List ℕ) → In n others → (request : Request) (reply : Reply) → deals_with_folder PutAway n request ≡ true → names_it (seen_replied s request reply) ≡ true
-      by n i (MoveFolder here there) Done on = away n i here (one_location here (incoming_spot n) (both (spot_eq here (incoming_spot n)) (spot_eq there (removed_spot n)) on).0) s.areas had
+      by n i (MoveFolder here there) Done on = away n i here (one_location here (incoming_spot n) (and_parts (spot_eq here (incoming_spot n)) (spot_eq there (removed_spot n)) on).0) s.areas had
       by n i (MoveFolder here there) (Refused e left) on = had
       by n i (MoveFolder here there) (Names ns) on = had
       by n i (MoveFolder here there) (Items items) on = had

@@ -1,6 +1,7 @@
 -- The exclusive lock of an area, taken and given back around other calls.
 use Rattle.std.proofs.Common.{◌≡◌, ◌≤◌, Bool, true, false, not, ◌&&◌, ◌||◌, Option, Some, None, refl, sym, ap, subst, ◌∙◌, arith}
 use Rattle.std.specs.List.{list_any}
+use Rattle.plain_laws.proofs.Lists.{none_of_filter}
 use Rattle.dir_model.specs.declared.area.Area.{Area}
 use Rattle.dir_model.specs.declared.area.Area.TheVariants.{Incoming, Images, Removed}
 use Rattle.dir_model.specs.declared.intent.Intent.{Intent}
@@ -12,7 +13,7 @@ use Rattle.dir_model.specs.declared.spot.Mode.TheVariants.{Shared, Exclusive}
 use Rattle.dir_model.specs.declared.request.Request.{Request}
 use Rattle.dir_model.specs.declared.request.Request.TheVariants.{OpenArea, TryLock, Close}
 use Rattle.dir_model.specs.Areas.{rank}
-use Rattle.dir_model.specs.Local.{IsUnopened, without}
+use Rattle.dir_model.specs.Local.{IsUnopened}
 use Rattle.dir_model.proofs.Chains.{and_more, extends_wider}
 use Rattle.dir_model.proofs.Lists.{same_self, or_last}
 use Rattle.dir_rules.specs.LockRules.{is_open_on}
@@ -26,13 +27,12 @@ use Rattle.dir_trait.specs.Knowledge.{Knows}
 use Rattle.dir_trait.specs.Effects.{OnlyAsks}
 use Rattle.dir_files.specs.AreaLocks.{is_taking_area, closes, and_area_lock, with_gate, MayLock, exclusive_given, is_listed_under}
 use Rattle.dir_files.proofs.Locking.{unlocked_same}
+use Rattle.folder_building.proofs.Following.{Follows, GivesBack}
 use Rattle.image_removal.specs.declared.pass.Pass.{Pass}
 use Rattle.image_removal.specs.declared.pass.Pass.TheVariants.{PutAway, Delete}
 use Rattle.image_removal.specs.Requests.{locks_one}
 use Rattle.image_removal.specs.Passes.{area_of_pass, is_close}
 use Rattle.image_removal.specs.Work.{IsBareOfRemoved, HoldsArea, MayPutAway, MayRemoveImage, MayPassStore, MaySweepStore, KeepsStandingAndRules, StaysBare}
-use Rattle.image_removal.proofs.Times.{Follows}
-use Rattle.image_removal.proofs.Knowing.{none_of_filter}
 
 -- the lock was had
 pub record Takes (observed : Bool) (area : Area) (h : Handle) (old new : DirAt) : Type 0 where
@@ -42,18 +42,8 @@ pub record Takes (observed : Bool) (area : Area) (h : Handle) (old new : DirAt) 
   pub unopened : IsUnopened old.local h
   pub extends : observed ≡ true → ExtendsBy (is_taking_area area Exclusive) old new
 
--- and given back
-pub record GivesBack (observed : Bool) (h : Handle) (old new : DirAt) : Type 0 where
-  pub same : new.process ≡ old.process
-  pub faultless : new.faults ≡ old.faults
-  pub local : new.local ≡ without old.local h
-  pub extends : observed ≡ true → ExtendsBy (closes h) old new
-
 pub follows_take : {observed : Bool} {area : Area} {h : Handle} {a b : DirAt} → Takes observed area h a b → Follows observed a b
 follows_take {observed} {area} s = record { same = s.same; faults = s.faults; asks = is_taking_area area Exclusive; extends = s.extends }
-
-pub follows_back : {observed : Bool} {h : Handle} {a b : DirAt} → GivesBack observed h a b → Follows observed a b
-follows_back {observed} {h} g = record { same = g.same; faults = omega (arith, g.faultless); asks = closes h; extends = g.extends }
 
 -- a lock is among the requests for one of two
 pub takes_first : (first second : Area) (request : Request) → is_taking_area first Exclusive request ≡ true → locks_one first second request ≡ true

@@ -1,15 +1,17 @@
 -- The names that a listing shows, and the requests and lines for them.
 use Rattle.std.proofs.Common.{◌≡◌, ℕ, Bool, true, false, ◌&&◌, ◌||◌, cond, List, [], ◌∷◌, ◌++◌, map, refl, sym, ap, subst, ◌∙◌, append_assoc, append-nil}
 use Rattle.std.specs.List.{list_any, AllByRecursion}
+use Rattle.plain_laws.proofs.Lists.{any_left, any_right, map_both}
 use Rattle.dir_model.specs.declared.area.Area.TheVariants.{Incoming, Removed}
 use Rattle.dir_model.specs.declared.spot.Mode.TheVariants.{Exclusive}
 use Rattle.dir_model.specs.declared.request.Request.{Request}
 use Rattle.dir_model.specs.declared.request.Request.TheVariants.{OpenArea, TryLock, Close, MoveFolder, ListArea, ListIn, RemoveFileIn, RemoveDirIn, RemoveFolder}
 use Rattle.dir_model.specs.declared.request.Reply.TheVariants.{Done}
-use Rattle.dir_model.proofs.Lists.{and_left, or_last, or_map, all_both, all_weaker}
+use Rattle.dir_model.proofs.Lists.{and_left, or_last, all_both, all_weaker}
 use Rattle.dir_rules.specs.Standing.{is_in}
 use Rattle.dir_trait.specs.DirCalls.{DirAt}
 use Rattle.dir_files.specs.AreaLocks.{is_taking_area}
+use Rattle.folder_building.proofs.Following.{Follows}
 use Rattle.image_removal.specs.declared.pass.Pass.{Pass}
 use Rattle.image_removal.specs.declared.pass.Pass.TheVariants.{PutAway, Delete}
 use Rattle.image_removal.specs.declared.pass.SweepLine.{SweepLine}
@@ -17,7 +19,7 @@ use Rattle.image_removal.specs.Requests.{lists_store_area, locks_one, sweeps_sto
 use Rattle.image_removal.specs.Passes.{area_of_pass, line_of, pass_request_of, deals_with_folder, is_uuid, uuids, deals_with_folders}
 use Rattle.image_removal.specs.Calls.{WasCalled}
 use Rattle.image_removal.specs.Sweeps.{AddsLines}
-use Rattle.image_removal.proofs.Times.{Follows, called_after, called_before}
+use Rattle.image_removal.proofs.Times.{called_after, called_before}
 use Rattle.image_removal.proofs.Locked.{takes_first, takes_second}
 
 -- what each part asks for is among a sweep's requests
@@ -70,18 +72,6 @@ uuids_append (x ∷ xs) ys = by (is_uuid x) (uuids_append xs ys)
     by true rest = ap (λ (l : List (List ℕ)). x ∷ l) rest
     by false rest = rest
 
-any_left : {X : Type 0} (t : X → Bool) (xs ys : List X) → list_any t xs ≡ true → list_any t (xs ++ ys) ≡ true
-any_left t [] ys h = cc
-any_left t (x ∷ xs) ys h = or_map (t x) (list_any t xs) (list_any t (xs ++ ys)) (any_left t xs ys) h
-
-any_right : {X : Type 0} (t : X → Bool) (xs ys : List X) → list_any t ys ≡ true → list_any t (xs ++ ys) ≡ true
-any_right t [] ys h = h
-any_right t (x ∷ xs) ys h = or_last (t x) (list_any t (xs ++ ys)) (any_right t xs ys h)
-
-map_append : {X Y : Type 0} (f : X → Y) (xs ys : List X) → map f (xs ++ ys) ≡ map f xs ++ map f ys
-map_append f [] ys = refl
-map_append {X} {Y} f (x ∷ xs) ys = ap (λ (l : List Y). f x ∷ l) (map_append f xs ys)
-
 -- a name among others
 pub some_among : (pass : Pass) (before rest : List (List ℕ)) (name : List ℕ) (request : Request) → deals_with_folders pass (name ∷ []) request ≡ true
     → deals_with_folders pass ((before ++ name ∷ []) ++ rest) request ≡ true
@@ -131,7 +121,7 @@ pub adds_more : {observed : Bool} {a b c : DirAt} (pass : Pass) (xs ys : List (L
 adds_more {observed} {a} {b} {c} pass xs ys before mid after ab bc x y = record {
   lines = y.lines ∙ (ap (λ (l : List SweepLine). l ++ map (line_of pass) (uuids ys)) x.lines
       ∙ (append_assoc before (map (line_of pass) (uuids xs)) (map (line_of pass) (uuids ys))
-      ∙ ap (λ (l : List SweepLine). before ++ l) (sym (map_append (line_of pass) (uuids xs) (uuids ys)))
+      ∙ ap (λ (l : List SweepLine). before ++ l) (sym (map_both (line_of pass) (uuids xs) (uuids ys)))
       ∙ ap (λ (l : List (List ℕ)). before ++ map (line_of pass) l) (sym (uuids_append xs ys))));
   each = λ t. subst (λ (l : List (List ℕ)). AllByRecursion (λ n. WasCalled (pass_request_of pass n) Done a.process a.trace c.trace) l) (sym (uuids_append xs ys))
       (all_both _ (uuids xs) (uuids ys)

@@ -1,6 +1,7 @@
 -- A folder of removed that a listing of the area showed under its lock stands there until this process deletes it.
 use Rattle.std.proofs.Common.{◌≡◌, ◌⊎◌, inl, inr, ℕ, Bool, true, false, not, ◌&&◌, ◌||◌, ◌==◌, cond, bytes_eq, Option, Some, None, List, [], ◌∷◌, ◌++◌, append-nil, append_assoc, refl, sym, ap, subst, ◌∙◌}
 use Rattle.std.specs.List.{AllByRecursion}
+use Rattle.plain_laws.proofs.Booleans.{clash}
 use Rattle.dir_model.specs.declared.area.Area.TheVariants.{Removed}
 use Rattle.dir_model.specs.declared.event.Event.{Event}
 use Rattle.dir_model.specs.declared.item.Inner.{Inner}
@@ -13,7 +14,7 @@ use Rattle.dir_model.specs.declared.request.Request.TheVariants.{Begin, ListArea
 use Rattle.dir_model.specs.declared.request.Reply.{Reply}
 use Rattle.dir_model.specs.declared.request.Reply.TheVariants.{Done, Begun, Names, Opened, Refused}
 use Rattle.dir_model.specs.Areas.{rank}
-use Rattle.dir_model.specs.Calls.{is_begin, is_kill, is_foreign, event, Listing, ListStep, TookPlace, LeftNothing}
+use Rattle.dir_model.specs.Calls.{is_begin, is_foreign, event, Listing, ListStep, TookPlace, LeftNothing}
 use Rattle.dir_model.specs.Listings.{has_name, is_listing_of, is_listing, listing_noted, noted_by, listing_begun}
 use Rattle.dir_model.specs.State.{DirState, lives, folder_at, spot_eq, stands}
 use Rattle.dir_model.specs.Trace.{state_after}
@@ -32,20 +33,20 @@ use Rattle.dir_model.proofs.Chains.{states_next-append}
 use Rattle.dir_model.specs.State.{empty_state}
 use Rattle.dir_files.specs.Listed.{ShowsArea}
 use Rattle.dir_laws.specs.Stretches.{Sometime, StandsInArea}
+use Rattle.dir_laws.proofs.Living.{lived_first}
 use Rattle.lifecycle.specs.Executions.{IsConforming}
 use Rattle.lifecycle.proofs.Draws.{conforming_left}
-use Rattle.lifecycle.proofs.Handles.{clash}
 use Rattle.lifecycle.proofs.Lists.{In, any_in, in_any}
 use Rattle.lifecycle.proofs.Places.{none_at}
 use Rattle.folder_contents.proofs.Along.{happens}
 use Rattle.folder_contents.proofs.Places.{untaken, stands_there}
 use Rattle.impossible_replies.proofs.Alongside.{Steps, steps}
-use Rattle.impossible_replies.proofs.Earlier.{lives_earlier}
 use Rattle.impossible_replies.proofs.KeptFolders.{leaves_folders, IsQuiet, KeptAt, folder_kept, noted_missing, some_same}
 use Rattle.impossible_replies.proofs.LongItems.{in_filter_map}
 use Rattle.impossible_replies.proofs.Removals.{missing_by}
 use Rattle.impossible_replies.proofs.StrayDeletions.{same_front}
 use Rattle.impossible_replies.proofs.Told.{listing_from}
+use Rattle.impossible_replies.proofs.Deletions.{begun_by}
 use Rattle.image_removal.specs.Requests.{removed_spot}
 
 -- a name among an area's names is that of a folder that stands there
@@ -117,11 +118,6 @@ never_begins : (spot : Spot) (request : Request) (reply : Reply) → leaves_ther
 never_begins spot (Begin intent) reply on = cc
 never_begins spot request reply on = refl
 
-begun_own : (st : DirState) (q : ℕ) (request : Request) (l : OpenListing) → listing_begun st q request ≡ Some l → (l.process ≡ q) × (is_kill request ≡ false)
-begun_own st q (ListArea a) l is = (cc, refl)
-begun_own st q (ListIn inner) l is = (cc, refl)
-begun_own st q request l is = cc
-
 module _ (me : ℕ) (name : List ℕ) where
   abbrev spot : Spot
   spot = removed_spot name
@@ -157,7 +153,7 @@ module _ (me : ℕ) (name : List ℕ) where
     where
       begins : (l : OpenListing) → e.reply ≡ Begun → listing_begun (state_after h) e.process e.request ≡ Some l → l.process ≡ me → missing_by (root_of spot) l.listed ≡ false
       begins l is b mine =
-          let x = begun_own (state_after h) e.process e.request l b in
+          let x = begun_by (state_after h) e.process e.request l b in
           let own : e.process ≡ me = sym x.0 ∙ mine in
           clash (is_foreign me e) foreign (ap (λ k. not (e.process == me) || k) x.1 ∙ ap (λ c. not c || false) (ap (λ p. p == me) own ∙ same_self me))
 
@@ -285,7 +281,7 @@ module _ (me : ℕ) (name : List ℕ) where
 
   lives_back : (h es : List Event) → AllByRecursion LeavesIt es → Lives (h ++ es) → Lives h
   lives_back h es all living =
-      lives_earlier me (state_after h) es
+      lived_first me (state_after h) es
       (all_weaker LeavesIt (λ e. (is_foreign me e || not (is_begin e.request)) ≡ true)
       (λ e. or_map (is_foreign me e) (leaves_there spot e.request e.reply) (not (is_begin e.request)) (never_begins spot e.request e.reply)) es all)
       (subst (λ (s : DirState). lives s.namespace me ≡ true) (states_next-append empty_state h es) living)

@@ -1,5 +1,5 @@
 -- What came about in a part of a time came about in the whole.
-use Rattle.std.proofs.Common.{◌≡◌, ◌≤◌, inl, inr, ℕ, Bool, true, List, [], ◌++◌, sym, ap, subst, ◌∙◌, append-nil, append_assoc, arith}
+use Rattle.std.proofs.Common.{◌≡◌, inl, inr, ℕ, Bool, List, [], ◌++◌, sym, ap, subst, ◌∙◌, append-nil, append_assoc}
 use Rattle.dir_model.specs.declared.event.Event.{Event}
 use Rattle.dir_model.specs.declared.request.Request.{Request}
 use Rattle.dir_model.specs.declared.request.Request.TheVariants.{ListIn}
@@ -9,31 +9,15 @@ use Rattle.dir_model.specs.declared.request.Reply.TheVariants.{Refused}
 use Rattle.dir_model.specs.declared.item.Inner.{Inner}
 use Rattle.dir_model.specs.declared.spot.Spot.{Spot}
 use Rattle.dir_rules.specs.Rules.{root_of}
-use Rattle.dir_model.specs.Causes.{Rose}
 use Rattle.dir_model.specs.Calls.{CallStep, Extends}
-use Rattle.dir_trait.specs.DirCalls.{DirAt, ExtendsBy}
-use Rattle.dir_trait.specs.Effects.{OnlyAsks}
+use Rattle.dir_laws.proofs.Rose.{rose_later, rose_still}
+use Rattle.dir_trait.specs.DirCalls.{DirAt}
+use Rattle.folder_building.proofs.Following.{Follows}
 use Rattle.folder_removal.specs.Removal.{IsCalledFor}
 use Rattle.folder_removal.proofs.Strays.{unremoved_at, unremoved_within}
 use Rattle.image_reading.specs.declared.error.StoreError.{StoreError}
 use Rattle.image_removal.specs.Calls.{WasCalled}
 use Rattle.image_removal.specs.Causes.{IsMissedListingDue, WasStrayRemoval, RemovalWorkCause}
-
--- calls, whatever they leave open
-pub record Follows (observed : Bool) (old new : DirAt) : Type 0 where
-  pub same : new.process ≡ old.process
-  pub faults : old.faults ≤ new.faults
-  pub asks : Request → Bool
-  pub extends : observed ≡ true → ExtendsBy asks old new
-
-pub follows_work : {observed : Bool} {asks : Request → Bool} {a b : DirAt} → OnlyAsks observed asks a b → Follows observed a b
-follows_work {observed} {asks} w = record { same = w.same; faults = w.faults; asks = asks; extends = w.extends }
-
-pub rose_later : (a b c : ℕ) → a ≤ b → Rose b c → Rose a c
-rose_later a b c before rose = omega arith
-
-pub rose_still : (a b c : ℕ) → Rose a b → b ≤ c → Rose a c
-rose_still a b c rose after = omega arith
 
 -- a call
 pub called_self : {request : Request} {reply : Reply} {me : ℕ} {old new : List Event} → CallStep me old request reply new → WasCalled request reply me old new

@@ -1,5 +1,5 @@
 -- The make of the folder and its move: what they leave, and what their refusals rest on.
-use Rattle.std.proofs.Common.{◌≡◌, ◌⊎◌, ℕ, Bool, true, false, ◌||◌, Some, None, Result, Ok, Err, IfErr, List, [], refl, sym, ap, subst, ◌∙◌, append-nil, inl, inr}
+use Rattle.std.proofs.Common.{◌≡◌, ◌⊎◌, ℕ, Bool, true, false, ◌||◌, Some, None, Result, Ok, Err, IfErr, List, [], refl, sym, ap, subst, append-nil, inl, inr}
 use Rattle.dir_model.specs.declared.event.Event.{Event}
 use Rattle.dir_model.specs.declared.pod.PodId.{PodId}
 use Rattle.dir_model.specs.declared.spot.Spot.{Spot}
@@ -11,17 +11,18 @@ use Rattle.dir_model.specs.declared.request.Reply.TheVariants.{Done, Refused}
 use Rattle.dir_model.specs.declared.request.Request.{Request}
 use Rattle.dir_model.specs.declared.request.Request.TheVariants.{MakeFolder, MoveFolder, MakeDirIn, MakeFileIn, AppendIn, SyncIn}
 use Rattle.dir_model.specs.Causes.{Rose}
-use Rattle.dir_model.specs.Calls.{Interference, TookPlace, LeftNothing, CallStep}
+use Rattle.dir_model.specs.Calls.{TookPlace, LeftNothing, CallStep}
 use Rattle.dir_model.specs.Replies.{may_refuse, done_reply}
 use Rattle.dir_model.specs.State.{spot_eq}
 use Rattle.dir_model.specs.declared.area.Area.TheVariants.{Incoming}
 use Rattle.dir_model.proofs.Lists.{and_both}
+use Rattle.dir_model.proofs.Spots.{spot_self}
 use Rattle.dir_rules.specs.Standing.{is_in}
 use Rattle.folder_contents.proofs.Spots.{one_location}
 use Rattle.dir_rules.specs.declared.seen.Entry.{Entry}
 use Rattle.dir_rules.specs.declared.seen.Seen.{Seen}
-use Rattle.dir_rules.specs.Conforms.{Agrees, IsTied}
-use Rattle.dir_rules.proofs.Tied.{meanwhile_unseen, lived_meanwhile}
+use Rattle.dir_rules.specs.Conforms.{IsTied}
+use Rattle.dir_rules.proofs.Tied.{tied_meanwhile}
 use Rattle.dir_trait.specs.DirCalls.{DirAt, DirCall}
 use Rattle.dir_trait.specs.Knowledge.{Knows}
 use Rattle.dir_trait.proofs.Knowing.{knows_call}
@@ -37,13 +38,13 @@ use Rattle.image_store.specs.Refusals.{change_refusal, move_answer, is_change_re
 use Rattle.image_store.specs.Requests.{building_spot, imports_at, makes_image, is_of_incoming, is_stray_reply}
 use Rattle.image_store.specs.Work.{seen_importing, UnderImportLocks, WhereImporting, WhereImportFilled, holding, HasImportFolder, HasMovedImage, IsImagePlaced, Unbrought}
 use Rattle.image_store.specs.Causes.{WasLastAnswered, WasStrayImport, KeyWasTaken, ChangeCause}
-use Rattle.image_store.proofs.Steps.{same_spot, made_seen, unmade_seen, moved_seen, unmoved_seen}
+use Rattle.image_store.proofs.Steps.{made_seen, unmade_seen, moved_seen, unmoved_seen}
 
 asks_make : (spot : Spot) → makes_image spot (MakeFolder spot) ≡ true
-asks_make spot = rw (same_spot spot) refl
+asks_make spot = rw (spot_self spot) refl
 
 asks_move : (spot : Spot) (key : StoreKey) → imports_at spot (MoveFolder spot (image_spot key)) ≡ true
-asks_move spot key = rw (same_spot spot) refl
+asks_move spot key = rw (spot_self spot) refl
 
 pub worked_make : {observed : Bool} {spot : Spot} {old new : DirAt} (answer : Result (Unit {0}) DirError) → DirCall observed old (MakeFolder spot) (done_reply answer) new → OnlyAsks observed (makes_image spot) old new
 worked_make {observed} {spot} (Ok done) c = worked_call (asks_make spot) refl c
@@ -128,18 +129,6 @@ knows_unmade {observed} {draw} {old} {new} e t c intent hs imports under k = rec
   knows = subst (λ (s : Seen). Knows new s) (unmade_seen draw intent hs imports under e) (knows_call t k refl refl c);
 }
 
--- the same move, by what the spots are
-pub with_spots : {observed : Bool} {old new : DirAt} {from from' to to' : Spot} {reply : Reply} → from ≡ from' → to ≡ to' → DirCall observed old (MoveFolder from to) reply new → DirCall observed old (MoveFolder from' to') reply new
-with_spots {observed} {old} {new} {from} {from'} {to} {to'} {reply} a b c =
-    subst (λ (t : Spot). DirCall observed old (MoveFolder from' t) reply new) b (subst (λ (f : Spot). DirCall observed old (MoveFolder f to) reply new) a c)
-
--- what a process knew before a call, it knew at the call's step
-tied_meanwhile : {me : ℕ} {old new : List Event} {s : Seen} → IsTied me old s → Interference me old new → IsTied me new s
-tied_meanwhile {me} {old} {new} {s} tied m = record {
-  living = λ now. subst (Agrees s) (sym (meanwhile_unseen m)) (tied.living (lived_meanwhile m now));
-  conforms = λ kept. ap (λ (x : Seen). x.kept) (meanwhile_unseen m) ∙ tied.conforms kept;
-}
-
 -- the move that was answered Ok
 pub moved_by : {me : ℕ} {from to : Spot} {old new : List Event} {s : Seen} (entries : List Entry) → s.making ≡ Some (holding from entries) → IsTied me old s → CallStep me old (MoveFolder from to) Done new → HasMovedImage (λ es. es ≡ entries) me from to old new
 moved_by {me} {from} {to} {old} {new} {s} entries making tied c = by c.own
@@ -184,7 +173,7 @@ module _ (observed : Bool) (draw : PodId) (old new : DirAt) (key : StoreKey) whe
   move_cause dir.NoMemory may fault c = move_error refl dir.NoMemory may (λ is. cc) fault c
 
   pub move_taken : (e : DirError) → Refusal e → move_answer e ≡ Ok true → observed ≡ true → KeyWasTaken key old new
-  move_taken Exists c is t = record { request = MoveFolder (building_spot draw) (image_spot key); reply = Refused Exists 0; so = same_spot (image_spot key); step = c.step t }
+  move_taken Exists c is t = record { request = MoveFolder (building_spot draw) (image_spot key); reply = Refused Exists 0; so = spot_self (image_spot key); step = c.step t }
   move_taken e c is t = cc
 
   pub move_unplaced : (e : DirError) → move_answer e ≡ Ok false → ⊥

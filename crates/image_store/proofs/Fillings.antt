@@ -7,6 +7,7 @@ use Rattle.dir_model.specs.declared.spot.Spot.{Spot}
 use Rattle.dir_model.specs.declared.request.Request.{Request}
 use Rattle.dir_model.specs.declared.request.Request.TheVariants.{MakeFolder}
 use Rattle.dir_model.proofs.Lists.{or_last}
+use Rattle.dir_model.proofs.Spots.{spot_self}
 use Rattle.dir_rules.specs.declared.standing.Held.{Held}
 use Rattle.dir_rules.specs.declared.seen.Making.{Making}
 use Rattle.dir_rules.specs.declared.seen.Seen.{Seen}
@@ -22,7 +23,6 @@ use Rattle.folder_building.proofs.Working.{worked_wider}
 use Rattle.image_store.specs.Requests.{building_spot, takes_lock, brings, imports_at, makes_image}
 use Rattle.image_reading.specs.Looks.{reads_images}
 use Rattle.image_store.specs.Work.{seen_importing, holding, HasImportFolder, HasFilledImport}
-use Rattle.image_store.proofs.Steps.{same_spot}
 
 -- the changes of its folder are among what is asked for to build an image, and that is among an import's requests
 builds_image : (spot : Spot) (request : Request) → builds_at spot request ≡ true → makes_image spot request ≡ true
@@ -61,7 +61,7 @@ module _ (draw : PodId) (intent : Intent) (hs : List Held) (plan : List PlanEntr
   Empty = holding Here []
 
   site : IsSite Here Base Empty
-  site = record { here = ap (λ b. (b && true) && true) (same_spot Here); spared = refl }
+  site = record { here = ap (λ b. (b && true) && true) (spot_self Here); spared = refl }
 
   fill : source.may Base.standing ≡ true → MayFill source Here plan Base Empty
   fill may = record { fresh = record { clean = refl; entries = refl; unsynced = refl }; may = may; turn = any_turn Base [] plan }

@@ -1,7 +1,8 @@
 -- While every process keeps the rules no import is answered as if its folder weren't its own, and none sees an image go.
-use Rattle.std.proofs.Common.{◌≡◌, ◌⊎◌, inl, inr, ℕ, Bool, true, false, not, ◌&&◌, ◌||◌, ◌==◌, cond, Option, Some, None, is_some, List, [], ◌∷◌, ◌++◌, append_assoc, append-nil, refl, sym, ap, subst, ◌∙◌}
+use Rattle.std.proofs.Common.{◌≡◌, ◌⊎◌, inl, inr, ℕ, Bool, true, false, not, ◌&&◌, ◌||◌, ◌==◌, cond, Some, None, List, [], ◌∷◌, ◌++◌, append_assoc, append-nil, refl, sym, ap, subst, ◌∙◌}
 use Rattle.std.specs.Prelude.{IfErr, Result, Ok, Err}
 use Rattle.std.specs.List.{AllByRecursion}
+use Rattle.plain_laws.proofs.Booleans.{clash}
 use Rattle.ac_types.specs.declared.store_key.StoreKey.{StoreKey}
 use Rattle.dir_model.specs.declared.area.Area.{Area}
 use Rattle.dir_model.specs.declared.area.Area.TheVariants as area
@@ -13,12 +14,12 @@ use Rattle.dir_model.specs.declared.request.Request.TheVariants.{MakeFolder, Mov
 use Rattle.dir_model.specs.declared.request.Reply.{Reply}
 use Rattle.dir_model.specs.declared.request.Reply.TheVariants.{Done, Opened, Refused}
 use Rattle.dir_model.specs.Calls.{CallStep, TookPlace, LeftNothing, event, is_begin, is_foreign, is_kill}
-use Rattle.dir_model.specs.Replies.{is_error}
 use Rattle.dir_model.specs.State.{Namespace, DirState, empty_state, folder_at, stands, lives, spot_eq}
 use Rattle.dir_model.specs.Trace.{namespace_replied, state_after}
 use Rattle.dir_model.proofs.Allowed.{allowed_reply}
 use Rattle.dir_model.proofs.Chains.{states_next-append, state_after-push}
 use Rattle.dir_model.proofs.Lists.{and_left, and_right, all_left, all_right, all_weaker, or_map, same_rest}
+use Rattle.dir_model.proofs.Moments.{some_number}
 use Rattle.dir_rules.specs.declared.seen.Seen.{Seen}
 use Rattle.dir_rules.specs.declared.standing.Standing.{Standing}
 use Rattle.dir_rules.specs.Anomalies.{loses_own}
@@ -28,17 +29,17 @@ use Rattle.dir_rules.specs.LockRules.{lock_rules_allow}
 use Rattle.dir_rules.specs.Rules.{allows, contents_allow_move, may_read_area, has_done, is_all_done}
 use Rattle.dir_rules.specs.Conforms.{seen_of, seen_after, seen_replied, seen_after_event, nothing_seen}
 use Rattle.dir_rules.proofs.Tied.{seen_after-append}
+use Rattle.dir_laws.proofs.Living.{lived_first}
+use Rattle.dir_laws.proofs.Refusals.{exists_by}
 use Rattle.dir_trait.specs.DirCalls.{DirAt}
 use Rattle.lifecycle.specs.Executions.{IsConforming}
 use Rattle.lifecycle.proofs.Draws.{conforming_left}
-use Rattle.lifecycle.proofs.Handles.{clash}
 use Rattle.folder_contents.specs.UnderGate.{is_taken_from, is_taken_by, KnowsAlong, StaysAlong}
 use Rattle.folder_contents.proofs.Along.{Happens, happens, one_of}
 use Rattle.folder_contents.proofs.Handed.{brought}
 use Rattle.folder_contents.proofs.Known.{alive_at}
 use Rattle.folder_contents.proofs.Spots.{in_area, one_location}
 use Rattle.folder_contents.proofs.UnderGate.{images_stay_shared, images_stay_closed}
-use Rattle.gate_reading.proofs.GoingOn.{lived_first}
 use Rattle.gate_reading.proofs.OwnSteps.{own_is}
 use Rattle.impossible_replies.proofs.Alongside.{steps}
 use Rattle.impossible_replies.proofs.Citing.{never_lost_change}
@@ -66,15 +67,12 @@ makes_moved s from to out into may =
     (subst (λ (a : Area). contents_allow_move s from to a to.area ≡ true) (sym (in_area area.Incoming from.area out)) (brought s from to may)) in
     and_left (makes_at s.making from) _ (and_left (has_done is_all_done s from) s.stored b)
 
-never_both : (b : Bool) → b ≡ true → b ≡ false → ⊥
-never_both b x y = clash b x y
-
 module _ {me : ℕ} {old new : List Event} (conforming : IsConforming new) where
   not_made : (spot : Spot) (left : ℕ) → CallStep me old (MakeFolder spot) (Refused Exists left) new → is_in area.Incoming spot.area ≡ true → ⊥
   not_made spot left c inside = by c.own
     where
       by : TookPlace c.before me (MakeFolder spot) (Refused Exists left) new ⊎ LeftNothing c.before me (MakeFolder spot) (Refused Exists left) new → ⊥
-      by (inl took) = never_both (is_in area.Incoming spot.area) inside ((makers_reply new conforming).another c.before (event me (MakeFolder spot) (Refused Exists left)) [] took.grown refl)
+      by (inl took) = clash (is_in area.Incoming spot.area) inside ((makers_reply new conforming).another c.before (event me (MakeFolder spot) (Refused Exists left)) [] took.grown refl)
       by (inr late) = let l = and_right (left == 0) false late.late in cc
 
   not_moved : (from to : Spot) (left : ℕ) → CallStep me old (MoveFolder from to) (Refused Missing left) new → is_of_incoming (MoveFolder from to) ≡ true → ⊥
@@ -87,7 +85,7 @@ module _ {me : ℕ} {old new : List Event} (conforming : IsConforming new) where
           let x = steps c.before e (subst IsConforming took.grown conforming) refl refl in
           let makes = makes_moved s from to (and_left (is_in area.Incoming from.area) (is_in area.Images to.area) inside) (and_right (is_in area.Incoming from.area) (is_in area.Images to.area) inside) x.may in
           let lost : loses_own s (MoveFolder from to) (Refused Missing left) ≡ true = rw makes refl in
-          never_both (loses_own s (MoveFolder from to) (Refused Missing left)) lost ((makers_reply new conforming).own c.before e [] took.grown refl makes)
+          clash (loses_own s (MoveFolder from to) (Refused Missing left)) lost ((makers_reply new conforming).own c.before e [] took.grown refl makes)
       by (inr late) = let l = and_right (left == 0) false late.late in cc
 
   -- the stray answers of an import
@@ -242,16 +240,6 @@ module _ (me : ℕ) (key : StoreKey) where
         by false true s c h = images_stay_closed new conforming me mid stretch rest (image_spot key) folder up_to refl (knows_along (excludes_area area.Images) c) (taken_not (image_spot key)) at
         by false false s c h = cc
 
--- where the move into images was refused so, an image stood
-exists_stands : (there free : Bool) → is_error Exists (cond there (cond free (Some Exists) None) (Some Missing)) ≡ true → free ≡ true
-exists_stands true true h = refl
-exists_stands true false h = cc
-exists_stands false free h = cc
-
-some_of : (o : Option ℕ) → is_some o ≡ true → (folder : ℕ) × (o ≡ Some folder)
-some_of (Some folder) h = (folder, refl)
-some_of None h = cc
-
 taken_stands : {me : ℕ} {old new : List Event} (key : StoreKey) (request : Request) (reply : Reply) → CallStep me old request reply new → is_refused_move key request reply ≡ true →
     (folder : ℕ) × (folder_at (state_after new).namespace (image_spot key) ≡ Some folder)
 taken_stands {me} {old} {new} key (MoveFolder from to) (Refused Exists left) c is = by c.own
@@ -265,8 +253,8 @@ taken_stands {me} {old} {new} key (MoveFolder from to) (Refused Exists left) c i
         let s : DirState = state_after c.before in
         let e : Event = event me (MoveFolder from to) (Refused Exists left) in
         let told = and_right (left == 0) _ (allowed_reply s me (MoveFolder from to) (Refused Exists left) took.allowed) in
-        let there : stands s.namespace to ≡ true = exists_stands (stands s.namespace from) (stands s.namespace to) told in
-        let found = some_of (folder_at s.namespace (image_spot key)) (subst (λ (x : Spot). stands s.namespace x ≡ true) at there) in (
+        let there : stands s.namespace to ≡ true = exists_by (stands s.namespace from) (stands s.namespace to) told in
+        let found = some_number (folder_at s.namespace (image_spot key)) (subst (λ (x : Spot). stands s.namespace x ≡ true) at there) in (
           found.0,
           subst (λ (h : List Event). folder_at (state_after h).namespace (image_spot key) ≡ Some found.0) (sym took.grown)
               (subst (λ (t : DirState). folder_at t.namespace (image_spot key) ≡ Some found.0) (sym (state_after-push c.before e)) found.1),

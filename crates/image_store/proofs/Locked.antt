@@ -7,7 +7,7 @@ use Rattle.dir_model.specs.declared.spot.Mode.TheVariants.{Shared, Exclusive}
 use Rattle.dir_model.specs.declared.spot.Spot.{Spot}
 use Rattle.dir_model.specs.declared.request.Request.{Request}
 use Rattle.dir_model.specs.declared.request.Request.TheVariants.{OpenArea, TryLock, Close}
-use Rattle.dir_model.specs.Local.{IsUnopened, without}
+use Rattle.dir_model.specs.Local.{IsUnopened}
 use Rattle.dir_model.proofs.Chains.{and_more, extends_wider}
 use Rattle.dir_rules.specs.declared.standing.Held.{Held}
 use Rattle.dir_rules.specs.Standing.{is_in}
@@ -15,12 +15,12 @@ use Rattle.dir_trait.specs.DirCalls.{DirAt, ExtendsBy}
 use Rattle.dir_trait.specs.Effects.{OnlyAsks}
 use Rattle.dir_files.specs.AreaLocks.{is_taking_area, closes, and_area_lock, on_gate}
 use Rattle.dir_files.proofs.Locking.{unlocked_same}
+use Rattle.folder_building.proofs.Following.{Follows, GivesBack}
 use Rattle.image_reading.specs.declared.error.StoreError.{StoreError}
 use Rattle.image_store.specs.Refusals.{is_import_lock_refusal}
 use Rattle.image_store.specs.Causes.{LockCause, HadIncoming}
 use Rattle.image_store.specs.Requests.{takes_lock, imports_at}
 use Rattle.image_store.specs.Work.{ImportsUnderImages, UnderImportLocks}
-use Rattle.image_store.proofs.Widths.{Follows}
 
 -- the lock was had
 pub record Shares (observed : Bool) (area : Area) (h : Handle) (old new : DirAt) : Type 0 where
@@ -30,18 +30,8 @@ pub record Shares (observed : Bool) (area : Area) (h : Handle) (old new : DirAt)
   pub unopened : IsUnopened old.local h
   pub extends : observed ≡ true → ExtendsBy (is_taking_area area Shared) old new
 
--- and given back
-pub record GivesBack (observed : Bool) (h : Handle) (old new : DirAt) : Type 0 where
-  pub same : new.process ≡ old.process
-  pub faultless : new.faults ≡ old.faults
-  pub local : new.local ≡ without old.local h
-  pub extends : observed ≡ true → ExtendsBy (closes h) old new
-
 pub follows_share : {observed : Bool} {area : Area} {h : Handle} {a b : DirAt} → Shares observed area h a b → Follows observed a b
 follows_share {observed} {area} s = record { same = s.same; faults = s.faults; asks = is_taking_area area Shared; extends = s.extends }
-
-pub follows_back : {observed : Bool} {h : Handle} {a b : DirAt} → GivesBack observed h a b → Follows observed a b
-follows_back {observed} {h} g = record { same = g.same; faults = omega (arith, g.faultless); asks = closes h; extends = g.extends }
 
 -- the locks of both areas are among an import's requests
 pub in_locks : (spot : Spot) (request : Request) → takes_lock request ≡ true → imports_at spot request ≡ true

@@ -18,13 +18,14 @@ use Rattle.dir_model.proofs.Lists.{all_both, all_weaker, or_map, or_last}
 use Rattle.dir_trait.specs.DirCalls.{DirAt, DirCall}
 use Rattle.dir_trait.specs.Effects.{OnlyAsks}
 use Rattle.dir_files.specs.AreaLocks.{is_taking_area, closes}
+use Rattle.folder_building.proofs.Following.{GivesBack}
 use Rattle.image_reading.specs.declared.error.StoreError.{StoreError}
 use Rattle.image_reading.specs.Looks.{reads_image, OnlyReadsImage}
 use Rattle.image_reading.specs.Places.{image_spot}
 use Rattle.image_store.specs.Refusals.{move_answer}
 use Rattle.image_store.specs.Requests.{brings_image, is_close, makes_image}
 use Rattle.image_store.specs.Moves.{BringsNone, MovedNoImage, MovedOnce, Moves}
-use Rattle.image_store.proofs.Locked.{Shares, GivesBack}
+use Rattle.image_store.proofs.Locked.{Shares}
 
 -- requests of which none moves a folder
 abbrev pub is_move : Request → Bool

@@ -1,5 +1,5 @@
 -- What an import leaves, from step to step.
-use Rattle.std.proofs.Common.{◌≡◌, ℕ, Bool, true, false, not, ◌&&◌, Some, None, Result, Ok, Err, List, ◌∷◌, ◌++◌, refl, sym, ap, subst, ◌∙◌, append_assoc, arith}
+use Rattle.std.proofs.Common.{◌≡◌, ℕ, Bool, true, false, not, ◌&&◌, Some, None, Result, Ok, Err, List, ◌∷◌, ◌++◌, refl, sym, ap, subst, ◌∙◌, append_assoc}
 use Rattle.std.specs.List.{list_any}
 use Rattle.dir_model.specs.declared.area.Area.{Area}
 use Rattle.dir_model.specs.declared.area.Area.TheVariants.{Incoming, Images}
@@ -12,7 +12,6 @@ use Rattle.dir_model.specs.declared.spot.Spot.{Spot}
 use Rattle.dir_model.specs.declared.request.Reply.TheVariants.{Done}
 use Rattle.dir_model.specs.declared.request.Request.TheVariants.{MoveFolder}
 use Rattle.dir_model.specs.Calls.{event}
-use Rattle.dir_model.proofs.Chains.{nothing_yet}
 use Rattle.dir_model.proofs.Lists.{and_false}
 use Rattle.dir_rules.specs.declared.standing.Held.{Held}
 use Rattle.dir_rules.specs.declared.seen.Entry.{Entry}
@@ -24,6 +23,7 @@ use Rattle.lifecycle.specs.Executions.{IsConforming}
 use Rattle.folder_contents.specs.Handing.{hands_over}
 use Rattle.folder_contents.proofs.Handed.{processes_hand_over}
 use Rattle.dir_files.specs.AreaLocks.{on_gate, with_gate, shared_given, IsBusyElsewhere}
+use Rattle.folder_building.proofs.Following.{Follows, nothing_follows}
 use Rattle.bundle_image.specs.declared.image.BundleImage.{BundleImage}
 use Rattle.image_reading.specs.declared.error.StoreError.{StoreError}
 use Rattle.image_reading.specs.Places.{image_spot}
@@ -31,7 +31,7 @@ use Rattle.image_store.specs.Requests.{building_spot}
 use Rattle.image_store.specs.Work.{seen_importing, UnderImportLocks, WhereImporting, WhereImportFilled, holding, HasImportFolder, HasFilledImport, HasMovedImage, IsImagePlaced, Unbrought}
 use Rattle.image_store.specs.Causes.{ImportBusyElsewhere}
 use Rattle.image_store.specs.Imports.{key_of_image, IsOf, ImportLeaves, IsImported}
-use Rattle.image_store.proofs.Widths.{Follows, held_after, held_before}
+use Rattle.image_store.proofs.Widths.{held_after, held_before}
 
 -- a move in a part of the time, and what it brought
 moved_wider : (P Q : List Entry → Type 0) (me : ℕ) (from to : Spot) (a b c d more rest : List Event) → b ≡ a ++ more → d ≡ c ++ rest → ((es : List Entry) → P es → Q es) → HasMovedImage P me from to b c → HasMovedImage Q me from to a d
@@ -54,9 +54,6 @@ moved_within {observed} P Q from to a b c d t ab cd f x =
     let e = ab.extends t in
     let l = cd.extends t in
     moved_wider P Q a.process from to a.trace b.trace c.trace d.trace e.more l.more e.grown l.grown f (subst (λ (me : ℕ). HasMovedImage P me from to b.trace c.trace) ab.same x)
-
-pub nothing_follows : {observed : Bool} {a : DirAt} → Follows observed a a
-nothing_follows {observed} {a} = record { same = refl; faults = omega arith; asks = λ r. false; extends = λ t. nothing_yet }
 
 module _ (draw : PodId) (now : ℕ) (image : BundleImage) where
   -- after the folder was filled

@@ -21,6 +21,7 @@ use Rattle.folder_building.specs.declared.error.BuildError.TheVariants as failur
 use Rattle.folder_building.specs.declared.plan.PlanEntry.{PlanEntry}
 use Rattle.folder_building.specs.Sources.{UnlikeAt}
 use Rattle.folder_building.specs.ImagePlans.{image_entries}
+use Rattle.folder_building.proofs.Following.{Follows}
 use Rattle.image_reading.specs.declared.error.StoreError.{StoreError}
 use Rattle.image_reading.specs.declared.error.StoreError.TheVariants.{Busy, Damaged, IdConflict, BundleFault, DirFault, NoMemory, Stray}
 use Rattle.image_reading.specs.Looks.{reads_image}
@@ -32,7 +33,7 @@ use Rattle.image_store.specs.Refusals.{lock_refusal, is_import_lock_refusal, is_
 use Rattle.image_store.specs.Plans.{IsUnlikeRefusal, IsBuildRefusal}
 use Rattle.image_store.specs.Causes.{LockCause, ImportBusyElsewhere, LookCause, ChangeCause, FillCause, BuildCause, CompareCause, PlaceCause, ImportCause, HadIncoming, FoundInTurn, WasStrayImport, KeyWasTaken, Source, UnlikePlanned, LacksThere, is_late}
 use Rattle.image_store.proofs.Unlikes.{files_of, unlike_planned, unlike_listed}
-use Rattle.image_store.proofs.Widths.{Follows, fault_after, told_after, conflict_after}
+use Rattle.image_store.proofs.Widths.{fault_after, told_after, conflict_after}
 
 -- the lock
 lock_kind : (area : Area) (e : LockError) → is_import_lock_refusal area (lock_refusal area e) ≡ true

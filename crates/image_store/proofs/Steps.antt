@@ -1,6 +1,7 @@
 -- What a process that imports knows after its make of the folder and its move.
-use Rattle.std.proofs.Common.{◌≡◌, Bool, true, false, ◌&&◌, ◌==◌, cond, bytes_eq, Option, Some, None, List, [], ◌∷◌, map, refl, sym, ap, subst, ◌∙◌}
+use Rattle.std.proofs.Common.{◌≡◌, Bool, true, false, ◌&&◌, cond, bytes_eq, Option, Some, None, List, [], ◌∷◌, map, refl, sym, ap, subst, ◌∙◌}
 use Rattle.std.specs.List.{list_any}
+use Rattle.plain_laws.proofs.Texts.{same_bytes}
 use Rattle.dir_model.specs.declared.area.Area.TheVariants.{Incoming, Images}
 use Rattle.dir_model.specs.declared.intent.Intent.{Intent}
 use Rattle.dir_model.specs.declared.pod.PodId.{PodId}
@@ -8,10 +9,8 @@ use Rattle.dir_model.specs.declared.spot.Spot.{Spot}
 use Rattle.dir_model.specs.declared.request.DirError.{DirError}
 use Rattle.dir_model.specs.declared.request.Request.TheVariants.{MakeFolder, MoveFolder}
 use Rattle.dir_model.specs.declared.request.Reply.TheVariants.{Done, Refused}
-use Rattle.dir_model.specs.Areas.{rank}
 use Rattle.dir_model.specs.Pods.{pod_text}
-use Rattle.dir_model.specs.State.{spot_eq}
-use Rattle.dir_model.proofs.Lists.{and_both, same_self}
+use Rattle.dir_model.proofs.Spots.{spot_self}
 use Rattle.dir_rules.specs.declared.standing.Held.{Held}
 use Rattle.dir_rules.specs.declared.seen.Entry.{Entry}
 use Rattle.dir_rules.specs.declared.seen.Making.{Making}
@@ -20,12 +19,8 @@ use Rattle.dir_rules.specs.Standing.{is_gate_shared, uncover}
 use Rattle.dir_rules.specs.Seen.{moved_making}
 use Rattle.dir_rules.specs.Rules.{allows}
 use Rattle.dir_rules.specs.Conforms.{seen_replied}
-use Rattle.dir_rules.proofs.Looks.{same_bytes}
 use Rattle.image_store.specs.Requests.{building_spot}
 use Rattle.image_store.specs.Work.{seen_importing, IsImport, holding, UnderImportLocks}
-
-pub same_spot : (spot : Spot) → spot_eq spot spot ≡ true
-same_spot spot = and_both (rank spot.area == rank spot.area) (bytes_eq spot.name spot.name) (same_self (rank spot.area)) (same_bytes spot.name)
 
 -- handles of no pod stay as they are
 still_held : (hs : List Held) (draw : PodId) → map (uncover (building_spot draw)) hs ≡ hs
@@ -68,7 +63,7 @@ module _ (draw : PodId) (intent : Intent) (hs : List Held) (imports : IsImport d
     is_bound = ap (λ area. let s : Spot = record { area = area; name = to.name } in s) images
 
     may_move : allows Filled (MoveFolder Here Bound) ≡ true
-    may_move = ap (λ b. (((b && true) && true) && true) && true) (same_spot Here)
+    may_move = ap (λ b. (((b && true) && true) && true) && true) (spot_self Here)
 
     abbrev Moved : List Held → Option Making → Bool → Seen
     Moved held making kept = record (seen_importing intent held false making) { kept = kept }
@@ -76,7 +71,7 @@ module _ (draw : PodId) (intent : Intent) (hs : List Held) (imports : IsImport d
     pub moved_seen : seen_replied Filled (MoveFolder Here to) Done ≡ seen_importing intent hs false (Some (holding to entries))
     moved_seen = subst (λ (t : Spot). seen_replied Filled (MoveFolder Here t) Done ≡ seen_importing intent hs false (Some (holding t entries))) (sym is_bound)
         (ap (λ (held : List Held). Moved held (Some (moved_making Here Bound (holding Here entries))) (allows Filled (MoveFolder Here Bound) && true)) (still_held hs draw)
-        ∙ (ap (λ b. Moved hs (Some (cond b (holding Bound entries) (holding Here entries))) (allows Filled (MoveFolder Here Bound) && true)) (same_spot Here)
+        ∙ (ap (λ b. Moved hs (Some (cond b (holding Bound entries) (holding Here entries))) (allows Filled (MoveFolder Here Bound) && true)) (spot_self Here)
         ∙ ap (λ b. Moved hs (Some (holding Bound entries)) (b && true)) may_move))
 
     pub unmoved_seen : (error : DirError) → seen_replied Filled (MoveFolder Here to) (Refused error 0) ≡ Filled

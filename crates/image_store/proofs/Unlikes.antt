@@ -1,6 +1,7 @@
 -- Which file of the bundle a plan that wasn't carried out points at.
 use Rattle.std.proofs.Common.{◌≡◌, ◌⊎◌, inl, inr, ◌<◌, ℕ, true, false, codes, Option, Some, None, List, [], ◌∷◌, ◌++◌, length, slice_get, refl, sym, ap, subst, ◌∙◌, arith, length-append}
 use Rattle.std.specs.Borrow.{GName}
+use Rattle.plain_laws.proofs.Lists.{at_place}
 use Rattle.path_map.specs.declared.entry.Entry.{Entry}
 use Rattle.path_map.specs.declared.entry.Meta.{Meta}
 use Rattle.path_map.specs.declared.entry.Entry.TheVariants.{Dir, File, Link}
@@ -16,11 +17,6 @@ use Rattle.dir_trait.specs.Bundles.{bytes_of_node, child_path}
 use Rattle.image_reading.specs.declared.error.StoreError.TheVariants.{Damaged}
 use Rattle.image_store.specs.Plans.{origin_of, IsUnlikeRefusal}
 use Rattle.image_store.specs.Causes.{Source, IsUnlikeContent, UnlikePlanned, UnlikeListed}
-
--- the entry at a place
-pub at_place : {X : Type 0} (before rest : List X) (x : X) → slice_get (before ++ x ∷ rest) (length before) ≡ Some x
-at_place [] rest x = refl
-at_place (y ∷ before) rest x = at_place before rest x
 
 pub place_inside : {source : SourceAt} {plan : List PlanEntry} {place : ℕ} → UnlikeAt source plan place → place < length plan
 place_inside {source} {plan} {place} u =

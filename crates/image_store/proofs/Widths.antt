@@ -1,28 +1,17 @@
 -- What came about in a part of a time came about in the whole.
-use Rattle.std.proofs.Common.{◌≡◌, ◌⊎◌, inl, inr, ◌≤◌, ℕ, Bool, true, List}
-use Rattle.dir_model.specs.declared.request.Request.{Request}
+use Rattle.std.proofs.Common.{◌≡◌, ◌⊎◌, inl, inr, ℕ, Bool, true, List}
 use Rattle.dir_model.specs.Causes.{Rose}
 use Rattle.dir_model.specs.State.{DirState}
 use Rattle.dir_model.proofs.Moments.{at_after, at_before}
-use Rattle.dir_trait.specs.DirCalls.{DirAt, HeldBetween, ExtendsBy}
-use Rattle.dir_trait.specs.Effects.{OnlyAsks}
+use Rattle.dir_trait.specs.DirCalls.{DirAt, HeldBetween}
 use Rattle.ac_types.specs.declared.store_key.StoreKey.{StoreKey}
+use Rattle.dir_laws.proofs.Rose.{rose_later, rose_still}
 use Rattle.tree_digest.specs.declared.line.ListingLine.{ListingLine}
 use Rattle.image_reading.specs.declared.error.StoreError.{StoreError}
 use Rattle.image_reading.specs.Within.{Within}
 use Rattle.image_reading.proofs.Widths.{within_after, within_before}
-use Rattle.bundle_image.proofs.Reading.{rose_later, rose_still}
+use Rattle.folder_building.proofs.Following.{Follows}
 use Rattle.image_store.specs.Causes.{Source, StrayCause, Conflicts, DamagedInTurn, FoundInTurn, FindsLackingPart, UnlikeListed, ImportCause}
-
--- calls, whatever they leave open
-pub record Follows (observed : Bool) (old new : DirAt) : Type 0 where
-  pub same : new.process ≡ old.process
-  pub faults : old.faults ≤ new.faults
-  pub asks : Request → Bool
-  pub extends : observed ≡ true → ExtendsBy asks old new
-
-pub follows_work : {observed : Bool} {asks : Request → Bool} {a b : DirAt} → OnlyAsks observed asks a b → Follows observed a b
-follows_work {observed} {asks} w = record { same = w.same; faults = w.faults; asks = asks; extends = w.extends }
 
 module _ {observed : Bool} (a b c : DirAt) (ab : Follows observed a b) where
   pub fault_after : Rose b.faults c.faults → Rose a.faults c.faults

@@ -1,5 +1,7 @@
 -- Who owns a pod where it brought it began as one that makes pods, or starts them.
 use Rattle.std.proofs.Common.{◌≡◌, ◌⊎◌, inl, inr, ℕ, Bool, true, false, not, ◌&&◌, ◌||◌, Option, Some, None, List, refl, sym, subst}
+use Rattle.std.proofs.lemmas.Bool.{and_parts}
+use Rattle.plain_laws.proofs.Booleans.{clash}
 use Rattle.dir_model.specs.declared.area.Area.{Area}
 use Rattle.dir_model.specs.declared.area.Area.TheVariants as area
 use Rattle.dir_model.specs.declared.intent.Kind.{Kind}
@@ -18,7 +20,6 @@ use Rattle.dir_rules.specs.Anomalies.{is_its_own, owns_at, is_brought, is_opened
 use Rattle.dir_rules.specs.Conforms.{seen_of}
 use Rattle.lifecycle.specs.Executions.{IsConforming}
 use Rattle.lifecycle.proofs.Lists.{In, any_in, find_in}
-use Rattle.lifecycle.proofs.Handles.{both, clash}
 use Rattle.folder_contents.proofs.Spots.{one_location}
 use Rattle.impossible_replies.proofs.Movers.{starts, moved_as}
 
@@ -61,7 +62,7 @@ module _ (h : List Event) (p : ℕ) (conforming : IsConforming h) where
       moved : is_brought s.standing spot ≡ true → ((is_in area.Run spot.area ≡ true) × (intends (λ i. starts i.kind) s.standing.intent ≡ true)) ⊎
           ((is_in area.Prepare spot.area ≡ true) × (intends (λ i. is_maker i.kind) s.standing.intent ≡ true))
       moved b =
-          let x = both (is_in area.Prepare spot.area || is_in area.Run spot.area) (on_spot (spot_eq spot) (last_move_of spot.name s.standing.moves)) b in
+          let x = and_parts (is_in area.Prepare spot.area || is_in area.Run spot.area) (on_spot (spot_eq spot) (last_move_of spot.name s.standing.moves)) b in
           let i = last (last_move_of spot.name s.standing.moves) refl x.1 in
           on spot.area x.0 (λ place. (moved_as h conforming p).prepare spot i place) (λ place. (moved_as h conforming p).run spot i place)
         where

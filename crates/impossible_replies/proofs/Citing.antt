@@ -2,7 +2,7 @@
 use Rattle.std.proofs.Common.{◌≡◌, ◌⊎◌, inl, inr, ℕ, Bool, true, false, not, ◌&&◌, ◌||◌, ◌==◌, cond, Option, Some, None, List, [], ◌∷◌, refl, sym, ap, subst, ◌∙◌}
 use Rattle.std.specs.List.{AllByRecursion}
 use Rattle.dir_model.specs.declared.area.Area.{Area}
-use Rattle.dir_model.specs.declared.area.Area.TheVariants.{Prepare, Run, Incoming}
+use Rattle.dir_model.specs.declared.area.Area.TheVariants.{Run}
 use Rattle.dir_model.specs.declared.event.Event.{Event}
 use Rattle.dir_model.specs.declared.item.Inner.{Inner}
 use Rattle.dir_model.specs.declared.spot.Spot.{Spot}
@@ -26,6 +26,7 @@ use Rattle.dir_rules.specs.Rules.{allows, content_rules_allow, makes_here, may_m
 use Rattle.dir_rules.specs.Conforms.{seen_of, seen_after, seen_replied, seen_after_event, nothing_seen}
 use Rattle.dir_rules.proofs.Tied.{seen_after-append}
 use Rattle.lifecycle.specs.Executions.{IsConforming}
+use Rattle.folder_contents.proofs.Untouched.{here_site}
 use Rattle.impossible_replies.specs.Replies.{is_of_making}
 use Rattle.impossible_replies.proofs.Alongside.{steps}
 use Rattle.impossible_replies.proofs.MakersReplies.{none_lost}
@@ -168,27 +169,22 @@ is_building (AppendIn inner piece) = not (is_in Run inner.spot.area)
 is_building (SyncIn inner) = not (is_in Run inner.spot.area)
 is_building request = false
 
-makes_area : (s : Seen) (spot : Spot) (a : Area) → makes_here s spot a ≡ true → makes_at s.making spot ≡ true
-makes_area s spot Prepare here = and_left (makes_at s.making spot) _ here
-makes_area s spot Incoming here = and_left (makes_at s.making spot) _ here
-makes_area s spot a here = cc
-
 file_area : (s : Seen) (i : Inner) (a : Area) → not (is_in Run a) ≡ true → may_make_file_in s i a ≡ true → makes_at s.making i.spot ≡ true
 file_area s i Run off may = cc
-file_area s i a off may = makes_area s i.spot a (and_left (makes_here s i.spot a) (of_making (may_make_entry s true i) s.making) may)
+file_area s i a off may = here_site s i.spot a (and_left (makes_here s i.spot a) (of_making (may_make_entry s true i) s.making) may)
 
 append_area : (s : Seen) (i : Inner) (a : Area) → not (is_in Run a) ≡ true → may_append_in s i a ≡ true → makes_at s.making i.spot ≡ true
 append_area s i Run off may = cc
-append_area s i a off may = makes_area s i.spot a (and_left (makes_here s i.spot a) (of_making (λ m. has_file_among i.path m.entries) s.making) may)
+append_area s i a off may = here_site s i.spot a (and_left (makes_here s i.spot a) (of_making (λ m. has_file_among i.path m.entries) s.making) may)
 
 sync_area : (s : Seen) (i : Inner) (a : Area) → not (is_in Run a) ≡ true → may_sync_in s i a ≡ true → makes_at s.making i.spot ≡ true
 sync_area s i Run off may = cc
-sync_area s i a off may = makes_area s i.spot a (and_left (makes_here s i.spot a) (of_making (may_sync_entry i) s.making) may)
+sync_area s i a off may = here_site s i.spot a (and_left (makes_here s i.spot a) (of_making (may_sync_entry i) s.making) may)
 
 -- what the rules allow of these is about the folder that the process makes
 pub building_its : (s : Seen) (request : Request) → is_building request ≡ true → allows s request ≡ true → is_of_making s (folder_of request) ≡ true
 building_its s (MakeDirIn i) on may =
-    makes_area s i.spot i.spot.area (and_left (makes_here s i.spot i.spot.area) _ (and_left (may_make_dir s i) (spares_deleted_pod s i)
+    here_site s i.spot i.spot.area (and_left (makes_here s i.spot i.spot.area) _ (and_left (may_make_dir s i) (spares_deleted_pod s i)
     (and_right (lock_rules_allow s.standing (MakeDirIn i)) (content_rules_allow s (MakeDirIn i)) may)))
 building_its s (MakeFileIn i) on may =
     file_area s i i.spot.area on (and_left (may_make_file_in s i i.spot.area) (spares_deleted_pod s i) (and_right (lock_rules_allow s.standing (MakeFileIn i)) (content_rules_allow s (MakeFileIn i)) may))

@@ -1,5 +1,6 @@
 -- No impossible reply comes, and a started app's writes show at and below its root alone.
 use Rattle.std.proofs.Common.{◌≡◌, ◌⊎◌, inl, inr, ℕ, Bool, true, false, not, ◌&&◌, ◌||◌, cond, Some, None, List, [], ◌∷◌, ◌++◌, refl, sym, ap, subst, ◌∙◌}
+use Rattle.plain_laws.proofs.Booleans.{clash}
 use Rattle.dir_model.specs.declared.area.Area.{Area}
 use Rattle.dir_model.specs.declared.area.Area.TheVariants as area
 use Rattle.dir_model.specs.declared.spot.Spot.{Spot}
@@ -25,7 +26,6 @@ use Rattle.dir_rules.specs.Rules.{allows, contents_allow_move, has_done, is_whol
 use Rattle.dir_rules.specs.Anomalies.{folder_of, is_its_own, is_its_folder, owns_at, knows_folder, is_store, is_import_again, is_place_error, is_gone_error, is_removal, meets_app, loses_embryo, loses_own, loses_directory, meets_another, shows_long, is_foreign_write, is_impossible_reply}
 use Rattle.dir_rules.specs.Conforms.{seen_of}
 use Rattle.lifecycle.specs.Executions.{IsConforming}
-use Rattle.lifecycle.proofs.Handles.{clash}
 use Rattle.folder_contents.proofs.Along.{conforming_to}
 use Rattle.folder_contents.proofs.Handed.{brought, asked}
 use Rattle.folder_contents.proofs.Guards.{kinds_apart, no_remover}

@@ -2,6 +2,9 @@
 use Rattle.std.proofs.Common.{◌≡◌, ◌⊎◌, inl, inr, ℕ, Bool, true, false, not, ◌&&◌, ◌||◌, ◌==◌, cond, bytes_eq, Option, Some, None, is_some, List, [], ◌∷◌, ◌++◌, map, filter, refl, sym, ap, subst, ◌∙◌}
 use Rattle.std.specs.List.{list_any, list_all}
 use Rattle.std.proofs.Math.Path.{ap₂}
+use Rattle.std.proofs.lemmas.Bool.{and_parts}
+use Rattle.plain_laws.proofs.Booleans.{clash}
+use Rattle.plain_laws.proofs.Texts.{same_text}
 use Rattle.dir_model.specs.declared.area.Area.{Area}
 use Rattle.dir_model.specs.declared.area.Area.TheVariants as area
 use Rattle.dir_model.specs.declared.intent.Intent.{Intent}
@@ -27,7 +30,7 @@ use Rattle.dir_model.specs.Trace.{state_next, state_after, listings_replied}
 use Rattle.dir_model.specs.Replies.{is_reply}
 use Rattle.dir_model.specs.Calls.{is_begin, is_kill, is_foreign, event}
 use Rattle.dir_model.proofs.Chains.{state_after-push}
-use Rattle.dir_model.proofs.Lists.{and_left, and_right, not_true, or_last, same_self}
+use Rattle.dir_model.proofs.Lists.{and_left, and_right, not_true, or_last, same_self, same_number}
 use Rattle.dir_model.proofs.Spots.{spot_self}
 use Rattle.dir_rules.specs.declared.seen.Seen.{Seen}
 use Rattle.dir_rules.specs.declared.seen.ShownArea.{ShownArea}
@@ -41,12 +44,12 @@ use Rattle.dir_rules.specs.Conforms.{nothing_seen, seen_of, seen_replied}
 use Rattle.dir_rules.proofs.Unborn.{unborn_saw_nothing}
 use Rattle.lifecycle.specs.Executions.{IsConforming}
 use Rattle.lifecycle.proofs.Lists.{In, any_in, in_any, in_map, in_filter, find_in}
-use Rattle.lifecycle.proofs.Handles.{both, clash, lock_free, nat_same}
-use Rattle.lifecycle.proofs.Linked.{Bare, looked_holdings}
+use Rattle.lifecycle.proofs.Handles.{lock_free}
+use Rattle.lifecycle.proofs.Linked.{Bare, in_both}
 use Rattle.lifecycle.proofs.Locks.{lock_of, kept_lock}
 use Rattle.lifecycle.proofs.Closes.{any_mapped, kept_any}
 use Rattle.lifecycle.proofs.Invariant.{some_exclusive}
-use Rattle.lifecycle.proofs.Places.{name_same, same_name, none_at}
+use Rattle.lifecycle.proofs.Places.{same_name, none_at}
 use Rattle.folder_contents.specs.UnderGate.{is_taken_from}
 use Rattle.folder_contents.proofs.Along.{Happens, happens, whose, foreign_same, own_next, along, sound_at, linked_at}
 use Rattle.folder_contents.proofs.Gates.{never_both, one_closer}
@@ -57,13 +60,13 @@ use Rattle.folder_contents.proofs.Places.{untaken}
 use Rattle.folder_contents.proofs.Spots.{one_location, in_area}
 use Rattle.impossible_replies.proofs.Turns.{lists_at_once}
 use Rattle.impossible_replies.proofs.Alongside.{Steps, steps, each_seen}
-use Rattle.impossible_replies.proofs.Lengths.{in_two}
 use Rattle.impossible_replies.proofs.LongItems.{in_filter_map, of_all}
 use Rattle.impossible_replies.proofs.Origins.{at}
 use Rattle.impossible_replies.proofs.Removers.{is_removing, removing_place, under_lock}
 use Rattle.impossible_replies.proofs.Told.{Told, listing_from}
 use Rattle.impossible_replies.proofs.Deletions.{ends, all_told}
 use Rattle.dir_rules.specs.Anomalies.{knows_folder}
+use Rattle.dir_rules.proofs.Standings.{looked_holdings}
 
 abbrev Closes : Seen → Bool
 Closes s = excludes_area area.Incoming s.standing
@@ -169,7 +172,7 @@ noted_stand st (listed.Area a through ever) t = λ incoming u i. by incoming u i
   where
     by : is_in area.Incoming a ≡ true → (u : List ℕ) → In u (filter (listings.has_name (names_in a st.namespace.folders)) through) ⊎ In u (ever ++ names_in a st.namespace.folders) → Stood st u
     by incoming u (inl i) = t incoming u (inl (in_filter (listings.has_name (names_in a st.namespace.folders)) u through i).0)
-    by incoming u (inr i) = at_last (in_two u ever (names_in a st.namespace.folders) i)
+    by incoming u (inr i) = at_last (in_both u ever (names_in a st.namespace.folders) i)
       where
         at_last : In u ever ⊎ In u (names_in a st.namespace.folders) → Stood st u
         at_last (inl j) = t incoming u (inr j)
@@ -369,7 +372,7 @@ module _ (h : List Event) (p : ℕ) (conforming : IsConforming h) (told : Told (
                   ∙ (ap (λ (z : ShownArea). is_name_among u z.names) (sym e) ∙ n)) in
                   let w = in_filter (λ n. not (bytes_eq n from.name)) z.0 b.names z.1.0 in
                   clash (bytes_eq z.0 from.name)
-                  (same_name z.0 from.name (name_same z.0 u z.1.1 ∙ ap (λ (q : Spot). q.name) (sym same_spot))) (not_true (bytes_eq z.0 from.name) w.1)
+                  (same_name z.0 from.name (same_text z.0 u z.1.1 ∙ ap (λ (q : Spot). q.name) (sym same_spot))) (not_true (bytes_eq z.0 from.name) w.1)
 
   -- an area was listed
   listed_area : (b : Area) (new : List (List ℕ)) → Steps h p (ListArea b) (Names new) → AreasAfter (ListArea b) (Names new)
@@ -380,14 +383,14 @@ module _ (h : List Event) (p : ℕ) (conforming : IsConforming h) (told : Told (
 
       found : (l : Listed) → NamesStand st l → is_in area.Incoming b ≡ true → area_by b new l ≡ true → (u : List ℕ) → is_name_among u new ≡ true → Stood st u
       found (listed.Area c through ever) t place shows u n =
-          let y = both (rank c == rank b) (shows_names through ever new) shows in
+          let y = and_parts (rank c == rank b) (shows_names through ever new) shows in
           let all = and_right (list_all (listings.has_name new) through) (list_all (listings.has_name (through ++ ever)) new)
           (and_right (ascend new) (list_all (listings.has_name new) through && list_all (listings.has_name (through ++ ever)) new) y.1) in
           let z = any_in (λ name. bytes_eq name u) new n in
           let w = any_in (λ name. bytes_eq name z.0) (through ++ ever) (of_all (listings.has_name (through ++ ever)) z.0 new z.1.0 all) in
-          let name : w.0 ≡ u = name_same w.0 z.0 w.1.1 ∙ name_same z.0 u z.1.1 in
+          let name : w.0 ≡ u = same_text w.0 z.0 w.1.1 ∙ same_text z.0 u z.1.1 in
           subst (λ (q : List ℕ). Stood st q) name
-          (t (subst (λ (d : Area). is_in area.Incoming d ≡ true) (sym (in_area c b y.0)) place) w.0 (in_two w.0 through ever w.1.0))
+          (t (subst (λ (d : Area). is_in area.Incoming d ≡ true) (sym (in_area c b y.0)) place) w.0 (in_both w.0 through ever w.1.0))
       found (listed.Missing here) t place shows u n = cc
       found (listed.Inside here f through ever) t place shows u n = cc
 
@@ -399,7 +402,7 @@ module _ (h : List Event) (p : ℕ) (conforming : IsConforming h) (told : Told (
           let g = in_map (noted_by st) st.listings l f.0 in
           found l.listed
           (subst (λ (z : OpenListing). NamesStand st z.listed) (sym g.1.1)
-          (noted_stand st g.0.listed (known.opened g.0 g.1.0 (ap (λ (z : OpenListing). z.process) (sym g.1.1) ∙ nat_same l.process p f.1) closed)))
+          (noted_stand st g.0.listed (known.opened g.0 g.1.0 (ap (λ (z : OpenListing). z.process) (sym g.1.1) ∙ same_number l.process p f.1) closed)))
           place (sym (area_so b new l) ∙ shows) u n
 
       new_one : a ≡ record { area = b; names = new } → excludes_area b s.standing ≡ true →
@@ -593,7 +596,7 @@ deleted_stands h conforming p known from incoming knows =
         (removing_place s.standing x.0.spot ((under_lock h conforming p).listed x.0 x.1.0))) refl
     by false true c e f g k =
         let x = any_in (λ a. is_in from.area a.area && is_name_among from.name a.names) s.areas f in
-        let y = both (is_in from.area x.0.area) (is_name_among from.name x.0.names) x.1.1 in
+        let y = and_parts (is_in from.area x.0.area) (is_name_among from.name x.0.names) x.1.1 in
         subst (λ (z : Spot). stands (state_after h).namespace z ≡ true) (ap (λ (a : Area). at a from.name) (sym incoming))
         ((known.areas x.0 x.1.0 (subst (λ (a : Area). is_in a x.0.area ≡ true) incoming y.0)).1 from.name y.1)
     by false false true e f g k =

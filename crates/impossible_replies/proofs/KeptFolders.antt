@@ -1,6 +1,10 @@
 -- Under the lock that a removal needs, a folder that stood there stands there still, and is found, until its holder removes it.
 use Rattle.std.proofs.Common.{◌≡◌, ◌⊎◌, inl, inr, ℕ, Bool, true, false, not, ◌&&◌, ◌||◌, ◌==◌, cond, bytes_eq, Option, Some, None, List, [], ◌∷◌, ◌++◌, map, filter, append-nil, append_assoc, refl, sym, ap, subst, ◌∙◌}
 use Rattle.std.specs.List.{list_any, AllByRecursion}
+use Rattle.std.proofs.lemmas.Bool.{and_parts}
+use Rattle.plain_laws.proofs.Lists.{any_filtered}
+use Rattle.plain_laws.proofs.Booleans.{clash}
+use Rattle.plain_laws.proofs.Texts.{same_text}
 use Rattle.dir_model.specs.declared.event.Event.{Event}
 use Rattle.dir_model.specs.declared.item.Inner.{Inner}
 use Rattle.dir_model.specs.declared.spot.Handle.{Handle}
@@ -21,7 +25,7 @@ use Rattle.dir_model.specs.State.{Namespace, DirState, lives, folder_at, spot_eq
 use Rattle.dir_model.specs.Trees.{has_dir, items_in}
 use Rattle.dir_model.specs.Trace.{namespace_replied, state_next, states_next, state_after}
 use Rattle.dir_model.proofs.Chains.{states_next-append, state_after-push}
-use Rattle.dir_model.proofs.Lists.{and_left, and_right, same_self}
+use Rattle.dir_model.proofs.Lists.{and_left, and_right, same_self, same_number}
 use Rattle.dir_rules.specs.declared.seen.Seen.{Seen}
 use Rattle.dir_rules.specs.declared.standing.Held.{Held}
 use Rattle.dir_rules.specs.declared.standing.Standing.{Standing}
@@ -31,10 +35,8 @@ use Rattle.dir_rules.specs.Rules.{allows, content_rules_allow, root_of}
 use Rattle.dir_rules.specs.Standing.{standing_replied, looked_by, find_held, held_with_mode, is_handle_held, uncovered_by_close}
 use Rattle.dir_rules.proofs.Tied.{seen_after-append, lived_before}
 use Rattle.lifecycle.specs.Executions.{IsConforming}
-use Rattle.lifecycle.proofs.Closes.{any_mapped, any_filtered}
+use Rattle.lifecycle.proofs.Closes.{any_mapped}
 use Rattle.lifecycle.proofs.Lists.{In, any_in, in_any, in_map, find_in}
-use Rattle.lifecycle.proofs.Handles.{both, clash, nat_same}
-use Rattle.lifecycle.proofs.Places.{name_same}
 use Rattle.folder_contents.specs.UnderGate.{is_taken_from}
 use Rattle.folder_contents.proofs.Along.{happens}
 use Rattle.lifecycle.proofs.Draws.{conforming_left}
@@ -248,9 +250,9 @@ module _ (p : ℕ) (spot : Spot) (on : is_removing spot.area ≡ true) where
       by : (b : Bool) → is_inner inner (root_of spot) ≡ b → missing_by (root_of spot) (begun_at st inner (folder_at st.namespace inner.spot)) ≡ false
       by false off = away (folder_at st.namespace inner.spot) off
       by true is =
-          let y = both (spot_eq inner.spot spot) (bytes_eq inner.path []) is in
+          let y = and_parts (spot_eq inner.spot spot) (bytes_eq inner.path []) is in
           let here : inner.spot ≡ spot = one_location inner.spot spot y.0 in
-          let path : inner.path ≡ [] = name_same inner.path [] y.1 in
+          let path : inner.path ≡ [] = same_text inner.path [] y.1 in
           let there : folder_at st.namespace inner.spot ≡ Some f = ap (λ (z : Spot). folder_at st.namespace z) here ∙ at in
           ap (λ (o : Option ℕ). missing_by (root_of spot) (begun_at st inner o)) there
           ∙ ap (λ (l : List ℕ). missing_by (root_of spot) (cond (has_dir st.entries f l) (listed.Inside inner f (items_in f inner.path st.entries) []) (listed.Missing inner))) path
@@ -312,4 +314,4 @@ module _ (p : ℕ) (spot : Spot) (on : is_removing spot.area ≡ true) where
           let g = in_map (noted_by st) st.listings l x.0 in
           clash (missing_by (root_of spot) l.listed) (sym (missing_so (root_of spot) l) ∙ m)
           (ap (λ (z : OpenListing). missing_by (root_of spot) z.listed) g.1.1 ∙ (noted_missing st (root_of spot) g.0.listed
-          ∙ k.found g.0 g.1.0 (ap (λ (q : OpenListing). q.process) (sym g.1.1) ∙ nat_same l.process p x.1)))
+          ∙ k.found g.0 g.1.0 (ap (λ (q : OpenListing). q.process) (sym g.1.1) ∙ same_number l.process p x.1)))

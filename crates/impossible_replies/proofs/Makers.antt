@@ -1,6 +1,9 @@
 -- A maker's changes, syncs and moves of its folder are answered as its own.
 use Rattle.std.proofs.Common.{◌≡◌, ◌⊎◌, inl, inr, ℕ, Bool, true, false, not, ◌&&◌, ◌||◌, ◌==◌, cond, bytes_eq, nat_le, Option, Some, None, List, [], ◌∷◌, length, refl, sym, ap, subst, ◌∙◌}
 use Rattle.std.specs.List.{list_any}
+use Rattle.std.proofs.lemmas.Bool.{or_left, and_parts}
+use Rattle.plain_laws.proofs.Booleans.{clash}
+use Rattle.plain_laws.proofs.Texts.{same_text}
 use Rattle.dir_model.specs.declared.area.Area.{Area}
 use Rattle.dir_model.specs.declared.area.Area.TheVariants as area
 use Rattle.dir_model.specs.declared.intent.Kind.{Kind}
@@ -36,9 +39,7 @@ use Rattle.dir_rules.specs.Rules.{allows, content_rules_allow, contents_allow_mo
 use Rattle.dir_rules.specs.Anomalies.{folder_of, is_its_folder, is_import_again, is_place_error, loses_own, meets_another}
 use Rattle.dir_rules.specs.Conforms.{seen_of}
 use Rattle.lifecycle.specs.Executions.{IsConforming}
-use Rattle.lifecycle.proofs.Lists.{In, any_in, in_any, or_left}
-use Rattle.lifecycle.proofs.Handles.{both, clash}
-use Rattle.lifecycle.proofs.Places.{name_same}
+use Rattle.lifecycle.proofs.Lists.{In, any_in, in_any}
 use Rattle.folder_contents.specs.Entries.{entries_in, SameNames}
 use Rattle.folder_contents.specs.Makers.{guards, StandsAsKnown}
 use Rattle.folder_contents.proofs.Names.{file_of, dir_of}
@@ -106,13 +107,13 @@ module _ (es : List TreeEntry) (k : ℕ) (known : List Entry) (names : SameNames
           (subst (λ (d : List ℕ). is_directly_in d path ≡ true) (is_none (parent path) e) (directly path is full))
       by false e h =
           let x = any_in (is_dir_entry k (parent path)) es (dir_same (parent path) ∙ h) in
-          let y = both ((x.0.folder == k) && bytes_eq x.0.path (parent path)) (trees.is_dir x.0.node) x.1.1 in
-          let z = both (x.0.folder == k) (bytes_eq x.0.path (parent path)) y.0 in
+          let y = and_parts ((x.0.folder == k) && bytes_eq x.0.path (parent path)) (trees.is_dir x.0.node) x.1.1 in
+          let z = and_parts (x.0.folder == k) (bytes_eq x.0.path (parent path)) y.0 in
           or_last (is_directly_in [] path) (list_any (is_parent_entry k path) es)
           (in_any (is_parent_entry k path) x.0 es x.1.0
           (and_both (x.0.folder == k) (trees.is_dir x.0.node && is_directly_in x.0.path path) z.0
           (and_both (trees.is_dir x.0.node) (is_directly_in x.0.path path) y.1
-          (subst (λ (d : List ℕ). is_directly_in d path ≡ true) (sym (name_same x.0.path (parent path) z.1)) (directly path is full)))))
+          (subst (λ (d : List ℕ). is_directly_in d path ≡ true) (sym (same_text x.0.path (parent path) z.1)) (directly path is full)))))
 
   pub made_free : (path : List ℕ) → is_path path ≡ true → is_empty path ≡ false → has_dir_among path known ≡ false → has_file_among path known ≡ false →
       is_in_directory path known ≡ true → make_refusal path es k ≡ None
@@ -129,9 +130,9 @@ module _ (es : List TreeEntry) (k : ℕ) (known : List Entry) (names : SameNames
 
   pub makes : (path : List ℕ) → is_path path ≡ true → is_new_path path known ≡ true → make_refusal path es k ≡ None
   makes path is new =
-      let a = both (nat_le (length path) 8192) (not (is_empty path) && (not (has_path_among path known) && is_in_directory path known)) new in
-      let b = both (not (is_empty path)) (not (has_path_among path known) && is_in_directory path known) a.1 in
-      let c = both (not (has_path_among path known)) (is_in_directory path known) b.1 in
+      let a = and_parts (nat_le (length path) 8192) (not (is_empty path) && (not (has_path_among path known) && is_in_directory path known)) new in
+      let b = and_parts (not (is_empty path)) (not (has_path_among path known) && is_in_directory path known) a.1 in
+      let c = and_parts (not (has_path_among path known)) (is_in_directory path known) b.1 in
       let full = not_true (is_empty path) b.0 in
       let free = not_true (has_path_among path known) c.0 in
       made_free path is full (pathless_dir path known free) (pathless_file path known free) c.1
@@ -156,8 +157,8 @@ module _ (es : List TreeEntry) (k : ℕ) (known : List Entry) (names : SameNames
 
 -- where it makes, it has the folder's lock
 pub here_guarded : (g : Seen) (spot : Spot) (a : Area) → makes_here g spot a ≡ true → (makes_at g.making spot ≡ true) × (guards g spot.name a ≡ true)
-here_guarded g spot area.Prepare h = both (makes_at g.making spot) (holds_own spot.name g.standing) h
-here_guarded g spot area.Incoming h = both (makes_at g.making spot) g.stored h
+here_guarded g spot area.Prepare h = and_parts (makes_at g.making spot) (holds_own spot.name g.standing) h
+here_guarded g spot area.Incoming h = and_parts (makes_at g.making spot) g.stored h
 here_guarded g spot a h = cc
 
 module _ (h : List Event) (p : ℕ) (conforming : IsConforming h) (living : lives (state_after h).namespace p ≡ true) (m : Making)
@@ -170,7 +171,7 @@ module _ (h : List Event) (p : ℕ) (conforming : IsConforming h) (living : live
 
   at_making : (spot : Spot) → makes_at s.making spot ≡ true → (m.spot ≡ spot) × (is_making_area spot.area ≡ true)
   at_making spot its =
-      let x = both (spot_eq m.spot spot) (is_making_area spot.area) (sym (ap (λ (o : Option Making). makes_at o spot) knew) ∙ its) in
+      let x = and_parts (spot_eq m.spot spot) (is_making_area spot.area) (sym (ap (λ (o : Option Making). makes_at o spot) knew) ∙ its) in
       (one_location m.spot spot x.0, x.1)
 
   fit : FitsIn s.standing m.spot.name m.spot.area
@@ -201,8 +202,8 @@ module _ (h : List Event) (p : ℕ) (conforming : IsConforming h) (living : live
 
   pub made_dir : (i : Inner) → is_path i.path ≡ true → allows s (MakeDirIn i) ≡ true → refusal st p (MakeDirIn i) ≡ None
   made_dir i is may =
-      let x = both (may_make_dir s i) (spares_deleted_pod s i) (and_right (lock_rules_allow s.standing (MakeDirIn i)) (content_rules_allow s (MakeDirIn i)) may) in
-      let y = both (makes_here s i.spot i.spot.area) (of_making (may_make_entry s false i) s.making) x.0 in
+      let x = and_parts (may_make_dir s i) (spares_deleted_pod s i) (and_right (lock_rules_allow s.standing (MakeDirIn i)) (content_rules_allow s (MakeDirIn i)) may) in
+      let y = and_parts (makes_here s i.spot i.spot.area) (of_making (may_make_entry s false i) s.making) x.0 in
       fine i y.0 (make_refusal i.path) (λ k names. makes st.entries k m.entries names i.path is
       (and_left (is_new_path i.path m.entries) (is_in_order s i.spot.area false i.path m.entries) (of_known (may_make_entry s false i) y.1)))
 
@@ -212,7 +213,7 @@ module _ (h : List Event) (p : ℕ) (conforming : IsConforming h) (living : live
     where
       on : (a : Area) → i.spot.area ≡ a → (makes_here s i.spot a && of_making (may_make_entry s true i) s.making) ≡ true → refusal st p (MakeFileIn i) ≡ None
       on a e h =
-          let y = both (makes_here s i.spot a) (of_making (may_make_entry s true i) s.making) h in
+          let y = and_parts (makes_here s i.spot a) (of_making (may_make_entry s true i) s.making) h in
           fine i (subst (λ (b : Area). makes_here s i.spot b ≡ true) (sym e) y.0) (make_refusal i.path) (λ k names. makes st.entries k m.entries names i.path is
           (and_left (is_new_path i.path m.entries) (is_in_order s i.spot.area true i.path m.entries) (of_known (may_make_entry s true i) y.1)))
 
@@ -228,7 +229,7 @@ module _ (h : List Event) (p : ℕ) (conforming : IsConforming h) (living : live
     where
       on : (a : Area) → i.spot.area ≡ a → (makes_here s i.spot a && of_making (λ x. has_file_among i.path x.entries) s.making) ≡ true → refusal st p (AppendIn i piece) ≡ None
       on a e h =
-          let y = both (makes_here s i.spot a) (of_making (λ x. has_file_among i.path x.entries) s.making) h in
+          let y = and_parts (makes_here s i.spot a) (of_making (λ x. has_file_among i.path x.entries) s.making) h in
           fine i (subst (λ (b : Area). makes_here s i.spot b ≡ true) (sym e) y.0) (file_refusal i.path) (λ k names. appends st.entries k m.entries names i.path
           (of_known (λ x. has_file_among i.path x.entries) y.1))
 
@@ -264,7 +265,7 @@ module _ (h : List Event) (p : ℕ) (conforming : IsConforming h) (living : live
     where
       on : (a : Area) → i.spot.area ≡ a → (makes_here s i.spot a && of_making (may_sync_entry i) s.making) ≡ true → refusal st p (SyncIn i) ≡ None
       on a e h =
-          let y = both (makes_here s i.spot a) (of_making (may_sync_entry i) s.making) h in
+          let y = and_parts (makes_here s i.spot a) (of_making (may_sync_entry i) s.making) h in
           fine i (subst (λ (b : Area). makes_here s i.spot b ≡ true) (sym e) y.0) (sync_refusal i.path) (λ k names. syncs st.entries k m.entries names i.path
           (of_known (may_sync_entry i) y.1))
 

@@ -1,5 +1,6 @@
 -- What no maker is answered.
 use Rattle.std.proofs.Common.{◌≡◌, ℕ, Bool, true, false, ◌||◌, List, [], ◌∷◌, ◌++◌, refl}
+use Rattle.std.proofs.lemmas.Bool.{or_left}
 use Rattle.dir_model.specs.declared.event.Event.{Event}
 use Rattle.dir_model.specs.declared.spot.Which.TheVariants as which
 use Rattle.dir_model.specs.declared.request.DirError.TheVariants.{Missing, Exists, NotEmpty, Locked, Failed, NoMemory}
@@ -21,7 +22,6 @@ use Rattle.dir_rules.specs.Anomalies.{folder_of, is_own_embryo, is_own_embryo_he
 use Rattle.dir_rules.specs.Conforms.{seen_of}
 use Rattle.lifecycle.specs.Executions.{IsConforming}
 use Rattle.lifecycle.proofs.Handles.{is_due}
-use Rattle.lifecycle.proofs.Lists.{or_left}
 use Rattle.folder_contents.proofs.Along.{conforming_to}
 use Rattle.impossible_replies.specs.Replies.{MakersReply, is_of_making}
 use Rattle.impossible_replies.proofs.Alongside.{Steps, steps}

@@ -1,6 +1,8 @@
 -- While a process runs a pod, there stands what it noted, and nothing else that is named as a note.
 use Rattle.std.proofs.Common.{◌≡◌, ◌⊎◌, inl, inr, ◌≤◌, ℕ, Bool, true, false, not, ◌&&◌, ◌||◌, ◌==◌, cond, bytes_eq, Option, Some, is_some, List, [], ◌∷◌, ◌++◌, refl, sym, ap, subst, ◌∙◌}
 use Rattle.std.specs.List.{list_any}
+use Rattle.plain_laws.proofs.Booleans.{clash}
+use Rattle.plain_laws.proofs.Texts.{same_text}
 use Rattle.dir_model.specs.declared.area.Area.{Area}
 use Rattle.dir_model.specs.declared.area.Area.TheVariants as area
 use Rattle.dir_model.specs.declared.event.Event.{Event}
@@ -33,9 +35,9 @@ use Rattle.dir_rules.proofs.Unborn.{unborn_saw_nothing}
 use Rattle.lifecycle.specs.PodMachine.{pod_state, pod_progress}
 use Rattle.lifecycle.specs.Executions.{IsConforming}
 use Rattle.lifecycle.proofs.Lists.{In}
-use Rattle.lifecycle.proofs.Handles.{clash, none_refused, refused_if}
+use Rattle.lifecycle.proofs.Handles.{none_refused, refused_if}
 use Rattle.lifecycle.proofs.Owners.{is_move_of}
-use Rattle.lifecycle.proofs.Places.{name_same, same_name}
+use Rattle.lifecycle.proofs.Places.{same_name}
 use Rattle.lifecycle.proofs.Step.{stands_from}
 use Rattle.folder_contents.specs.Entries.{entries_in}
 use Rattle.folder_contents.specs.Handing.{then_moved}
@@ -103,7 +105,7 @@ module _ (st : DirState) (q : ℕ) (g : Seen) (request : Request) (reply : Reply
         where
           by : (b : Bool) → bytes_eq w.inner.path path ≡ b →
               (has_file_among path (entries_in k st.entries) ≡ true) ⊎ ((w : Written st q request reply k (at area.Run u)) × (w.inner.path ≡ path))
-          by true e = inr (w, name_same w.inner.path path e)
+          by true e = inr (w, same_text w.inner.path path e)
           by false e = inl (sym (any_last_not (λ e. not (is_dir e.node) && bytes_eq e.path path) (entries_in k st.entries)
               (record { path = w.inner.path; node = Piece w.bytes }) e) ∙ subst (λ (es : List Entry). has_file_among path es ≡ true) w.grown there)
 
@@ -217,7 +219,7 @@ noted_arrival p u h from to c of r k found = record {
     stage = and_left (is_stage to.area) (bytes_eq to.name u) of
 
     name : to.name ≡ u
-    name = name_same to.name u (and_right (is_stage to.area) (bytes_eq to.name u) of)
+    name = same_text to.name u (and_right (is_stage to.area) (bytes_eq to.name u) of)
 
     last : on_spot test (last_move_of u (to ∷ k0.moves)) ≡ true
     last = sym (ap (λ b. on_spot test (last_move_of u (cond b (to ∷ k0.moves) k0.moves))) stage)

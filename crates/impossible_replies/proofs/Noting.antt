@@ -2,6 +2,9 @@
 use Rattle.std.proofs.Common.{◌≡◌, ◌⊎◌, inl, inr, ℕ, Bool, true, false, not, ◌&&◌, ◌||◌, cond, bytes_eq, nat_lt, Some, None, List, [], ◌∷◌, ◌++◌, length, drop, codes, refl, sym, ap, subst, ◌∙◌}
 use Rattle.std.proofs.lemmas.Bool.Decides.{Decides-eqb}
 use Rattle.std.proofs.lemmas.Slice.Eq.{starts_is}
+use Rattle.std.proofs.lemmas.Bool.{or_left, and_parts}
+use Rattle.plain_laws.proofs.Booleans.{clash}
+use Rattle.plain_laws.proofs.Texts.{same_text}
 use Rattle.dir_model.specs.declared.area.Area.{Area}
 use Rattle.dir_model.specs.declared.area.Area.TheVariants as area
 use Rattle.dir_model.specs.declared.event.Event.{Event}
@@ -24,10 +27,9 @@ use Rattle.dir_rules.specs.LockRules.{lock_rules_allow}
 use Rattle.dir_rules.specs.Rules.{allows, content_rules_allow, may_make_file_in, may_append_in, may_sync_in, may_note, may_mark, has_note, runs, spares_deleted_pod, is_dir, has_path_among, has_dir_among, has_file_among, is_in_directory}
 use Rattle.dir_rules.specs.Anomalies.{folder_of, is_its_folder, is_place_error, is_store}
 use Rattle.dir_rules.specs.Conforms.{seen_of}
+use Rattle.dir_laws.proofs.Paths.{parent_in}
 use Rattle.lifecycle.specs.Executions.{IsConforming}
-use Rattle.lifecycle.proofs.Lists.{any_in, in_any, or_left}
-use Rattle.lifecycle.proofs.Handles.{both, clash}
-use Rattle.lifecycle.proofs.Places.{name_same}
+use Rattle.lifecycle.proofs.Lists.{any_in, in_any}
 use Rattle.folder_contents.specs.Entries.{entries_in}
 use Rattle.folder_contents.proofs.Guards.{kinds_apart}
 use Rattle.folder_contents.proofs.Spots.{one_location, in_area}
@@ -56,17 +58,9 @@ parent_none : (path : List ℕ) → has_slash path ≡ false → is_empty (paren
 parent_none [] h = refl
 parent_none (b ∷ bs) h = ap (λ c. is_empty (cond c (b ∷ parent bs) [])) (or_right_false (is_slash b) (has_slash bs) h)
 
-slash_in : (d rest : List ℕ) → has_slash (d ++ 47 ∷ rest) ≡ true
-slash_in [] rest = refl
-slash_in (b ∷ d) rest = or_last (is_slash b) (has_slash (d ++ 47 ∷ rest)) (slash_in d rest)
-
-parent_in : (d rest : List ℕ) → has_slash rest ≡ false → parent (d ++ 47 ∷ rest) ≡ d
-parent_in [] rest off = ap (λ c. cond c (47 ∷ parent rest) []) off
-parent_in (b ∷ d) rest off = ap (λ c. cond c (b ∷ parent (d ++ 47 ∷ rest)) []) (slash_in d rest) ∙ ap (λ (l : List ℕ). b ∷ l) (parent_in d rest off)
-
 status_parent : (path : List ℕ) → is_status_file path ≡ true → parent path ≡ status_directory
 status_parent path h =
-    let x = both (begins (codes "stage1/rootfs/rkt/status/") path && nat_lt 25 (length path)) (not (has_slash (drop 25 path))) h in
+    let x = and_parts (begins (codes "stage1/rootfs/rkt/status/") path && nat_lt 25 (length path)) (not (has_slash (drop 25 path))) h in
     let front : path ≡ codes "stage1/rootfs/rkt/status/" ++ drop 25 path =
     (starts_is Decides-eqb path (codes "stage1/rootfs/rkt/status/") _ refl).0 (and_left (begins (codes "stage1/rootfs/rkt/status/") path) (nat_lt 25 (length path)) x.0) in
     ap parent front ∙ parent_in status_directory (drop 25 path) (not_true (has_slash (drop 25 path)) x.1)
@@ -108,7 +102,7 @@ module _ (h : List Event) (p : ℕ) (conforming : IsConforming h) where
       by k true e m = none k i.path e
       by k false e m =
           let y = any_in (inner_eq i) s.notes m in
-          let same = name_same i.path y.0.path (both (spot_eq i.spot y.0.spot) (bytes_eq i.path y.0.path) y.1.1).1 in
+          let same = same_text i.path y.0.path (and_parts (spot_eq i.spot y.0.spot) (bytes_eq i.path y.0.path) y.1.1).1 in
           subst (λ (l : List ℕ). is_own_at st l (Some k) ≡ false) (sym same) (plain_unowned h k y.0.path (notes_old h conforming p y.0 y.1.0).1.1)
 
   pub noting_plain : (request : Request) → is_noting request ≡ true → allows s request ≡ true → is_apps_request st request ≡ false
@@ -141,14 +135,14 @@ module _ (h : List Event) (p : ℕ) (conforming : IsConforming h) where
     note_stands : (i : Inner) → i.spot.area ≡ area.Run → (r : Runs i) → has_note s i ≡ true → has_file_among i.path (entries_in r.folder st.entries) ≡ true
     note_stands i run r had =
         let y = any_in (inner_eq i) s.notes had in
-        let e = both (spot_eq i.spot y.0.spot) (bytes_eq i.path y.0.path) y.1.1 in
-        subst (λ (l : List ℕ). has_file_among l (entries_in r.folder st.entries) ≡ true) (sym (name_same i.path y.0.path e.1))
+        let e = and_parts (spot_eq i.spot y.0.spot) (bytes_eq i.path y.0.path) y.1.1 in
+        subst (λ (l : List ℕ). has_file_among l (entries_in r.folder st.entries) ≡ true) (sym (same_text i.path y.0.path e.1))
         (r.noted.stands y.0 y.1.0 (sym (one_location i.spot y.0.spot e.0) ∙ ap (λ (a : Area). at a i.spot.name) run))
 
     note_made : (i : Inner) → i.spot.area ≡ area.Run → may_note s i ≡ true → is_path i.path ≡ true → refusal st p (MakeFileIn i) ≡ None
     note_made i run may is =
-        let a = both (runs s i.spot.name) (is_noted i.path && not (has_note s i)) may in
-        let b = both (is_noted i.path) (not (has_note s i)) a.1 in
+        let a = and_parts (runs s i.spot.name) (is_noted i.path && not (has_note s i)) may in
+        let b = and_parts (is_noted i.path) (not (has_note s i)) a.1 in
         let r = here i run a.0 in
         ap (refused_in (make_refusal i.path) st.entries) r.found
         ∙ made_free st.entries r.folder (entries_in r.folder st.entries) (λ path. (refl, refl)) i.path is (note_full i.path b.0) (r.tidy.dirs i.path b.0)
@@ -164,7 +158,7 @@ module _ (h : List Event) (p : ℕ) (conforming : IsConforming h) where
 
     note_appended : (i : Inner) (piece : List ℕ) → i.spot.area ≡ area.Run → may_append_in s i area.Run ≡ true → refusal st p (AppendIn i piece) ≡ None
     note_appended i piece run may =
-        let a = both (runs s i.spot.name) (is_status_file i.path && has_note s i) may in
+        let a = and_parts (runs s i.spot.name) (is_status_file i.path && has_note s i) may in
         let r = here i run a.0 in
         ap (refused_in (file_refusal i.path) st.entries) r.found
         ∙ appends st.entries r.folder (entries_in r.folder st.entries) (λ path. (refl, refl)) i.path
@@ -172,7 +166,7 @@ module _ (h : List Event) (p : ℕ) (conforming : IsConforming h) where
 
     note_synced : (i : Inner) → i.spot.area ≡ area.Run → may_sync_in s i area.Run ≡ true → refusal st p (SyncIn i) ≡ None
     note_synced i run may =
-        let a = both (runs s i.spot.name) (is_empty i.path || has_note s i) may in
+        let a = and_parts (runs s i.spot.name) (is_empty i.path || has_note s i) may in
         let r = here i run a.0 in
         ap (refused_in (sync_refusal i.path) st.entries) r.found
         ∙ syncs st.entries r.folder (entries_in r.folder st.entries) (λ path. (refl, refl)) i.path (by r (is_empty i.path) a.1)

@@ -1,6 +1,10 @@
 -- Who holds a pod that it moved to run runs it.
 use Rattle.std.proofs.Common.{◌≡◌, ◌⊎◌, inl, inr, ℕ, Bool, true, false, not, ◌&&◌, ◌||◌, ◌==◌, cond, bytes_eq, Option, Some, None, is_some, List, [], ◌∷◌, ◌++◌, map, filter, refl, sym, ap, subst, ◌∙◌}
 use Rattle.std.specs.List.{list_any}
+use Rattle.std.proofs.lemmas.Bool.{and_parts}
+use Rattle.plain_laws.proofs.Booleans.{clash}
+use Rattle.plain_laws.proofs.Lists.{any_filtered}
+use Rattle.plain_laws.proofs.Texts.{same_text}
 use Rattle.dir_model.specs.declared.area.Area.{Area}
 use Rattle.dir_model.specs.declared.area.Area.TheVariants as area
 use Rattle.dir_model.specs.declared.spot.Mode.{Mode}
@@ -21,7 +25,7 @@ use Rattle.dir_model.specs.State.{DirState, empty_state, folder_at, stands, live
 use Rattle.dir_model.specs.Trace.{state_after, namespace_replied}
 use Rattle.dir_model.specs.Calls.{is_begin, is_kill, is_foreign}
 use Rattle.dir_model.proofs.Chains.{state_after-push}
-use Rattle.dir_model.proofs.Lists.{and_left, and_right, and_both, not_true, or_last}
+use Rattle.dir_model.proofs.Lists.{and_left, and_right, and_both, not_true, or_last, same_number}
 use Rattle.dir_model.proofs.Spots.{spot_self}
 use Rattle.dir_rules.specs.declared.seen.Seen.{Seen}
 use Rattle.dir_rules.specs.declared.standing.Held.{Held}
@@ -30,7 +34,7 @@ use Rattle.dir_rules.specs.Standing.{is_in, is_spot_of_pod, is_garbage, area_of,
 use Rattle.dir_rules.specs.LockRules.{on_spot, moved_in, holds_pod, may_lock_by, may_lock_own, may_lock_target}
 use Rattle.dir_rules.specs.Rules.{runs}
 use Rattle.dir_rules.specs.Conforms.{nothing_seen, seen_of, seen_replied}
-use Rattle.dir_rules.proofs.Standings.{standing_is}
+use Rattle.dir_rules.proofs.Standings.{standing_is, looked_holdings}
 use Rattle.dir_rules.proofs.Unborn.{unborn_saw_nothing}
 use Rattle.lifecycle.specs.declared.machine.PodState.{PodState}
 use Rattle.lifecycle.specs.declared.machine.PodState.TheVariants.{Absent, Embryo, Preparing, Prepared, Running, Exited, Deleting}
@@ -39,15 +43,15 @@ use Rattle.lifecycle.specs.declared.machine.Transition.TheVariants as turn
 use Rattle.lifecycle.specs.PodMachine.{after_transition, transition, exists, is_area_of_state, is_owner, pod_state, pod_state_next}
 use Rattle.lifecycle.specs.Executions.{IsConforming}
 use Rattle.lifecycle.proofs.Lists.{In, any_in, in_any, in_map, find_in}
-use Rattle.lifecycle.proofs.Handles.{both, clash, lock_free, nat_same}
-use Rattle.lifecycle.proofs.Linked.{Bare, own, looked_holdings, open_held}
+use Rattle.lifecycle.proofs.Handles.{lock_free}
+use Rattle.lifecycle.proofs.Linked.{Bare, own, open_held}
 use Rattle.lifecycle.proofs.Locks.{Lock, lock_of}
-use Rattle.lifecycle.proofs.Closes.{any_mapped, any_filtered, held_once}
+use Rattle.lifecycle.proofs.Closes.{any_mapped, held_once}
 use Rattle.lifecycle.proofs.Invariant.{may_own, grip_of, holding}
 use Rattle.lifecycle.proofs.Owners.{after_run, may_last, traced, is_move_of, same_moves, holder_owns}
 use Rattle.lifecycle.proofs.Stays.{machine_append}
 use Rattle.lifecycle.proofs.Phases.{stands_exists}
-use Rattle.lifecycle.proofs.Places.{name_same, same_name, moved_there, none_stands}
+use Rattle.lifecycle.proofs.Places.{same_name, moved_there, none_stands}
 use Rattle.lifecycle.proofs.Step.{stands_from}
 use Rattle.folder_contents.proofs.Along.{Happens, happens, along, whose, foreign_same, own_next, sound_at, linked_at, knows_at, pod_at}
 use Rattle.folder_contents.proofs.Knowledge.{lived}
@@ -86,7 +90,7 @@ module _ (h : List Event) (p : ℕ) (conforming : IsConforming h) (u : List ℕ)
   run_state living running there = by (pod_state u h) refl owner (past x.1)
     where
       x : (holds_own u s.standing ≡ true) × (on_spot (λ spot. is_in area.Run spot.area) (last_move_of u s.standing.moves) ≡ true)
-      x = both (holds_own u s.standing) (on_spot (λ spot. is_in area.Run spot.area) (last_move_of u s.standing.moves)) running
+      x = and_parts (holds_own u s.standing) (on_spot (λ spot. is_in area.Run spot.area) (last_move_of u s.standing.moves)) running
 
       moved : moved_in u s.standing ≡ true
       moved = let y = last_run s u x.1 in ap (on_spot (λ spot. is_in area.Prepare spot.area || is_in area.Run spot.area)) y.1.0
@@ -109,7 +113,7 @@ module _ (h : List Event) (p : ℕ) (conforming : IsConforming h) (u : List ℕ)
           let may = (pod_at u h conforming).owns a.0 a.1.0 a.1.1.1 in
           let garbage = and_right (a.0.process == o) (is_garbage (area_of a.0.target)) (subst (λ (z : PodState). may_own z a.0.process (area_of a.0.target) ≡ true) e may) in
           let y = open_held p n s.standing a.0 (linked_at p h conforming living) a.1.0 a.1.1.0 in
-          let g = both (is_own_of u a.0.target) (is_exclusive a.0.lock) a.1.1.1 in
+          let g = and_parts (is_own_of u a.0.target) (is_exclusive a.0.lock) a.1.1.1 in
           kinds_apart starts is_remover no_starter s.standing.intent (starter x.1)
           (fit a.0.target a.0.lock g.0 g.1 garbage (subst (λ (b : Bare). is_fit s.standing.intent b.target b.lock ≡ true) y.1.1 (fits h conforming p y.0 y.1.0)))
         where
@@ -122,7 +126,7 @@ module _ (h : List Event) (p : ℕ) (conforming : IsConforming h) (u : List ℕ)
           fit (Gate a) l of on g k = cc
 
       by : (z : PodState) → pod_state u h ≡ z → is_owner p z ≡ true → after_run z p ≡ true → z ≡ Running p
-      by (Running o) e own after = ap Running (sym (nat_same p o own))
+      by (Running o) e own after = ap Running (sym (same_number p o own))
       by (Preparing o) e own after = cc
       by (Deleting o f) e own after = absurd (deleter o f e)
       by z e own after = cc
@@ -151,11 +155,11 @@ own_gained h p u request reply x last had = go request reply x had
         refused (Own spot) same of may = at spot.area may
           where
             name : spot.name ≡ u
-            name = name_same spot.name u (and_right (is_stage spot.area) (bytes_eq spot.name u) of)
+            name = same_text spot.name u (and_right (is_stage spot.area) (bytes_eq spot.name u) of)
 
             at : (a : Area) → may_lock_own (seen_of p h).standing lock.held.covered spot.name a Exclusive ≡ true → ⊥
             at area.Embryo g =
-                let y = both (seen_of p h).standing.embryo_under_lock (draws spot.name (seen_of p h).standing) g in
+                let y = and_parts (seen_of p h).standing.embryo_under_lock (draws spot.name (seen_of p h).standing) g in
                 never (Embryo p) ((knows_at u p h x.conforming x.living).embryo_under_lock y.0 (subst (λ (v : List ℕ). draws v (seen_of p h).standing ≡ true) name y.1)) refl
             at area.Prepared g = never Prepared ((knows_at u p h x.conforming x.living).covered lock.held lock.known
                 (subst (λ (t : Target). is_own_of u t ≡ true) (sym same) of) (and_right (began_as is_run_prepared (seen_of p h).standing) lock.held.covered g)).0 refl
@@ -209,7 +213,7 @@ pub runs_before : (h : List Event) (p : ℕ) (u : List ℕ) (request : Request) 
     runs (seen_replied (seen_of p h) request reply) u ≡ true → runs (seen_of p h) u ≡ true
 runs_before h p u request reply x off r =
     let k = (seen_of p h).standing in
-    let z = both (holds_own u (standing_replied k request reply)) (on_spot (λ spot. is_in area.Run spot.area) (last_move_of u (standing_replied k request reply).moves)) r in
+    let z = and_parts (holds_own u (standing_replied k request reply)) (on_spot (λ spot. is_in area.Run spot.area) (last_move_of u (standing_replied k request reply).moves)) r in
     let last = ap (on_spot (λ spot. is_in area.Run spot.area)) (sym (same_moves u k request reply off)) ∙ z.1 in
     and_both (holds_own u k) (on_spot (λ spot. is_in area.Run spot.area) (last_move_of u k.moves)) (own_gained h p u request reply x last z.0) last
 

@@ -1,7 +1,8 @@
 -- A deletion of a folder that stood there meets no answer that its lock doesn't explain but by what a started app wrote.
-use Rattle.std.proofs.Common.{◌≡◌, ◌⊎◌, inl, inr, ℕ, Bool, true, false, not, ◌&&◌, ◌||◌, ◌==◌, Some, List, [], ◌∷◌, ◌++◌, append_assoc, refl, sym, ap, subst, ◌∙◌}
+use Rattle.std.proofs.Common.{◌≡◌, ◌⊎◌, inl, inr, ℕ, Bool, true, false, not, ◌||◌, ◌==◌, Some, List, [], ◌∷◌, ◌++◌, append_assoc, refl, sym, ap, subst, ◌∙◌}
 use Rattle.std.specs.List.{AllByRecursion}
 use Rattle.std.proofs.lemmas.List.{append_cancel_left}
+use Rattle.plain_laws.proofs.Booleans.{clash, no_more}
 use Rattle.dir_model.specs.declared.event.Event.{Event}
 use Rattle.dir_model.specs.declared.item.Inner.{Inner}
 use Rattle.dir_model.specs.declared.spot.Mode.TheVariants.{Shared}
@@ -18,7 +19,7 @@ use Rattle.dir_model.specs.Replies.{is_reply, is_late_reply, is_look_at}
 use Rattle.dir_model.specs.State.{DirState, folder_at, lives, spot_eq, stands}
 use Rattle.dir_model.specs.Trace.{state_after}
 use Rattle.dir_model.proofs.Chains.{state_after-push}
-use Rattle.dir_model.proofs.Lists.{all_both, all_left, all_right, all_weaker, or_map, or_second, same_self}
+use Rattle.dir_model.proofs.Lists.{all_both, all_left, all_right, all_weaker, or_map, or_second, same_self, same_number as nat_same}
 use Rattle.dir_model.proofs.Moments.{some_number}
 use Rattle.dir_rules.specs.declared.seen.Seen.{Seen}
 use Rattle.dir_rules.specs.declared.standing.Standing.{Standing}
@@ -29,7 +30,6 @@ use Rattle.dir_rules.specs.Rules.{root_of, is_item_shown, is_file_item}
 use Rattle.dir_rules.proofs.Tied.{meanwhile_unseen, lived_meanwhile, tied_call}
 use Rattle.lifecycle.specs.Executions.{IsConforming}
 use Rattle.lifecycle.proofs.Draws.{conforming_left}
-use Rattle.lifecycle.proofs.Handles.{clash, nat_same}
 use Rattle.lifecycle.proofs.Lists.{In, in_any}
 use Rattle.folder_contents.proofs.Spots.{one_location}
 use Rattle.folder_removal.specs.Known.{HasAsked, IsListingDue, StrayKnowing}
@@ -60,18 +60,14 @@ wrote_within {me} {a} {b} {c} {d} more rest later earlier w = record {
   app = w.app;
 }
 
-never_both : (b : Bool) → (b && false) ≡ true → ⊥
-never_both true h = cc
-never_both false h = cc
-
 -- such an answer is told by a step
 pub stray_told : (request : Request) (reply : Reply) → is_stray_deletion request reply ≡ true → is_late_reply request reply ≡ true → ⊥
-stray_told (ListIn i) (Refused Missing left) stray late = never_both (left == 0) late
-stray_told (RemoveFileIn i) (Refused Missing left) stray late = never_both (left == 0) late
-stray_told (RemoveDirIn i) (Refused Missing left) stray late = never_both (left == 0) late
-stray_told (RemoveDirIn i) (Refused NotEmpty left) stray late = never_both (left == 0) late
-stray_told (RemoveFolder s) (Refused Missing left) stray late = never_both (left == 0) late
-stray_told (RemoveFolder s) (Refused NotEmpty left) stray late = never_both (left == 0) late
+stray_told (ListIn i) (Refused Missing left) stray late = no_more (left == 0) late
+stray_told (RemoveFileIn i) (Refused Missing left) stray late = no_more (left == 0) late
+stray_told (RemoveDirIn i) (Refused Missing left) stray late = no_more (left == 0) late
+stray_told (RemoveDirIn i) (Refused NotEmpty left) stray late = no_more (left == 0) late
+stray_told (RemoveFolder s) (Refused Missing left) stray late = no_more (left == 0) late
+stray_told (RemoveFolder s) (Refused NotEmpty left) stray late = no_more (left == 0) late
 stray_told (ListIn i) (Items items) stray late = cc
 stray_told request reply stray late = cc
 

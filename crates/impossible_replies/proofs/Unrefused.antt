@@ -1,6 +1,8 @@
 -- What is made in a folder comes to a new path in a directory that stands, and what is appended to is a file that stands.
 use Rattle.std.proofs.Common.{arith, ◌≡◌, ℕ, Bool, true, false, not, ◌&&◌, ◌||◌, ◌==◌, cond, nat_le, nat_lt, Option, Some, None, is_some, List, length, codes, refl, sym, ap, subst, ◌∙◌}
 use Rattle.std.proofs.lemmas.Bool.Decides.{nat_tests}
+use Rattle.std.proofs.lemmas.Bool.{or_left}
+use Rattle.plain_laws.proofs.Booleans.{clash}
 use Rattle.dir_model.specs.declared.area.Area.{Area}
 use Rattle.dir_model.specs.declared.area.Area.TheVariants as area
 use Rattle.dir_model.specs.declared.item.Inner.{Inner}
@@ -24,8 +26,7 @@ use Rattle.dir_rules.specs.Standing.{began_as, is_remover}
 use Rattle.dir_rules.specs.LockRules.{lock_rules_allow}
 use Rattle.dir_rules.specs.Rules.{allows, content_rules_allow, makes_here, may_make_dir, may_make_file_in, may_append_in, may_make_entry, may_note, may_mark, has_note, runs, spares_deleted_pod, of_making, has_file_among as makes_file}
 use Rattle.dir_rules.specs.Conforms.{seen_of}
-use Rattle.lifecycle.proofs.Handles.{clash, none_refused}
-use Rattle.lifecycle.proofs.Lists.{or_left}
+use Rattle.lifecycle.proofs.Handles.{none_refused}
 use Rattle.folder_contents.specs.Filled.{is_after_handover}
 use Rattle.folder_contents.proofs.Notes.{make_note}
 use Rattle.impossible_replies.proofs.Alongside.{Steps}

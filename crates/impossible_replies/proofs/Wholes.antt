@@ -1,7 +1,11 @@
 -- A pod comes to run with its directory for statuses, and with nothing that is named as a note. The directory stays, and no
 -- directory gets such a name.
-use Rattle.std.proofs.Common.{arith, ◌≡◌, ◌⊎◌, inl, inr, ◌≤◌, ℕ, Bool, true, false, not, ◌&&◌, ◌||◌, cond, bytes_eq, nat_lt, Some, None, unwrap_or, List, [], ◌∷◌, ◌++◌, length, drop, codes, append-nil, refl, sym, ap, subst, ◌∙◌}
+use Rattle.std.proofs.Common.{arith, ◌≡◌, ◌⊎◌, inl, inr, ◌≤◌, ℕ, Bool, true, false, not, ◌&&◌, ◌||◌, cond, bytes_eq, nat_lt, Some, None, List, [], ◌∷◌, ◌++◌, length, drop, codes, append-nil, refl, sym, ap, subst, ◌∙◌}
 use Rattle.std.specs.List.{list_any}
+use Rattle.std.proofs.lemmas.Bool.{and_parts}
+use Rattle.plain_laws.proofs.Booleans.{clash}
+use Rattle.plain_laws.proofs.Texts.{same_text}
+use Rattle.plain_laws.proofs.Numbers.{one_number}
 use Rattle.dir_model.specs.declared.area.Area.{Area}
 use Rattle.dir_model.specs.declared.area.Area.TheVariants as area
 use Rattle.dir_model.specs.declared.event.Event.{Event}
@@ -32,9 +36,8 @@ use Rattle.lifecycle.specs.declared.machine.PodState.TheVariants.{Preparing, Abo
 use Rattle.lifecycle.specs.PodMachine.{pod_state, is_area_of_state, pod_progress}
 use Rattle.lifecycle.specs.Executions.{IsConforming}
 use Rattle.lifecycle.proofs.Lists.{In, any_in, in_any}
-use Rattle.lifecycle.proofs.Handles.{both, clash}
 use Rattle.lifecycle.proofs.Opens.{found_pod}
-use Rattle.lifecycle.proofs.Places.{name_same, moved_there, none_stands}
+use Rattle.lifecycle.proofs.Places.{moved_there, none_stands}
 use Rattle.lifecycle.proofs.Step.{stands_from}
 use Rattle.folder_contents.specs.Entries.{entries_in}
 use Rattle.folder_contents.specs.Handing.{hands_over, then_moved}
@@ -66,7 +69,7 @@ named_late path note = by (is_started_mark path) (is_status_file path) refl refl
   where
     by : (a b : Bool) → is_started_mark path ≡ a → is_status_file path ≡ b → (a || b) ≡ true → (is_below_status path ≡ true) ⊎ (is_later_mark path ≡ true)
     by true b e f h =
-        let x = both (begins mark_prefix path && nat_lt 8 (length path)) (not (has_slash path)) e in
+        let x = and_parts (begins mark_prefix path && nat_lt 8 (length path)) (not (has_slash path)) e in
         inr (ap (λ c. cond c false (cond (begins mark_prefix path) true (begins (codes "marked-") path))) (not_true (has_slash path) x.1)
         ∙ ap (λ c. cond c true (begins (codes "marked-") path)) (and_left (begins mark_prefix path) (nat_lt 8 (length path)) x.0))
     by false true e f h =
@@ -87,9 +90,9 @@ unnamed es below later path note = by (has_path_among path es) refl
 
         late : (is_below_status path ≡ true) ⊎ (is_later_mark path ≡ true) → true ≡ false
         late (inl h) = clash (list_any (λ e. is_below_status e.path) es)
-            (in_any (λ e. is_below_status e.path) x.0 es x.1.0 (ap is_below_status (name_same x.0.path path x.1.1) ∙ h)) below
+            (in_any (λ e. is_below_status e.path) x.0 es x.1.0 (ap is_below_status (same_text x.0.path path x.1.1) ∙ h)) below
         late (inr h) = clash (list_any (λ e. is_later_mark e.path) es)
-            (in_any (λ e. is_later_mark e.path) x.0 es x.1.0 (ap is_later_mark (name_same x.0.path path x.1.1) ∙ h)) later
+            (in_any (λ e. is_later_mark e.path) x.0 es x.1.0 (ap is_later_mark (same_text x.0.path path x.1.1) ∙ h)) later
 
 whole_pod : (m : Making) → is_whole_pod m ≡ true → Whole m.entries
 whole_pod m whole = record {
@@ -104,10 +107,10 @@ whole_pod m whole = record {
     later = list_any (λ e. is_later_mark e.path) m.entries
 
     b : (has_dir_among status_directory m.entries ≡ true) × ((not below && not later) ≡ true)
-    b = both (has_dir_among status_directory m.entries) (not below && not later) (and_right (is_all_done m) _ whole)
+    b = and_parts (has_dir_among status_directory m.entries) (not below && not later) (and_right (is_all_done m) _ whole)
 
     c : (below ≡ false) × (later ≡ false)
-    c = (not_true below (both (not below) (not later) b.1).0, not_true later (both (not below) (not later) b.1).1)
+    c = (not_true below (and_parts (not below) (not later) b.1).0, not_true later (and_parts (not below) (not later) b.1).1)
 
 young : (a : Area) (z : PodState) → (is_in area.Prepare a || is_in area.Prepared a) ≡ true → is_area_of_state a z ≡ true → 5 ≤ pod_progress z → ⊥
 young area.Prepare (Preparing o) on h l = absurd (omega (arith, l))
@@ -116,9 +119,6 @@ young area.Prepare z on h l = cc
 young area.Prepared Prepared on h l = absurd (omega (arith, l))
 young area.Prepared z on h l = cc
 young a z on h l = cc
-
-one_number : (f k : ℕ) → Some f ≡ Some k → f ≡ k
-one_number f k e = ap (λ o. unwrap_or o f) e
 
 -- what comes to run comes whole, from prepare or prepared
 pub comes_whole : (h : List Event) (p : ℕ) (from to : Spot) → IsConforming (then_moved h p from to) → to.area ≡ area.Run → (k : ℕ) →

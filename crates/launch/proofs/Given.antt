@@ -1,27 +1,16 @@
 -- Variables one after the other: which names came, and their last values.
 use Rattle.std.proofs.Common.{arith, ◌≡◌, ◌<◌, ℕ, zero, suc, Bool, true, false, not, ◌||◌, ◌==◌, bytes_eq, cond, Option, Some, None, is_some, unwrap_or, List, [], ◌∷◌, ◌++◌, map, filter, length, get_or, append-nil, refl, sym, ap, ◌∙◌}
-use Rattle.std.specs.List.{list_any}
 use Rattle.app_section.specs.declared.env_var.EnvVar.{EnvVar}
-use Rattle.dir_model.proofs.Lists.{filter_push, filter_past, map_push, same_self}
+use Rattle.dir_model.proofs.Lists.{filter_push, filter_past, map_push}
 use Rattle.std.proofs.lemmas.Bool.Decides.{nat_tests}
+use Rattle.plain_laws.proofs.Texts.{same_bytes}
+use Rattle.plain_laws.proofs.Lists.{any_added}
 use Rattle.launch.specs.Environment.{is_variable_named, has_variable, last_value, first_of_each_name, with_last, is_reserved_variable, path_name, default_path, search_path, variable, variable_of, variable_if_unreserved}
-
-any_last : {X : Type 0} (test : X → Bool) (xs : List X) (y : X) → list_any test (xs ++ y ∷ []) ≡ (list_any test xs || test y)
-any_last test [] y = by (test y)
-  where
-    by : (b : Bool) → (b || false) ≡ b
-    by true = refl
-    by false = refl
-any_last test (x ∷ xs) y = by (test x) (any_last test xs y)
-  where
-    by : (b : Bool) → list_any test (xs ++ y ∷ []) ≡ (list_any test xs || test y) → (b || list_any test (xs ++ y ∷ [])) ≡ ((b || list_any test xs) || test y)
-    by true h = refl
-    by false h = h
 
 pub last_value-push : (name : List ℕ) (vs : List EnvVar) (v : EnvVar) → last_value name (vs ++ v ∷ []) ≡ cond (is_variable_named v name) (Some v.value) (last_value name vs)
 last_value-push name [] v = refl
 last_value-push name (x ∷ vs) v =
-    rw (any_last (λ w. is_variable_named w name) vs v, last_value-push name vs v) (by (is_variable_named v name) (has_variable name vs))
+    rw (any_added (λ w. is_variable_named w name) vs v, last_value-push name vs v) (by (is_variable_named v name) (has_variable name vs))
   where
     first : Option (List ℕ)
     first = cond (is_variable_named x name) (Some x.value) None
@@ -43,10 +32,6 @@ search_path-push vs v = ap (λ o. unwrap_or o default_path) (last_value-push pat
 -- what some first variables give, where these are all
 abbrev pub given_of : List EnvVar → List EnvVar → List EnvVar
 given_of vs front = filter (λ v. not (is_reserved_variable v.name)) (map (with_last vs) (first_of_each_name front))
-
-bytes_self : (bs : List ℕ) → bytes_eq bs bs ≡ true
-bytes_self [] = refl
-bytes_self (b ∷ bs) = rw (same_self b) (bytes_self bs)
 
 number_turn : (a b : ℕ) → (a == b) ≡ (b == a)
 number_turn a b = grind (arith, nat_tests)
@@ -101,7 +86,7 @@ last_some name (x ∷ vs) h = by (has_variable name vs) (is_variable_named x nam
 
 came : (vs : List EnvVar) (i : ℕ) (d : EnvVar) → i < length vs → has_variable (get_or vs i d).name vs ≡ true
 came [] i d inside = absurd (omega (arith, inside))
-came (x ∷ vs) zero d inside = by (is_variable_named x x.name) (bytes_self x.name)
+came (x ∷ vs) zero d inside = by (is_variable_named x x.name) (same_bytes x.name)
   where
     by : (b : Bool) → b ≡ true → (b || has_variable x.name vs) ≡ true
     by true e = refl
@@ -171,7 +156,7 @@ module _ (vs front : List EnvVar) (v : EnvVar) where
 -- what is left of each name after a variable more
 pub left-push : (vs front : List EnvVar) (v : EnvVar) (name : List ℕ) →
     cond (bytes_eq v.name name) None (cond (has_variable name front) None (last_value name vs)) ≡ cond (has_variable name (front ++ v ∷ [])) None (last_value name vs)
-left-push vs front v name = sym (ap (λ b. cond b None (last_value name vs)) (any_last (λ w. is_variable_named w name) front v) ∙ by (has_variable name front) (is_variable_named v name))
+left-push vs front v name = sym (ap (λ b. cond b None (last_value name vs)) (any_added (λ w. is_variable_named w name) front v) ∙ by (has_variable name front) (is_variable_named v name))
   where
     by : (h n : Bool) → cond (h || n) None (last_value name vs) ≡ cond n None (cond h None (last_value name vs))
     by true true = refl

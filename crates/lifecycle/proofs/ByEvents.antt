@@ -1,5 +1,7 @@
 -- The machine by events alone is the machine by the namespace.
 use Rattle.std.proofs.Common.{◌≡◌, inl, inr, ℕ, Bool, true, false, not, ◌&&◌, ◌==◌, cond, Option, Some, None, List, [], ◌∷◌, ◌++◌, map, filter, find, refl, sym, ap, ◌∙◌}
+use Rattle.std.proofs.lemmas.Bool.{and_parts}
+use Rattle.plain_laws.proofs.Booleans.{clash}
 use Rattle.dir_model.specs.declared.spot.Handle.{Handle}
 use Rattle.dir_model.specs.declared.spot.Mode.{Mode}
 use Rattle.dir_model.specs.declared.spot.Mode.TheVariants.{Shared, Exclusive}
@@ -23,7 +25,7 @@ use Rattle.lifecycle.specs.declared.machine.Transition.{Transition}
 use Rattle.lifecycle.specs.declared.machine.Transition.TheVariants as turn
 use Rattle.lifecycle.specs.PodMachine.{after_transition, transition, transition_if, on_opening, is_deleter, is_exclusive_own, is_owner, is_gone}
 use Rattle.lifecycle.proofs.Lists.{In}
-use Rattle.lifecycle.proofs.Handles.{Sound, both, clash, handle_meet, held}
+use Rattle.lifecycle.proofs.Handles.{Sound, handle_meet, held}
 use Rattle.dir_model.specs.declared.event.Event.{Event}
 use Rattle.dir_model.specs.declared.item.Item.{Item}
 use Rattle.dir_model.specs.declared.request.DirError.{DirError}
@@ -230,7 +232,7 @@ watch_is_from : (u : List ℕ) (es : List Event) (n : DirState) (s : PodState) �
     { state = pod_state_from u n s es; grips = ours u (states_next n es).namespace.openings }
 watch_is_from u [] n s sound run = refl
 watch_is_from u (e ∷ es) n s sound run =
-    let x = both (is_allowed n e) (is_run_from (state_next n e) es) run in
+    let x = and_parts (is_allowed n e) (is_run_from (state_next n e) es) run in
     let y = allowed_parts n e x.0 in
     let next : watch_next u (record { state = s; grips = ours u n.namespace.openings }) e ≡ record
     { state = pod_state_next u n.namespace s e; grips = ours u (state_next n e).namespace.openings } =
@@ -243,7 +245,7 @@ watch_is_from u (e ∷ es) n s sound run =
     ∙ ap (λ (gs : List Grip). record { state = pod_state_next u n.namespace s e; grips = gs })
     (sym (grips_step u n.namespace e.process e.request e.reply)) in
     ap (λ (w : Watch). watch_from u w es) next ∙ watch_is_from u es (state_next n e) (pod_state_next u n.namespace s e)
-    (step_sound n e.process e.request e.reply (both (is_well_formed e.request)
+    (step_sound n e.process e.request e.reply (and_parts (is_well_formed e.request)
     (is_due n.namespace e.process e.request) y.0).1 y.1 sound) x.1
 
 -- in every run

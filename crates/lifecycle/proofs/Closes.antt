@@ -1,6 +1,10 @@
 -- What the process that gives up a handle goes on to know.
 use Rattle.std.proofs.Common.{arith, ◌≡◌, ◌⊎◌, inl, inr, ◌≤◌, ℕ, Bool, true, false, not, ◌&&◌, ◌||◌, ◌==◌, cond, bytes_eq, Option, Some, None, List, [], ◌∷◌, map, filter, refl, sym, ap, subst, ◌∙◌}
 use Rattle.std.specs.List.{list_any}
+use Rattle.std.proofs.lemmas.Bool.{and_parts}
+use Rattle.plain_laws.proofs.Booleans.{clash}
+use Rattle.plain_laws.proofs.Texts.{same_text}
+use Rattle.plain_laws.proofs.Lists.{any_filtered}
 use Rattle.dir_model.specs.declared.area.Area.TheVariants as area
 use Rattle.dir_model.specs.declared.spot.Handle.{Handle}
 use Rattle.dir_model.specs.declared.opening.Opening.{Opening}
@@ -21,10 +25,9 @@ use Rattle.lifecycle.specs.PodMachine.{without_owner, pod_progress, age_free}
 use Rattle.dir_rules.specs.declared.standing.Held.{Held}
 use Rattle.dir_rules.specs.declared.standing.Standing.{Standing}
 use Rattle.lifecycle.proofs.Lists.{In, in_map, in_filter, any_in, in_any}
-use Rattle.lifecycle.proofs.Handles.{Sound, both, clash, handle_meet}
+use Rattle.lifecycle.proofs.Handles.{Sound, handle_meet}
 use Rattle.lifecycle.proofs.Linked.{Bare, bare, own, Linked, held_open, linked_own}
 use Rattle.lifecycle.proofs.Invariant.{Cleared, Knows}
-use Rattle.lifecycle.proofs.Places.{name_same}
 use Rattle.dir_model.specs.declared.intent.Intent.{Intent}
 use Rattle.lifecycle.proofs.Ends.{without, ended_age}
 use Rattle.dir_model.proofs.Lists.{and_both, not_true, same_self}
@@ -33,9 +36,6 @@ pub any_mapped : {X : Type 0} (t : X → Bool) (f : X → X) (xs : List X) → (
     list_any t (map f xs) ≡ list_any t xs
 any_mapped t f [] same = refl
 any_mapped t f (x ∷ xs) same = rw (same x, any_mapped t f xs same) refl
-
-pub any_filtered : {X : Type 0} (t q : X → Bool) (xs : List X) → list_any t (filter q xs) ≡ true → list_any t xs ≡ true
-any_filtered t q xs h = let e = any_in t (filter q xs) h in let i = in_filter q e.0 xs e.1.0 in in_any t e.0 xs i.0 e.1.1
 
 -- one handle is known once
 pub held_once : (p : ℕ) (n : Namespace) (k : Standing) (h : Handle) (a b : Held) → Sound n → Linked p n k →
@@ -53,7 +53,7 @@ held_once p n k h a b sound linked i j x y =
 
 intends_own : (u : List ℕ) (k : Standing) (o : Option Intent) → draws_by u o ≡ true → holds_own u k ≡ true →
     intends (λ i. holds_own (pod_text i.draw.bytes) k) o ≡ true
-intends_own u k (Some i) d h = ap (λ (v : List ℕ). holds_own v k) (name_same (pod_text i.draw.bytes) u d) ∙ h
+intends_own u k (Some i) d h = ap (λ (v : List ℕ). holds_own v k) (same_text (pod_text i.draw.bytes) u d) ∙ h
 intends_own u k None d h = cc
 
 -- what isn't given up is still held
@@ -75,7 +75,7 @@ claim_kept : (u : List ℕ) (h : Handle) (hs : List Held) (t : Target) → is_ow
     gives_up_cover h hs t ≡ false → gives_up (is_claim_held u) h hs ≡ false
 claim_kept u h hs (Own spot) of c =
     ap (λ (v : List ℕ). gives_up (is_claim_held v) h hs)
-    (sym (name_same spot.name u (both (is_stage spot.area) (bytes_eq spot.name u) of).1)) ∙ c
+    (sym (same_text spot.name u (and_parts (is_stage spot.area) (bytes_eq spot.name u) of).1)) ∙ c
 claim_kept u h hs (Claim spot) of c = cc
 claim_kept u h hs (Gate a) of c = cc
 
@@ -121,8 +121,8 @@ pub close_knows : (u : List ℕ) (n : Namespace) (s t : PodState) (p : ℕ) (h :
     may_close k h ≡ true → Ended s t → Knows u p n s k → Knows u p (without n p h) t (standing_done k (Close h))
 close_knows u n s t p h k sound may ends knows = record {
   linked = linked_own p n k (Close h) Done refl knows.linked;
-  embryo_under_lock = λ g d. embryo_stays p s t ends (knows.embryo_under_lock (both (not gone) k.embryo_under_lock g).1 d);
-  gates = λ g. let x = both (not gone) k.embryo_under_lock g in again (is_gate_shared area.Embryo) (λ x. refl)
+  embryo_under_lock = λ g d. embryo_stays p s t ends (knows.embryo_under_lock (and_parts (not gone) k.embryo_under_lock g).1 d);
+  gates = λ g. let x = and_parts (not gone) k.embryo_under_lock g in again (is_gate_shared area.Embryo) (λ x. refl)
       ∙ kept_any (is_gate_shared area.Embryo) h k.holdings (knows.gates x.1) (not_true gone x.0);
   owned = λ e x. owning (embryo_was p s t ends e) (any_filtered (is_own_held u) (λ g. not (is_handle_held h g)) k.holdings
       (sym (again (is_own_held u) (λ x. refl)) ∙ x));
@@ -156,7 +156,7 @@ close_knows u n s t p h k sound may ends knows = record {
         g.covered ≡ true → (t ≡ Prepared) × (holds_claim u (standing_done k (Close h)) ≡ true)
     cover g (x, (i, e)) of c =
         let of' : is_own_of u x.target ≡ true = subst (λ (z : Held). is_own_of u z.target ≡ true) e of in
-        let c' = both (not (gives_up_cover h k.holdings x.target)) x.covered (subst (λ (z : Held). z.covered ≡ true) e c) in
+        let c' = and_parts (not (gives_up_cover h k.holdings x.target)) x.covered (subst (λ (z : Held). z.covered ≡ true) e c) in
         let j = in_filter (λ g. not (is_handle_held h g)) x k.holdings i in
         let z = knows.covered x j.0 of' c'.1 in (
           prepared_stays s t ends z.0,
@@ -171,7 +171,7 @@ close_knows u n s t p h k sound may ends knows = record {
         let c = knows.seen_unowned_under_claim (in_any (λ name. bytes_eq name u) v k.seen_unowned_under_claim j.0 is) in
         record {
           claim = again (is_claim_held u) (λ x. refl) ∙ kept_any (is_claim_held u) h k.holdings c.claim
-              (ap (λ (w : List ℕ). gives_up (is_claim_held w) h k.holdings) (sym (name_same v u is))
+              (ap (λ (w : List ℕ). gives_up (is_claim_held w) h k.holdings) (sym (same_text v u is))
               ∙ not_true (gives_up (is_claim_held v) h k.holdings) j.1);
           remover = c.remover;
           past = aged s t 4 ends c.past;

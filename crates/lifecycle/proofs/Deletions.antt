@@ -1,5 +1,8 @@
 -- What is removed of a pod, its owner removes, who deletes it; and a prepared pod is swept only where it is asked for.
 use Rattle.std.proofs.Common.{◌≡◌, ℕ, Bool, true, false, not, ◌&&◌, cond, bytes_eq, Option, Some, None, is_some, List, [], ◌∷◌, ◌++◌, append_assoc, refl, sym, ap, subst, ◌∙◌}
+use Rattle.std.proofs.lemmas.Bool.{and_parts}
+use Rattle.plain_laws.proofs.Booleans.{clash}
+use Rattle.plain_laws.proofs.Texts.{same_text}
 use Rattle.dir_model.specs.declared.area.Area.{Area}
 use Rattle.dir_model.specs.declared.area.Area.TheVariants as area
 use Rattle.dir_model.specs.declared.spot.Spot.{Spot}
@@ -30,8 +33,8 @@ use Rattle.lifecycle.specs.PodMachine.{pod_state, arrival, transition, is_area_o
 use Rattle.lifecycle.specs.Executions.{IsConforming}
 use Rattle.lifecycle.specs.Ownership.{is_removal_of}
 use Rattle.lifecycle.proofs.Lists.{In}
-use Rattle.lifecycle.proofs.Handles.{is_due, both, clash}
-use Rattle.lifecycle.proofs.Places.{name_same, same_name}
+use Rattle.lifecycle.proofs.Handles.{is_due}
+use Rattle.lifecycle.proofs.Places.{same_name}
 use Rattle.lifecycle.proofs.Linked.{own}
 use Rattle.lifecycle.proofs.Invariant.{Pod, Knows, may_own, grip_of, holding}
 use Rattle.lifecycle.proofs.Opens.{found_pod}
@@ -58,7 +61,7 @@ pub asked_at : (before : List Event) (p : ℕ) (request : Request) (reply : Repl
     lock_rules_allow (standing_of p before) request ≡ true
 asked_at before p request reply later l alive =
     ap (λ (s : Standing). lock_rules_allow s request) (sym (standing_is p before))
-    ∙ (both (lock_rules_allow (seen_of p before).standing request) (content_rules_allow (seen_of p before) request)
+    ∙ (and_parts (lock_rules_allow (seen_of p before).standing request) (content_rules_allow (seen_of p before) request)
     (allowed_at before p request reply later l alive)).0
 
 asked_by : (s : Seen) (from to : Spot) (x y : Area) → x ≡ area.Prepared → y ≡ area.Garbage →
@@ -73,15 +76,15 @@ pub sweep_asked : (before : List Event) (p : ℕ) (from to : Spot) (later : List
     to.area ≡ area.Garbage → has_asked_for_removal (seen_of p before) from.name ≡ true
 sweep_asked before p from to later l e f =
     let s = seen_of p before in
-    let may = (both (lock_rules_allow s.standing (MoveFolder from to)) (content_rules_allow s (MoveFolder from to))
+    let may = (and_parts (lock_rules_allow s.standing (MoveFolder from to)) (content_rules_allow s (MoveFolder from to))
     (allowed_at before p (MoveFolder from to) Done later l refl)).1 in
-    asked_by s from to from.area to.area e f (both (contents_allow_move s from to from.area to.area) _ may).0
+    asked_by s from to from.area to.area e f (and_parts (contents_allow_move s from to from.area to.area) _ may).0
 
 -- the reply was one of the state
 pub reply_at : (before : List Event) (p : ℕ) (request : Request) (reply : Reply) (later : List Event) →
     IsRun (before ++ event p request reply ∷ later) → is_reply (state_after before) p request reply ≡ true
 reply_at before p request reply later run =
-    let a = both (is_allowed (state_after before) (event p request reply))
+    let a = and_parts (is_allowed (state_after before) (event p request reply))
     (is_run_from (state_next (state_after before) (event p request reply)) later)
     (run_from-right empty_state before (event p request reply ∷ later) run) in
     (allowed_parts (state_after before) (event p request reply) a.0).1
@@ -89,11 +92,11 @@ reply_at before p request reply later run =
 due_at : (before : List Event) (p : ℕ) (request : Request) (reply : Reply) (later : List Event) →
     IsRun (before ++ event p request reply ∷ later) → is_due (state_after before).namespace p request ≡ true
 due_at before p request reply later run =
-    let a = both (is_allowed (state_after before) (event p request reply))
+    let a = and_parts (is_allowed (state_after before) (event p request reply))
     (is_run_from (state_next (state_after before) (event p request reply)) later)
     (run_from-right empty_state before (event p request reply ∷ later) run) in
     let b = allowed_parts (state_after before) (event p request reply) a.0 in
-    (both (is_well_formed request) (is_due (state_after before).namespace p request) b.0).1
+    (and_parts (is_well_formed request) (is_due (state_after before).namespace p request) b.0).1
 
 -- a removal in a pod whose folder stands there
 removal_deletes : (u : List ℕ) (before : List Event) (p : ℕ) (request : Request) (reply : Reply) (later : List Event)
@@ -122,11 +125,11 @@ removal_deletes u before p request reply later spot l on of there h =
     at = (found_pod u (state_after before).namespace s pod spot of there).0
 
     z : (is_garbage spot.area ≡ true) × (holds_own spot.name (standing_of p before) ≡ true)
-    z = removal_own (standing_of p before) spot (both (is_stage spot.area) (bytes_eq spot.name u) of).0 h
+    z = removal_own (standing_of p before) spot (and_parts (is_stage spot.area) (bytes_eq spot.name u) of).0 h
 
     holds : holds_own u (standing_of p before) ≡ true
     holds = ap (λ (v : List ℕ). holds_own v (standing_of p before))
-        (sym (name_same spot.name u (both (is_stage spot.area) (bytes_eq spot.name u) of).1)) ∙ z.1
+        (sym (same_text spot.name u (and_parts (is_stage spot.area) (bytes_eq spot.name u) of).1)) ∙ z.1
 
     o : (o : Opening) × (In o (state_after before).namespace.openings × ((o.process ≡ p) × (grip_of u (own o) ≡ true)))
     o = holding p (state_after before).namespace (standing_of p before) (grip_of u) knows.linked holds
@@ -201,12 +204,12 @@ sweep_wanted u before p request reply later l turns prepared = by (is_move_of u 
     moves : (from to : Spot) → IsConforming (before ++ event p (MoveFolder from to) Done ∷ later) → is_spot_of_pod u to ≡ true →
         arrival to.area ≡ Some turn.Sweep → has_asked_for_removal (seen_of p before) u ≡ true
     moves from to l of arrives =
-        let pods = both (is_stage to.area) (bytes_eq to.name u) of in
+        let pods = and_parts (is_stage to.area) (bytes_eq to.name u) of in
         let may = sym (ap (λ b. cond b (bytes_eq from.name to.name && locks_allow_move (standing_of p before) from.name
         from.area to.area) true) (or_last (is_stage from.area) (is_stage to.area) pods.0))
         ∙ asked_at before p (MoveFolder from to) Done later l refl in
-        let x = both (bytes_eq from.name to.name) (locks_allow_move (standing_of p before) from.name from.area to.area) may in
-        let name : from.name ≡ u = name_same from.name to.name x.0 ∙ name_same to.name u pods.1 in
+        let x = and_parts (bytes_eq from.name to.name) (locks_allow_move (standing_of p before) from.name from.area to.area) may in
+        let name : from.name ≡ u = same_text from.name to.name x.0 ∙ same_text to.name u pods.1 in
         let of_from : is_spot_of_pod u from ≡ true = and_both (is_stage from.area) (bytes_eq from.name u)
         (moves_pods (standing_of p before) from.name from.area to.area x.1).0 (same_name from.name u name) in
         let stand = stands_from (state_after before) p from to (reply_at before p (MoveFolder from to) Done later l.run) in

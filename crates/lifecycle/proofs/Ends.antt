@@ -1,6 +1,8 @@
 -- A handle is given up, and a process ends.
 use Rattle.std.proofs.Common.{arith, ◌≡◌, ◌⊎◌, inl, inr, ◌≤◌, ℕ, Bool, true, false, not, ◌&&◌, ◌==◌, cond, Option, Some, None, List, filter, refl, sym, ap, subst, ◌∙◌}
 use Rattle.std.proofs.lemmas.Bool.Decides.{nat_tests}
+use Rattle.std.proofs.lemmas.Bool.{and_parts}
+use Rattle.plain_laws.proofs.Booleans.{clash}
 use Rattle.dir_model.specs.declared.area.Area.{Area}
 use Rattle.dir_model.specs.declared.area.Area.TheVariants as area
 use Rattle.dir_model.specs.declared.spot.Spot.{Spot}
@@ -16,10 +18,10 @@ use Rattle.lifecycle.specs.declared.machine.Transition.TheVariants as turn
 use Rattle.lifecycle.specs.PodMachine.{enabled, without_owner, after_transition, undeleted, transition_if, on_opening, find_opening, is_exclusive_own, is_owner, is_area_of_state, pod_progress, age_in}
 use Rattle.dir_rules.specs.declared.standing.Standing.{Standing}
 use Rattle.lifecycle.proofs.Lists.{In, in_filter, filter_in, find_in, in_find, no_less}
-use Rattle.lifecycle.proofs.Handles.{Sound, both, clash, nat_same, handle_meet, held}
+use Rattle.lifecycle.proofs.Handles.{Sound, handle_meet, held}
 use Rattle.lifecycle.proofs.Linked.{own, mine}
 use Rattle.lifecycle.proofs.Invariant.{may_own, Pod, Knows, one_grip, others}
-use Rattle.dir_model.proofs.Lists.{and_both, not_true, same_self}
+use Rattle.dir_model.proofs.Lists.{and_both, not_true, same_self, same_number}
 
 -- what an end is in each state
 pub enabled_end : (p : ℕ) (s : PodState) → enabled turn.End p s ≡ is_owner p s
@@ -44,7 +46,7 @@ ends_or_not p s g = by (is_owner p s && g) refl
   where
     by : (b : Bool) → (is_owner p s && g) ≡ b → Ends p s g
     by true e =
-        let x = both (is_owner p s) g e in
+        let x = and_parts (is_owner p s) g e in
         inl (x, ap (λ b. after_transition (transition_if b turn.End) p s) e ∙ (ap (λ b. cond b (without_owner s) s) (enabled_end p s ∙ x.0)))
     by false e = inr (e, ap (λ b. after_transition (transition_if b turn.End) p s) e)
 
@@ -105,7 +107,7 @@ meet p q o h k = grind (arith, nat_tests)
 pub owner_owns : (p q : ℕ) (s : PodState) (a : Area) → is_owner p s ≡ true → may_own s q a ≡ true → q ≡ p
 owner_owns p q (Preparing o) a h k = meet p q o h k
 owner_owns p q (Running o) a h k = meet p q o h k
-owner_owns p q (Deleting o f) a h k = meet p q o h (both (q == o) (is_garbage a) k).0
+owner_owns p q (Deleting o f) a h k = meet p q o h (and_parts (q == o) (is_garbage a) k).0
 owner_owns p q s a h k = cc
 
 pub one_owner : (p q : ℕ) (s : PodState) → is_owner p s ≡ true → is_owner q s ≡ true → q ≡ p
@@ -159,7 +161,7 @@ end_pod u n s p pod = by (is_owner p s) refl
   where
     apart : (q : ℕ) (b : Bool) → is_owner p s ≡ false → is_owner q s ≡ true → (q == p) ≡ b → (q == p) ≡ false
     apart q false off h e = e
-    apart q true off h e = clash (is_owner p s) (subst (λ (x : ℕ). is_owner x s ≡ true) (nat_same q p e) h) off
+    apart q true off h e = clash (is_owner p s) (subst (λ (x : ℕ). is_owner x s ≡ true) (same_number q p e) h) off
 
     by : (b : Bool) → is_owner p s ≡ b → Pod u (without_process n p) (after_transition (transition_if b turn.End) p s)
     by true is = subst (λ (t : PodState). Pod u (without_process n p) t)
@@ -232,7 +234,7 @@ close_pod u n s p h sound pod = by (ends_or_not p s (on_opening (is_exclusive_ow
         is_handle p h o ≡ false
     stays q o off own i g is false e = e
     stays q o off own i g is true e =
-        let same : o.process ≡ p = nat_same o.process p (both (o.process == p) (o.handle.number == h.number) e).0 in
+        let same : o.process ≡ p = same_number o.process p (and_parts (o.process == p) (o.handle.number == h.number) e).0 in
         absurd (both_true (is_owner p s) (on_opening (is_exclusive_own u) (find_opening n p h))
         (subst (λ (x : ℕ). is_owner x s ≡ true) (sym is ∙ same) own) (look_finds n p h (is_exclusive_own u) o sound i e g)
         off)

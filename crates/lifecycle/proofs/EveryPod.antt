@@ -1,5 +1,6 @@
 -- What every conforming execution keeps of every pod.
 use Rattle.std.proofs.Common.{◌≡◌, ℕ, true, ◌==◌, Some, List, ◌∷◌, ◌++◌, refl, sym, ap, subst, ◌∙◌}
+use Rattle.std.proofs.lemmas.Bool.{and_parts}
 use Rattle.dir_model.specs.declared.event.Event.{Event}
 use Rattle.dir_model.specs.declared.request.Reply.{Reply}
 use Rattle.dir_model.specs.State.{lives}
@@ -16,7 +17,6 @@ use Rattle.lifecycle.specs.declared.machine.Transition.TheVariants.{Sweep}
 use Rattle.lifecycle.specs.PodMachine.{enabled, exists, is_area_of_state, is_owner, is_being_deleted, owner_of, pod_state}
 use Rattle.lifecycle.specs.Executions.{IsConforming}
 use Rattle.lifecycle.specs.Ownership.{is_requested_if_discarded, TransitionsAreEnabled, StandsWhereItExists, PlaceTellsPhase, holds, IsHeldByItsOwner, ShowsPod, NamesOneFolder, GoesForward, IsRemovedByItsOwner, SweepsAreAsked}
-use Rattle.lifecycle.proofs.Handles.{both, nat_same}
 use Rattle.dir_rules.proofs.Standings.{standing_is}
 use Rattle.lifecycle.proofs.Draws.{conforming_left}
 use Rattle.lifecycle.proofs.Phases.{enabled_each, exists_stands, stands_exists, phase_of_place}
@@ -25,7 +25,7 @@ use Rattle.lifecycle.proofs.Places.{spot_turn}
 use Rattle.lifecycle.proofs.OneFolder.{on_place, single, number_there, number_stands}
 use Rattle.lifecycle.proofs.Stays.{one_folder, forward}
 use Rattle.lifecycle.proofs.Deletions.{removed_by_owner, sweep_asked, sweep_wanted}
-use Rattle.dir_model.proofs.Lists.{and_both, same_self}
+use Rattle.dir_model.proofs.Lists.{and_both, same_self, same_number}
 
 wanted : (t : Transition) (s : PodState) (seen : Seen) (name : List ℕ) →
     (t ≡ Sweep → s ≡ Prepared → has_asked_for_removal seen name ≡ true) → is_requested_if_discarded t s seen name ≡ true
@@ -55,9 +55,9 @@ pub place_tells_phase : (name : List ℕ) (trace : List Event) → IsConforming 
 place_tells_phase name trace conforming spot folder of at = phase_of_place name trace spot folder conforming of at
 
 owner_is : (p : ℕ) (s : PodState) → is_owner p s ≡ true → owner_of s ≡ Some p
-owner_is p (Preparing owner) h = ap Some (sym (nat_same p owner h))
-owner_is p (Running owner) h = ap Some (sym (nat_same p owner h))
-owner_is p (Deleting owner from) h = ap Some (sym (nat_same p owner h))
+owner_is p (Preparing owner) h = ap Some (sym (same_number p owner h))
+owner_is p (Running owner) h = ap Some (sym (same_number p owner h))
+owner_is p (Deleting owner from) h = ap Some (sym (same_number p owner h))
 owner_is p s h = cc
 
 is_the_owner : (p : ℕ) (s : PodState) → owner_of s ≡ Some p → is_owner p s ≡ true
@@ -81,7 +81,7 @@ held_by_its_owner name trace conforming p e = (owns_it, holds_it)
   where
     owns_it : holds p name trace ≡ true → owner_of (pod_state name trace) ≡ Some p
     owns_it h =
-        let x = both (lives (state_after trace).namespace p) (owns_pod (seen_of p trace) name) h in
+        let x = and_parts (lives (state_after trace).namespace p) (owns_pod (seen_of p trace) name) h in
         owner_is p (pod_state name trace) (holder_owns name trace p conforming e x.0
         (ap (holds_pod name) (sym (standing_is p trace)) ∙ x.1))
 

@@ -1,5 +1,7 @@
 -- A pod only gets further along; until it leaves an area its folder stands there.
 use Rattle.std.proofs.Common.{arith, ◌≡◌, ◌≤◌, ℕ, Bool, true, false, cond, bytes_eq, Option, Some, None, is_some, List, [], ◌∷◌, refl, ap, ◌∙◌}
+use Rattle.std.proofs.lemmas.Bool.{and_parts}
+use Rattle.plain_laws.proofs.Booleans.{clash}
 use Rattle.dir_model.specs.declared.area.Area.{Area}
 use Rattle.dir_model.specs.declared.area.Area.TheVariants as area
 use Rattle.dir_model.specs.declared.spot.Spot.{Spot}
@@ -18,7 +20,7 @@ use Rattle.lifecycle.specs.declared.machine.Transition.{Transition}
 use Rattle.lifecycle.specs.declared.machine.Transition.TheVariants as turn
 use Rattle.lifecycle.specs.PodMachine.{enabled, leads, after_transition, transition, is_area_of_state, pod_progress, age_in}
 use Rattle.dir_rules.specs.declared.standing.Standing.{Standing}
-use Rattle.lifecycle.proofs.Handles.{both, clash, none_refused, refused_if}
+use Rattle.lifecycle.proofs.Handles.{none_refused, refused_if}
 use Rattle.lifecycle.proofs.Invariant.{placed_age}
 use Rattle.dir_model.specs.declared.event.Event.{Event}
 use Rattle.lifecycle.specs.PodMachine.{pod_state_next, pod_state_from}
@@ -189,7 +191,7 @@ stays_from u (e ∷ es) n s σ spot f good conforming of at bound =
     let up : pod_progress s ≤ pod_progress t = turned_on (transition u n.namespace s e.process e.request e.reply) e.process s in
     let top : pod_progress t ≤ pod_progress (pod_state_from u (state_next n e) t es) = ages u es (state_next n e) t in
     let there : is_area_of_state spot.area t ≡ true = between spot.area t
-    (both (is_stage spot.area) (bytes_eq spot.name u) of).0 (omega (arith, low, up)) (omega (arith, top, bound)) in
+    (and_parts (is_stage spot.area) (bytes_eq spot.name u) of).0 (omega (arith, low, up)) (omega (arith, top, bound)) in
     let stays : stands (state_next n e).namespace spot ≡ true =
     ap (λ (o : Option ℕ). is_some o) (next.inv.pod.at spot of ∙ ap (λ b. cond b (Some next.inv.pod.number) None)
     there) in

@@ -1,7 +1,8 @@
 -- The invariant: how a pod's state, the namespace, and what each process knows go together.
 use Rattle.std.proofs.Common.{arith, ◌≡◌, ◌⊎◌, ◌≤◌, ℕ, Bool, true, false, ◌&&◌, ◌==◌, cond, Option, Some, None, is_some, List, refl, sym, ap, ◌∙◌}
 use Rattle.std.specs.List.{list_any}
-use Rattle.std.proofs.lemmas.Bool.Decides.{nat_tests}
+use Rattle.std.proofs.lemmas.Bool.{and_parts}
+use Rattle.plain_laws.proofs.Numbers.{ranks_meet}
 use Rattle.dir_model.specs.declared.area.Area.{Area}
 use Rattle.dir_model.specs.declared.area.Area.TheVariants as area
 use Rattle.dir_model.specs.declared.spot.Spot.{Spot}
@@ -21,7 +22,7 @@ use Rattle.lifecycle.specs.PodMachine.{is_exclusive_own, is_owner, is_area_of_st
 use Rattle.dir_rules.specs.declared.standing.Held.{Held}
 use Rattle.dir_rules.specs.declared.standing.Standing.{Standing}
 use Rattle.lifecycle.proofs.Lists.{In, any_in, in_any, no_less}
-use Rattle.lifecycle.proofs.Handles.{Sound, both}
+use Rattle.lifecycle.proofs.Handles.{Sound}
 use Rattle.lifecycle.proofs.Linked.{Bare, bare, own, mine, Linked, held_open, open_held}
 use Rattle.dir_model.proofs.Lists.{same_self}
 
@@ -128,10 +129,7 @@ claim_lock u (Gate a) b f g number h k e i = cc
 claim_lock u (Claim s) (Own t) f g number h k e i = cc
 claim_lock u (Claim s) (Gate b) f g number h k e i = cc
 
-ranks_meet : (x y z : ℕ) → (x == y) ≡ true → (x == z) ≡ true → (y == z) ≡ true
-ranks_meet x y z h k = grind (arith, nat_tests)
-
-gate_lock : (here : Area) (a b : Target) (f g : Option ℕ) → is_gate_of here a ≡ true → is_gate_of here b ≡ true →
+pub gate_lock : (here : Area) (a b : Target) (f g : Option ℕ) → is_gate_of here a ≡ true → is_gate_of here b ≡ true →
     is_one_lock a f b g ≡ true
 gate_lock here (Gate a) (Gate b) f g h k = ranks_meet (rank here) (rank a) (rank b) h k
 gate_lock here (Own s) b f g h k = cc
@@ -143,8 +141,8 @@ gate_lock here (Gate a) (Claim s) f g h k = cc
 pub one_grip : (u : List ℕ) (n : Namespace) (s : PodState) → Sound n → Pod u n s → (a b : Opening) → In a n.openings →
     In b n.openings → is_exclusive_own u a ≡ true → is_exclusive_own u b ≡ true → a ≡ b
 one_grip u n s sound pod a b i j g h =
-    let x = both (is_own_of u a.target) (is_exclusive a.lock) g in
-    let y = both (is_own_of u b.target) (is_exclusive b.lock) h in
+    let x = and_parts (is_own_of u a.target) (is_exclusive a.lock) g in
+    let y = and_parts (is_own_of u b.target) (is_exclusive b.lock) h in
     sound.alone a b i j (own_lock u a.target b.target a.folder b.folder pod.number x.0 y.0
     (pod.named a i (own_named u a.target x.0)).0 (pod.named b j (own_named u b.target y.0)).0) x.1
     (some_exclusive b.lock y.1)
@@ -155,8 +153,8 @@ is_claim u o = is_claim_of u o.target && is_exclusive o.lock
 pub one_claim : (u : List ℕ) (n : Namespace) (s : PodState) → Sound n → Pod u n s → (a b : Opening) → In a n.openings →
     In b n.openings → is_claim u a ≡ true → is_claim u b ≡ true → a ≡ b
 one_claim u n s sound pod a b i j g h =
-    let x = both (is_claim_of u a.target) (is_exclusive a.lock) g in
-    let y = both (is_claim_of u b.target) (is_exclusive b.lock) h in
+    let x = and_parts (is_claim_of u a.target) (is_exclusive a.lock) g in
+    let y = and_parts (is_claim_of u b.target) (is_exclusive b.lock) h in
     sound.alone a b i j (claim_lock u a.target b.target a.folder b.folder pod.number x.0 y.0
     (pod.named a i (claim_named u a.target x.0)).0 (pod.named b j (claim_named u b.target y.0)).0) x.1
     (some_exclusive b.lock y.1)
@@ -202,8 +200,8 @@ pub gates_meet : {X : Type 0} (n : Namespace) (p q : ℕ) (k l : Standing) → S
 gates_meet n p q k l sound lk ll h j =
     let a = holding p n k gate_for lk h in
     let b = holding q n l gate_of ll j in
-    let x = both (is_gate_of area.Embryo a.0.target) (is_exclusive a.0.lock) a.1.1.1 in
-    let y = both (is_gate_of area.Embryo b.0.target) (is_shared b.0.lock) b.1.1.1 in
+    let x = and_parts (is_gate_of area.Embryo a.0.target) (is_exclusive a.0.lock) a.1.1.1 in
+    let y = and_parts (is_gate_of area.Embryo b.0.target) (is_shared b.0.lock) b.1.1.1 in
     let same : a.0 ≡ b.0 = sound.alone a.0 b.0 a.1.0 b.1.0 (gate_lock area.Embryo a.0.target b.0.target a.0.folder
     b.0.folder x.0 y.0) x.1 (some_shared b.0.lock y.1) in
     shared_or_not b.0.lock y.1 (ap (λ (o : Opening). is_exclusive o.lock) (sym same) ∙ x.1)

@@ -1,5 +1,7 @@
 -- Each lock that the rules allow: what it does to the pod.
 use Rattle.std.proofs.Common.{arith, ◌≡◌, ◌⊎◌, inl, inr, ◌≤◌, ℕ, Bool, true, false, not, ◌&&◌, ◌==◌, cond, Option, Some, None, is_some, List, map, refl, sym, ap, subst, ◌∙◌}
+use Rattle.std.proofs.lemmas.Bool.{and_parts}
+use Rattle.plain_laws.proofs.Booleans.{clash, off_right}
 use Rattle.dir_model.specs.declared.area.Area.{Area}
 use Rattle.dir_model.specs.declared.area.Area.TheVariants as area
 use Rattle.dir_model.specs.declared.spot.Handle.{Handle}
@@ -24,7 +26,7 @@ use Rattle.lifecycle.specs.PodMachine.{enabled, after_transition, deleted_from, 
 use Rattle.dir_rules.specs.declared.standing.Held.{Held}
 use Rattle.dir_rules.specs.declared.standing.Standing.{Standing}
 use Rattle.lifecycle.proofs.Lists.{In, map_in, any_in, in_any, no_less}
-use Rattle.lifecycle.proofs.Handles.{Sound, both, clash, nat_same, handle_meet, held, Was, locked_in, locked_is}
+use Rattle.lifecycle.proofs.Handles.{Sound, handle_meet, held, Was, locked_in, locked_is}
 use Rattle.lifecycle.proofs.Linked.{Bare, own, Linked}
 use Rattle.lifecycle.proofs.Invariant.{Pod, Ungripped, Knows, own_named, some_exclusive, claims_meet}
 use Rattle.lifecycle.proofs.Handles.{opposed_by_exclusive}
@@ -33,10 +35,9 @@ use Rattle.dir_model.specs.declared.intent.Kind.{Kind}
 use Rattle.dir_model.specs.declared.intent.Kind.TheVariants as kind
 use Rattle.lifecycle.proofs.Invariant.{own_lock}
 use Rattle.lifecycle.proofs.Makes.{of_name}
-use Rattle.lifecycle.proofs.Opens.{off_right}
 use Rattle.lifecycle.proofs.Closes.{held_once}
 use Rattle.lifecycle.proofs.Locks.{Lock, Locking, look_is, and_locked, Had, had_in}
-use Rattle.dir_model.proofs.Lists.{and_both, same_self}
+use Rattle.dir_model.proofs.Lists.{and_both, same_self, same_number}
 
 -- the opening that holds the lock is that one
 the_one : (p : ℕ) (n : Namespace) (k : Standing) (h : Handle) (m : Mode) → Sound n → (l : Lock p n k h m) →
@@ -50,7 +51,7 @@ grip_back : (u : List ℕ) (p : ℕ) (n : Namespace) (k : Standing) (h : Handle)
 grip_back u p n k h m sound l off o i g = by o (locked_in p h m n.openings o i) g
   where
     by : (o : Opening) → Was p h m n.openings o → is_exclusive_own u o ≡ true → In o n.openings
-    by o (a, (i, (inl e))) g = clash (is_own_of u o.target) (both (is_own_of u o.target) (is_exclusive o.lock) g).0
+    by o (a, (i, (inl e))) g = clash (is_own_of u o.target) (and_parts (is_own_of u o.target) (is_exclusive o.lock) g).0
         (ap (λ (x : Opening). is_own_of u x.target) e.1 ∙ (ap (λ (x : Opening). is_own_of u x.target)
         (the_one p n k h m sound l a i e.0) ∙ off))
     by o (a, (i, (inr e))) g = subst (λ (x : Opening). In x n.openings) (sym e.1) i
@@ -93,14 +94,14 @@ lock_elsewhere u p n s k h m sound pod knows l off = record {
   where
     not_mine : (o : Opening) → In o n.openings → is_exclusive_own u o ≡ true → (b : Bool) → is_handle p h o ≡ b → is_handle p h o ≡ false
     not_mine o i g false e = e
-    not_mine o i g true e = clash (is_own_of u o.target) (both (is_own_of u o.target) (is_exclusive o.lock) g).0
+    not_mine o i g true e = clash (is_own_of u o.target) (and_parts (is_own_of u o.target) (is_exclusive o.lock) g).0
         (ap (λ (x : Opening). is_own_of u x.target) (the_one p n k h m sound l o i e) ∙ off)
 
     had : (g : Held) → Had h m k.holdings g → is_own_held u g ≡ true → holds_own u k ≡ true
     had g (x, (i, (inl e))) t =
         let z = ap (λ (b : Bare). is_own_of u b.target) (held_once p n k h x l.held sound knows.linked i l.known e.0
         l.number ∙ l.same) in
-        clash (is_own_of u g.target) (both (is_own_of u g.target) (is_exclusive g.lock) t).0
+        clash (is_own_of u g.target) (and_parts (is_own_of u g.target) (is_exclusive g.lock) t).0
         (ap (λ (w : Held). is_own_of u w.target) e.1 ∙ (z ∙ off))
     had g (x, (i, (inr e))) t = in_any (is_own_held u) x k.holdings i (subst (λ (w : Held). is_own_held u w ≡ true) e.1 t)
 
@@ -113,9 +114,9 @@ nobody u p n s k h m sound pod l on a i = by (is_exclusive_own u a) (is_handle p
     by false c e f = e
     by true true e f = clash (is_some l.opening.lock) (ap (λ (x : Opening). is_some x.lock)
         (sym (the_one p n k h m sound l a i f)) ∙ some_exclusive a.lock
-        (both (is_own_of u a.target) (is_exclusive a.lock) e).1) l.free
+        (and_parts (is_own_of u a.target) (is_exclusive a.lock) e).1) l.free
     by true false e f =
-        let x = both (is_own_of u a.target) (is_exclusive a.lock) e in
+        let x = and_parts (is_own_of u a.target) (is_exclusive a.lock) e in
         clash (opposes m a.lock) (opposed_by_exclusive m a.lock x.1)
         (l.alone l.opening a l.there i l.mine f (own_lock u l.opening.target a.target l.opening.folder a.folder
         pod.number on x.0 (pod.named l.opening l.there (own_named u l.opening.target on)).0
@@ -175,7 +176,7 @@ just_me u p n h none o i g = by (locked_in p h Exclusive n.openings o i)
     by : Was p h Exclusive n.openings o → Only u p n h o
     by (a, (i, (inl e))) = (
       ap (λ (x : Opening). x.process) e.1
-          ∙ nat_same a.process p (both (a.process == p) (a.handle.number == h.number) e.0).0,
+          ∙ same_number a.process p (and_parts (a.process == p) (a.handle.number == h.number) e.0).0,
       (a, (i, (e.0, e.1))),
     )
     by (a, (i, (inr e))) = clash (is_exclusive_own u o) g (ap (is_exclusive_own u) e.1 ∙ none a i)
@@ -270,7 +271,7 @@ lock_garbage u p n s k h sound pod none l on there at = record {
     held Exclusive l.opening,
     (
       locked_it (locked_is p h Exclusive l.opening),
-      (and_both (is_own_of u l.opening.target) true on refl, l.process ∙ sym (nat_same q p own)),
+      (and_both (is_own_of u l.opening.target) true on refl, l.process ∙ sym (same_number q p own)),
     ),
   );
   owned = λ e x. not_embryo p s at e;
@@ -327,8 +328,8 @@ Rule k c v a = (((k.embryo_under_lock ≡ true) × (draws v k ≡ true)) × (is_
     ((((began_as is_run_prepared k ≡ true) × (c ≡ true)) × (is_garbage a ≡ false)) ⊎ (is_garbage a ≡ true))
 
 rule : (k : Standing) (c : Bool) (v : List ℕ) (a : Area) → may_lock_own k c v a Exclusive ≡ true → Rule k c v a
-rule k c v area.Embryo may = inl (both k.embryo_under_lock (draws v k) may, refl)
-rule k c v area.Prepared may = inr (inl (both (began_as is_run_prepared k) c may, refl))
+rule k c v area.Embryo may = inl (and_parts k.embryo_under_lock (draws v k) may, refl)
+rule k c v area.Prepared may = inr (inl (and_parts (began_as is_run_prepared k) c may, refl))
 rule k c v area.ExitedGarbage may = inr (inr refl)
 rule k c v area.Garbage may = inr (inr refl)
 rule k c v a may = cc

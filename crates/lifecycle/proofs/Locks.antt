@@ -1,6 +1,8 @@
 -- A lock is had.
 use Rattle.std.proofs.Common.{arith, ◌≡◌, ◌⊎◌, inl, inr, ◌≤◌, ℕ, Bool, true, false, not, ◌&&◌, ◌==◌, cond, Option, Some, None, is_some, List, map, refl, sym, ap, subst, ◌∙◌}
 use Rattle.std.specs.List.{list_any}
+use Rattle.std.proofs.lemmas.Bool.{and_parts}
+use Rattle.plain_laws.proofs.Booleans.{clash}
 use Rattle.dir_model.specs.declared.area.Area.{Area}
 use Rattle.dir_model.specs.declared.area.Area.TheVariants as area
 use Rattle.dir_model.specs.declared.spot.Handle.{Handle}
@@ -19,7 +21,7 @@ use Rattle.lifecycle.specs.PodMachine.{find_opening, is_exclusive_own, is_owner,
 use Rattle.dir_rules.specs.declared.standing.Held.{Held}
 use Rattle.dir_rules.specs.declared.standing.Standing.{Standing}
 use Rattle.lifecycle.proofs.Lists.{In, in_map, map_in, any_in, in_any, find_in, in_find}
-use Rattle.lifecycle.proofs.Handles.{Sound, both, clash, handle_meet, Was, locked_in, Unopposed, unopposed}
+use Rattle.lifecycle.proofs.Handles.{Sound, handle_meet, Was, locked_in, Unopposed, unopposed}
 use Rattle.lifecycle.proofs.Linked.{Bare, bare, own, mine, Linked, held_open}
 use Rattle.lifecycle.proofs.Invariant.{is_named, may_own, Pod, Ungripped, Knows, some_exclusive, some_shared, claim_of, gate_of, others}
 use Rattle.lifecycle.proofs.Closes.{held_once}
@@ -55,7 +57,7 @@ lock_of p n k h m sound linked free may = by (find_held h k) refl may
     by (Some y) e may =
         let f = find_in (is_handle_held h) y k.holdings e in
         let o = held_open p n k y linked f.0 in
-        let x = both (not (is_some y.lock)) (is_alone y k.holdings && may_lock_target k y.covered y.target m) may in
+        let x = and_parts (not (is_some y.lock)) (is_alone y k.holdings && may_lock_target k y.covered y.target m) may in
         record {
           held = y;
           opening = o.0;
@@ -70,7 +72,7 @@ lock_of p n k h m sound linked free may = by (find_held h k) refl may
           bare_free = not_true (is_some y.lock) x.0;
           free = ap (λ (b : Bare). is_some b.lock) (sym o.1.1.1) ∙ not_true (is_some y.lock) x.0;
           may = ap (λ (b : Bare). may_lock_target k y.covered b.target m) (sym o.1.1.1)
-              ∙ (both (is_alone y k.holdings) (may_lock_target k y.covered y.target m) x.1).1;
+              ∙ (and_parts (is_alone y k.holdings) (may_lock_target k y.covered y.target m) x.1).1;
           alone = unopposed n p h m sound free;
         }
     by None e may = cc
@@ -100,10 +102,10 @@ kept_lock p n k h m r sound linked lock some any =
         x))) e ∙ t)
 
 claim_some : (u : List ℕ) (b : Bare) → claim_of u b ≡ true → is_some b.lock ≡ true
-claim_some u b h = some_exclusive b.lock (both (is_claim_of u b.target) (is_exclusive b.lock) h).1
+claim_some u b h = some_exclusive b.lock (and_parts (is_claim_of u b.target) (is_exclusive b.lock) h).1
 
 gate_some : (b : Bare) → gate_of b ≡ true → is_some b.lock ≡ true
-gate_some b h = some_shared b.lock (both (is_gate_of area.Embryo b.target) (is_shared b.lock) h).1
+gate_some b h = some_shared b.lock (and_parts (is_gate_of area.Embryo b.target) (is_shared b.lock) h).1
 
 -- what a lock does
 pub record Locking (u : List ℕ) (p : ℕ) (n : Namespace) (s t : PodState) (k : Standing) (h : Handle) (m : Mode) : Type 0 where

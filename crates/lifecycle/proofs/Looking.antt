@@ -1,6 +1,7 @@
 -- What a process that looks for a pod finds is the pod's phase at one of its own steps.
 use Rattle.std.proofs.Common.{arith, ◌≡◌, ◌⊎◌, inl, inr, ◌≤◌, ◌<◌, ◌+◌, ℕ, Bool, true, false, Option, None, List, [], ◌∷◌, ◌++◌, refl, sym, ap, subst, ◌∙◌, append_assoc}
 use Rattle.std.specs.Prelude.{zero, suc}
+use Rattle.plain_laws.proofs.Booleans.{clash}
 use Rattle.dir_model.specs.declared.area.Area.{Area}
 use Rattle.dir_model.specs.declared.area.Area.TheVariants as area
 use Rattle.dir_model.specs.declared.area.Phase.{Phase}
@@ -16,7 +17,6 @@ use Rattle.lifecycle.specs.PodMachine.{pod_state, pod_phase, phase_of_state, exi
 use Rattle.lifecycle.specs.Executions.{IsConforming}
 use Rattle.lifecycle.specs.Ownership.{place_in}
 use Rattle.lifecycle.specs.Readings.{WasPhase, LocksTellPhases, IsMissedIn, stages_back, MissesTellGone}
-use Rattle.lifecycle.proofs.Handles.{clash}
 use Rattle.lifecycle.proofs.Draws.{conforming_left}
 use Rattle.lifecycle.proofs.Run.{good}
 use Rattle.lifecycle.proofs.Phases.{stands_in}

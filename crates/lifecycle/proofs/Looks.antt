@@ -1,6 +1,7 @@
 -- What a process that had Own shared goes on to know.
-use Rattle.std.proofs.Common.{arith, ◌≡◌, ◌⊎◌, inl, inr, ◌≤◌, ℕ, Bool, true, false, ◌&&◌, ◌||◌, ◌==◌, cond, bytes_eq, Option, Some, List, [], ◌∷◌, ◌++◌, refl, sym, ap, subst, ◌∙◌}
-use Rattle.std.specs.List.{list_any}
+use Rattle.std.proofs.Common.{arith, ◌≡◌, ◌⊎◌, inl, inr, ◌≤◌, ℕ, Bool, true, false, ◌&&◌, ◌||◌, ◌==◌, cond, bytes_eq, Option, Some, List, [], ◌∷◌, refl, sym, ap, subst, ◌∙◌}
+use Rattle.std.proofs.lemmas.Bool.{and_parts}
+use Rattle.plain_laws.proofs.Lists.{any_parts}
 use Rattle.dir_model.specs.declared.area.Area.{Area}
 use Rattle.dir_model.specs.declared.area.Area.TheVariants as area
 use Rattle.dir_model.specs.declared.spot.Handle.{Handle}
@@ -19,12 +20,12 @@ use Rattle.lifecycle.specs.PodMachine.{is_owner, pod_progress, age_in, age_free}
 use Rattle.dir_rules.specs.declared.standing.Held.{Held}
 use Rattle.dir_rules.specs.declared.standing.Standing.{Standing}
 use Rattle.lifecycle.proofs.Lists.{map_in}
-use Rattle.lifecycle.proofs.Handles.{Sound, both, nat_same}
+use Rattle.lifecycle.proofs.Handles.{Sound}
 use Rattle.lifecycle.proofs.Linked.{Bare}
 use Rattle.lifecycle.proofs.Invariant.{Pod, Cleared, Knows, own_named}
 use Rattle.lifecycle.proofs.Locks.{Lock, and_locked, and_held_in}
 use Rattle.lifecycle.proofs.LockCases.{nobody, unowned, lock_shared}
-use Rattle.dir_model.proofs.Lists.{and_both, same_self}
+use Rattle.dir_model.proofs.Lists.{and_both, same_self, same_number}
 
 abbrev free_number : ℕ → ℕ
 free_number r = cond (r == 0) 1 (cond (r == 1) 3 (cond (r == 2) 4 (cond (r == 3) 6 (cond (r == 4) 7 (cond (r == 5) 8 0)))))
@@ -34,7 +35,7 @@ free_is area.Embryo = refl
 free_is a = refl
 
 free_like : (a b : Area) → is_in a b ≡ true → age_free a ≡ age_free b
-free_like a b h = free_is a ∙ (ap free_number (nat_same (rank a) (rank b) h) ∙ sym (free_is b))
+free_like a b h = free_is a ∙ (ap free_number (same_number (rank a) (rank b) h) ∙ sym (free_is b))
 
 -- without an owner it is past the states that have one
 free_age : (a : Area) (s : PodState) → age_in a ≤ pod_progress s → ((q : ℕ) → is_owner q s ≡ true → ⊥) → age_free a ≤ pod_progress s
@@ -75,7 +76,7 @@ spot_of u a (Own spot) h = by (is_stage spot.area) refl h
     by : (b : Bool) → is_stage spot.area ≡ b → has_place u a (cond b (spot ∷ []) []) ≡ true →
         ((is_stage spot.area && bytes_eq spot.name u) ≡ true) × (is_in a spot.area ≡ true)
     by true e h =
-        let x = both (bytes_eq spot.name u) (is_in a spot.area) (or_false (bytes_eq spot.name u && is_in a spot.area) h)
+        let x = and_parts (bytes_eq spot.name u) (is_in a spot.area) (or_false (bytes_eq spot.name u && is_in a spot.area) h)
         in
         (and_both (is_stage spot.area) (bytes_eq spot.name u) e x.0, x.1)
     by false e h = cc
@@ -88,7 +89,7 @@ in_prepared_pod a h = cc
 
 remover_of : (k : Standing) (c : Bool) (v : List ℕ) (a : Area) → is_in area.Prepared a ≡ true →
     may_lock_own k c v a Shared ≡ true → began_as is_remover k ≡ true
-remover_of k c v area.Prepared h may = (both (began_as is_remover k) c may).0
+remover_of k c v area.Prepared h may = (and_parts (began_as is_remover k) c may).0
 remover_of k c v a h may = cc
 
 -- the pod whose Own was had shared under Claim
@@ -116,17 +117,6 @@ name_of u k true (Own spot) may h = by (is_in area.Prepared spot.area) refl h
 name_of u k true (Claim spot) may h = cc
 name_of u k true (Gate a) may h = cc
 
-any_either : {X : Type 0} (t : X → Bool) (xs ys : List X) → list_any t (xs ++ ys) ≡ true →
-    (list_any t xs ≡ true) ⊎ (list_any t ys ≡ true)
-any_either t [] ys h = inr h
-any_either t (x ∷ xs) ys h = by (t x) h (λ k. any_either t xs ys k)
-  where
-    by : (b : Bool) → (b || list_any t (xs ++ ys)) ≡ true →
-        (list_any t (xs ++ ys) ≡ true → (list_any t xs ≡ true) ⊎ (list_any t ys ≡ true)) →
-        ((b || list_any t xs) ≡ true) ⊎ (list_any t ys ≡ true)
-    by true h go = inl refl
-    by false h go = go h
-
 pub look_knows : (u : List ℕ) (p : ℕ) (n : Namespace) (s : PodState) (k : Standing) (h : Handle) → Sound n → Pod u n s →
     Knows u p n s k → (l : Lock p n k h Shared) → Knows u p (and_locked n p h Shared) s (and_held_in k h Shared) →
     Knows u p (and_locked n p h Shared) s (standing_done k (TryLock h Shared))
@@ -138,9 +128,9 @@ look_knows u p n s k h sound pod old l knows =
       gates = knows.gates;
       owned = knows.owned;
       covered = knows.covered;
-      looked = λ a x. places a (any_either (λ spot. bytes_eq spot.name u && is_in a spot.area) (own_spot l.held.target)
+      looked = λ a x. places a (any_parts (λ spot. bytes_eq spot.name u && is_in a spot.area) (own_spot l.held.target)
           k.looked x);
-      seen_unowned_under_claim = λ x. names (any_either (λ name. bytes_eq name u) (cond l.held.covered (prepared_name l.held.target) [])
+      seen_unowned_under_claim = λ x. names (any_parts (λ name. bytes_eq name u) (cond l.held.covered (prepared_name l.held.target) [])
           k.seen_unowned_under_claim x);
     })
   where

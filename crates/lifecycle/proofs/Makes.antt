@@ -19,12 +19,14 @@ use Rattle.lifecycle.specs.declared.machine.PodState.TheVariants.{Absent, Embryo
 use Rattle.lifecycle.specs.PodMachine.{is_area_of_state, age_in, age_free}
 use Rattle.dir_rules.specs.declared.standing.Standing.{Standing}
 use Rattle.lifecycle.proofs.Lists.{In}
-use Rattle.lifecycle.proofs.Handles.{both, clash, nat_same}
 use Rattle.lifecycle.proofs.Invariant.{is_named, Pod, Knows, own_named, others}
 use Rattle.std.specs.Prelude.{nat_le}
-use Rattle.lifecycle.proofs.Places.{name_same, same_name, area_same, spot_name, with_folders, made_there, made_elsewhere, none_stands}
+use Rattle.std.proofs.lemmas.Bool.{and_parts}
+use Rattle.plain_laws.proofs.Booleans.{clash}
+use Rattle.plain_laws.proofs.Texts.{same_text}
+use Rattle.lifecycle.proofs.Places.{same_name, area_same, spot_name, with_folders, made_there, made_elsewhere, none_stands}
 use Rattle.dir_model.specs.declared.intent.Intent.{Intent}
-use Rattle.dir_model.proofs.Lists.{and_both, not_true, same_self}
+use Rattle.dir_model.proofs.Lists.{and_both, not_true, same_self, same_number}
 
 -- equal locations are places of the same pod
 pub of_same : (u : List ℕ) (a b : Spot) → spot_eq a b ≡ true → is_spot_of_pod u a ≡ is_spot_of_pod u b
@@ -32,10 +34,10 @@ of_same u a b h = ap (λ r. nat_le r 5 && bytes_eq a.name u) (area_same a b h)
     ∙ ap (λ (v : List ℕ). is_stage b.area && bytes_eq v u) (spot_name a b h)
 
 pub of_name : (u : List ℕ) (a : Spot) → is_spot_of_pod u a ≡ true → a.name ≡ u
-of_name u a h = name_same a.name u (both (is_stage a.area) (bytes_eq a.name u) h).1
+of_name u a h = same_text a.name u (and_parts (is_stage a.area) (bytes_eq a.name u) h).1
 
 pub draws_meet : (u v : List ℕ) (o : Option Intent) → draws_by u o ≡ true → draws_by v o ≡ true → u ≡ v
-draws_meet u v (Some i) h k = sym (name_same (pod_text i.draw.bytes) u h) ∙ name_same (pod_text i.draw.bytes) v k
+draws_meet u v (Some i) h k = sym (same_text (pod_text i.draw.bytes) u h) ∙ same_text (pod_text i.draw.bytes) v k
 draws_meet u v None h k = cc
 
 embryo_place : (a : Area) (p : ℕ) → is_in area.Embryo a ≡ true → is_area_of_state a (Embryo p) ≡ true
@@ -60,8 +62,8 @@ pod_age area.Garbage h = omega arith
 pod_age a h = cc
 
 pub named_pod : (u : List ℕ) (t : Target) → is_named u t ≡ true → is_stage (area_of t) ≡ true
-named_pod u (Own spot) h = (both (is_stage spot.area) (bytes_eq spot.name u) h).0
-named_pod u (Claim spot) h = (both (is_stage spot.area) (bytes_eq spot.name u) h).0
+named_pod u (Own spot) h = (and_parts (is_stage spot.area) (bytes_eq spot.name u) h).0
+named_pod u (Claim spot) h = (and_parts (is_stage spot.area) (bytes_eq spot.name u) h).0
 named_pod u (Gate a) h = cc
 
 -- before it is made no handle was opened on it
@@ -86,11 +88,11 @@ pub made_by : (u : List ℕ) (k : Standing) (spot : Spot) → is_stage spot.area
     lock_rules_allow k (MakeFolder spot) ≡ true → Made u k spot
 made_by u k spot is may =
     let m : may_make k spot ≡ true = sym (ap (λ b. cond b (may_make k spot) true) is) ∙ may in
-    let x = both (is_in area.Embryo spot.area && draws spot.name k)
+    let x = and_parts (is_in area.Embryo spot.area && draws spot.name k)
     ((not k.made && began_as is_maker k) && shares_area area.Embryo k) m in
-    let y = both (is_in area.Embryo spot.area) (draws spot.name k) x.0 in
-    let z = both (not k.made && began_as is_maker k) (shares_area area.Embryo k) x.1 in
-    record { embryo = y.0; draws = y.1; first = not_true k.made (both (not k.made) (began_as is_maker k) z.0).0; gate = z.1 }
+    let y = and_parts (is_in area.Embryo spot.area) (draws spot.name k) x.0 in
+    let z = and_parts (not k.made && began_as is_maker k) (shares_area area.Embryo k) x.1 in
+    record { embryo = y.0; draws = y.1; first = not_true k.made (and_parts (not k.made) (began_as is_maker k) z.0).0; gate = z.1 }
 
 pub make_pod : (u : List ℕ) (n : Namespace) (p : ℕ) (spot : Spot) → stands n spot ≡ false → is_spot_of_pod u spot ≡ true →
     is_in area.Embryo spot.area ≡ true → Pod u n Absent → Pod u (and_folder n spot) (Embryo p)
@@ -98,7 +100,7 @@ make_pod u n p spot free of embryo pod = record {
   number = length n.folders;
   at = λ here is. by here is (spot_eq spot here) refl;
   named = λ o i h. unnamed u n pod o i h;
-  owns = λ o i h. unnamed u n pod o i (own_named u o.target (both (is_own_of u o.target) (is_exclusive o.lock) h).0);
+  owns = λ o i h. unnamed u n pod o i (own_named u o.target (and_parts (is_own_of u o.target) (is_exclusive o.lock) h).0);
   held = λ q h. absurd (cc);
 }
   where
@@ -107,7 +109,7 @@ make_pod u n p spot free of embryo pod = record {
 
     same : (here : Spot) → is_spot_of_pod u here ≡ true → is_in area.Embryo here.area ≡ true → spot_eq spot here ≡ true
     same here is e = and_both (rank spot.area == rank here.area) (bytes_eq spot.name here.name)
-        (ap (λ r. r == rank here.area) (sym (nat_same 0 (rank spot.area) embryo)) ∙ e)
+        (ap (λ r. r == rank here.area) (sym (same_number 0 (rank spot.area) embryo)) ∙ e)
         (same_name spot.name here.name (of_name u spot of ∙ sym (of_name u here is)))
 
     off : (here : Spot) → is_spot_of_pod u here ≡ true → spot_eq spot here ≡ false → (b : Bool) →

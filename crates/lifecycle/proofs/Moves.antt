@@ -1,6 +1,8 @@
 -- A folder is moved.
 use Rattle.std.proofs.Common.{arith, ◌≡◌, ◌⊎◌, inl, inr, ◌≤◌, ℕ, Bool, true, false, not, ◌&&◌, ◌==◌, cond, bytes_eq, Some, None, List, map, refl, sym, ap, subst, ◌∙◌}
 use Rattle.std.specs.List.{list_any}
+use Rattle.std.proofs.lemmas.Bool.{and_parts}
+use Rattle.plain_laws.proofs.Booleans.{clash}
 use Rattle.dir_model.specs.declared.area.Area.{Area}
 use Rattle.dir_model.specs.declared.area.Area.TheVariants as area
 use Rattle.dir_model.specs.declared.spot.Spot.{Spot}
@@ -19,13 +21,12 @@ use Rattle.lifecycle.specs.PodMachine.{enabled, after_transition, arrival, is_ex
 use Rattle.dir_rules.specs.declared.standing.Held.{Held}
 use Rattle.dir_rules.specs.declared.standing.Standing.{Standing}
 use Rattle.lifecycle.proofs.Lists.{In, in_map}
-use Rattle.lifecycle.proofs.Handles.{both, clash, nat_same}
 use Rattle.lifecycle.proofs.Linked.{Linked, linked_own}
 use Rattle.lifecycle.proofs.Invariant.{may_own, Pod, Knows, others}
 use Rattle.lifecycle.proofs.Places.{same_name, area_same, moved_there, moved_away, moved_elsewhere, none_stands}
 use Rattle.lifecycle.proofs.Closes.{any_mapped}
 use Rattle.lifecycle.proofs.Makes.{of_same, of_name}
-use Rattle.dir_model.proofs.Lists.{and_both, not_true, same_self}
+use Rattle.dir_model.proofs.Lists.{and_both, not_true, same_self, same_number}
 
 -- the number of the place where it stands
 abbrev place_rank : PodState → ℕ
@@ -63,8 +64,8 @@ pub place_like : (a b : Area) (s : PodState) → rank a ≡ rank b → is_area_o
 place_like a b s e = place_is a s ∙ (ap (λ r. r == place_rank s) e ∙ sym (place_is b s))
 
 pub place_once : (a b : Area) (s : PodState) → is_area_of_state a s ≡ true → is_area_of_state b s ≡ true → rank a ≡ rank b
-place_once a b s h k = nat_same (rank a) (place_rank s) (sym (place_is a s) ∙ h)
-    ∙ sym (nat_same (rank b) (place_rank s) (sym (place_is b s) ∙ k))
+place_once a b s h k = same_number (rank a) (place_rank s) (sym (place_is a s) ∙ h)
+    ∙ sym (same_number (rank b) (place_rank s) (sym (place_is b s) ∙ k))
 
 pub embryo_is : (s : PodState) → is_area_of_state area.Embryo s ≡ true → (m : ℕ) × (s ≡ Embryo m)
 embryo_is (Embryo m) h = (m, refl)
@@ -158,13 +159,13 @@ pub move_knows : (u : List ℕ) (n : Namespace) (s t : PodState) (p : ℕ) (from
     Knows u p n s k → Knows u p (and_moved n from to) t (standing_done k (MoveFolder from to))
 move_knows u n s t p from to k of_from of_to there arrives knows = record {
   linked = linked_own p n k (MoveFolder from to) Done refl knows.linked;
-  embryo_under_lock = λ g d. let x = both (not (is_in area.Embryo from.area && draws from.name k)) k.embryo_under_lock g in
+  embryo_under_lock = λ g d. let x = and_parts (not (is_in area.Embryo from.area && draws from.name k)) k.embryo_under_lock g in
       absurd (clash (is_in area.Embryo from.area && draws from.name k)
       (and_both (is_in area.Embryo from.area) (draws from.name k) (in_embryo from.area s p there (knows.embryo_under_lock x.1 d))
       (ap (λ (v : List ℕ). draws v k) (of_name u from of_from) ∙ d))
       (not_true (is_in area.Embryo from.area && draws from.name k) x.0));
   gates = λ g. same (is_gate_shared area.Embryo) (λ h. refl)
-      ∙ knows.gates (both (not (is_in area.Embryo from.area && draws from.name k)) k.embryo_under_lock g).1;
+      ∙ knows.gates (and_parts (not (is_in area.Embryo from.area && draws from.name k)) k.embryo_under_lock g).1;
   owned = λ e x. absurd (arrives.past_embryo p e);
   covered = λ h i x c. absurd (uncovered h (in_map (uncover from) k.holdings h i) x c);
   looked = λ a x. let l : age_free a ≤ pod_progress s = knows.looked a x in let g : pod_progress s ≤ pod_progress t = arrives.aged in omega (arith, l, g);
@@ -183,11 +184,11 @@ move_knows u n s t p from to k of_from of_to there arrives knows = record {
     uncovered : (h : Held) → (x : Held) × (In x k.holdings × (h ≡ uncover from x)) → is_own_of u h.target ≡ true →
         h.covered ≡ true → ⊥
     uncovered h (x, (i, e)) of c =
-        let y = both (not (is_stage from.area && is_own_of from.name x.target)) x.covered
+        let y = and_parts (not (is_stage from.area && is_own_of from.name x.target)) x.covered
         (subst (λ (z : Held). z.covered ≡ true) e c) in
         clash (is_stage from.area && is_own_of from.name x.target)
         (and_both (is_stage from.area) (is_own_of from.name x.target)
-        (both (is_stage from.area) (bytes_eq from.name u) of_from).0
+        (and_parts (is_stage from.area) (bytes_eq from.name u) of_from).0
         (ap (λ (v : List ℕ). is_own_of v x.target) (of_name u from of_from)
         ∙ subst (λ (z : Held). is_own_of u z.target ≡ true) e of))
         (not_true (is_stage from.area && is_own_of from.name x.target) y.0)
@@ -214,9 +215,9 @@ pub move_knows_other : (u : List ℕ) (n : Namespace) (s : PodState) (p : ℕ) (
     Knows u p (and_moved n from to) s (standing_done k (MoveFolder from to))
 move_knows_other u n s p from to k apart knows = record {
   linked = linked_own p n k (MoveFolder from to) Done refl knows.linked;
-  embryo_under_lock = λ g d. knows.embryo_under_lock (both (not (is_in area.Embryo from.area && draws from.name k)) k.embryo_under_lock g).1 d;
+  embryo_under_lock = λ g d. knows.embryo_under_lock (and_parts (not (is_in area.Embryo from.area && draws from.name k)) k.embryo_under_lock g).1 d;
   gates = λ g. same (is_gate_shared area.Embryo) (λ h. refl)
-      ∙ knows.gates (both (not (is_in area.Embryo from.area && draws from.name k)) k.embryo_under_lock g).1;
+      ∙ knows.gates (and_parts (not (is_in area.Embryo from.area && draws from.name k)) k.embryo_under_lock g).1;
   owned = λ e x. let y = knows.owned e (sym (same (is_own_held u) (λ h. refl)) ∙ x) in (
     and_both (not (is_in area.Embryo from.area && draws from.name k)) k.embryo_under_lock
         (unmoved y.1 (is_in area.Embryo from.area) (draws from.name k) refl refl) y.0,
@@ -245,7 +246,7 @@ move_knows_other u n s p from to k apart knows = record {
     cover : (h : Held) → (x : Held) × (In x k.holdings × (h ≡ uncover from x)) → is_own_of u h.target ≡ true →
         h.covered ≡ true → (s ≡ Prepared) × (holds_claim u (standing_done k (MoveFolder from to)) ≡ true)
     cover h (x, (i, e)) of c =
-        let y = both (not (is_stage from.area && is_own_of from.name x.target)) x.covered
+        let y = and_parts (not (is_stage from.area && is_own_of from.name x.target)) x.covered
         (subst (λ (z : Held). z.covered ≡ true) e c) in
         let z = knows.covered x i (subst (λ (z : Held). is_own_of u z.target ≡ true) e of) y.1 in
         (z.0, same (is_claim_held u) (λ h. refl) ∙ z.1)

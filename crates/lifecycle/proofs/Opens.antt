@@ -1,6 +1,9 @@
 -- A new handle.
 use Rattle.std.proofs.Common.{◌≡◌, ◌⊎◌, inl, inr, ◌≤◌, ℕ, Bool, true, false, ◌&&◌, ◌||◌, cond, bytes_eq, Option, Some, None, is_some, List, [], ◌∷◌, ◌++◌, refl, sym, ap, subst, ◌∙◌}
 use Rattle.std.specs.List.{list_any}
+use Rattle.std.proofs.lemmas.Bool.{and_parts}
+use Rattle.plain_laws.proofs.Booleans.{clash, off_right}
+use Rattle.plain_laws.proofs.Texts.{same_text}
 use Rattle.dir_model.specs.declared.area.Area.{Area}
 use Rattle.dir_model.specs.declared.area.Area.TheVariants as area
 use Rattle.dir_model.specs.declared.spot.Spot.{Spot}
@@ -23,10 +26,9 @@ use Rattle.lifecycle.specs.PodMachine.{is_exclusive_own, is_area_of_state, pod_p
 use Rattle.dir_rules.specs.declared.standing.Held.{Held}
 use Rattle.dir_rules.specs.declared.standing.Standing.{Standing}
 use Rattle.lifecycle.proofs.Lists.{In, in_push, push_in, any_in, in_any}
-use Rattle.lifecycle.proofs.Handles.{both, clash, open_stands}
+use Rattle.lifecycle.proofs.Handles.{open_stands}
 use Rattle.lifecycle.proofs.Linked.{Linked, linked_own}
 use Rattle.lifecycle.proofs.Invariant.{is_named, may_own, Pod, Ungripped, Knows, placed_age}
-use Rattle.lifecycle.proofs.Places.{name_same}
 
 pub any_unpushed : {X : Type 0} (t : X → Bool) (xs : List X) (y : X) → t y ≡ false → list_any t (xs ++ y ∷ []) ≡ true →
     list_any t xs ≡ true
@@ -50,10 +52,6 @@ any_unconsed t xs y off h = by (t y) off h
     by : (b : Bool) → b ≡ false → (b || list_any t xs) ≡ true → list_any t xs ≡ true
     by true off h = cc
     by false off h = h
-
-pub off_right : (a b : Bool) → b ≡ false → (a && b) ≡ false
-off_right true b h = h
-off_right false b h = refl
 
 abbrev pub and_opening : Namespace → Opening → Namespace
 and_opening n o = record n { openings = n.openings ++ o ∷ [] }
@@ -152,11 +150,11 @@ cover_of : (u : List ℕ) (n : Namespace) (s : PodState) (k : Standing) (pod : P
     (is_own_in_prepared spot which && holds_claim spot.name k) ≡ true → (s ≡ Prepared) × (holds_claim u k ≡ true)
 cover_of u n s k pod spot which.Claim there of c = cc
 cover_of u n s k pod spot which.Own there of c =
-    let x = both (is_in area.Prepared spot.area) (holds_claim spot.name k) c in
+    let x = and_parts (is_in area.Prepared spot.area) (holds_claim spot.name k) c in
     let y = found_pod u n s pod spot of there in (
       prepared_place s spot.area x.0 y.0,
       ap (λ (v : List ℕ). holds_claim v k)
-          (sym (name_same spot.name u (both (is_stage spot.area) (bytes_eq spot.name u) of).1)) ∙ x.1,
+          (sym (same_text spot.name u (and_parts (is_stage spot.area) (bytes_eq spot.name u) of).1)) ∙ x.1,
     )
 
 opened_named : (u : List ℕ) (spot : Spot) (kind : Which) → is_named u (target_of spot kind) ≡ is_spot_of_pod u spot

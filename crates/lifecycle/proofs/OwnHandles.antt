@@ -1,5 +1,7 @@
 -- A handle on Own that stands for the folder of a pod was opened at a place of the pod.
 use Rattle.std.proofs.Common.{arith, ◌≡◌, ◌⊎◌, inl, inr, ◌<◌, ℕ, Bool, true, false, not, ◌&&◌, ◌==◌, cond, bytes_eq, Some, None, unwrap_or, List, [], ◌∷◌, length, refl, sym, ap, subst, ◌∙◌}
+use Rattle.std.proofs.lemmas.Bool.{and_parts}
+use Rattle.plain_laws.proofs.Texts.{same_text}
 use Rattle.dir_model.specs.declared.area.Area.{Area}
 use Rattle.dir_model.specs.declared.spot.Spot.{Spot}
 use Rattle.dir_model.specs.declared.spot.Handle.{Handle}
@@ -25,11 +27,11 @@ use Rattle.lifecycle.specs.declared.machine.PodState.{PodState}
 use Rattle.lifecycle.specs.declared.machine.PodState.TheVariants.{Absent}
 use Rattle.dir_rules.specs.declared.standing.Standing.{Standing}
 use Rattle.lifecycle.proofs.Lists.{In, in_push, in_filter}
-use Rattle.lifecycle.proofs.Handles.{Sound, both, Was, locked_in, none_refused, refused_if}
+use Rattle.lifecycle.proofs.Handles.{Sound, Was, locked_in, none_refused, refused_if}
 use Rattle.dir_model.specs.declared.event.Event.{Event}
 use Rattle.lifecycle.specs.PodMachine.{pod_state_next}
 use Rattle.lifecycle.specs.Executions.{IsConforming}
-use Rattle.lifecycle.proofs.Places.{name_same, same_name, made_there, made_elsewhere, moved_there, moved_away, moved_elsewhere, removed_there, removed_elsewhere, none_stands}
+use Rattle.lifecycle.proofs.Places.{same_name, made_there, made_elsewhere, moved_there, moved_away, moved_elsewhere, removed_there, removed_elsewhere, none_stands}
 use Rattle.lifecycle.proofs.Numbers.{one_spot}
 use Rattle.dir_model.specs.declared.request.DirError.TheVariants.{Exists}
 use Rattle.lifecycle.proofs.Makes.{of_same, of_name}
@@ -109,12 +111,12 @@ right_moved u n s σ p from to g right =
 
     ruled : is_spot_of_pod u to ≡ true → is_spot_of_pod u from ≡ true
     ruled of =
-        let pod = both (is_stage to.area) (bytes_eq to.name u) of in
-        let r = both (bytes_eq from.name to.name) (locks_allow_move (σ p) from.name from.area to.area)
+        let pod = and_parts (is_stage to.area) (bytes_eq to.name u) of in
+        let r = and_parts (bytes_eq from.name to.name) (locks_allow_move (σ p) from.name from.area to.area)
         (sym (ap (λ b. cond b (bytes_eq from.name to.name && locks_allow_move (σ p) from.name from.area to.area)
         true) (or_last (is_stage from.area) (is_stage to.area) pod.0)) ∙ g.rule refl) in
         and_both (is_stage from.area) (bytes_eq from.name u) (moves_pods (σ p) from.name from.area to.area r.1).0
-        (same_name from.name u (name_same from.name to.name r.0 ∙ of_name u to of))
+        (same_name from.name u (same_text from.name to.name r.0 ∙ of_name u to of))
 
     places : (spot : Spot) (f : ℕ) → folder_at (namespace_replied n.namespace p (MoveFolder from to) Done) spot ≡ Some f
         → is_spot_of_pod u spot ≡ true → (here : Spot) × ((is_spot_of_pod u here ≡ true) × (folder_at n.namespace here ≡ Some f))

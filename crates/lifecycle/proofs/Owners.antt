@@ -1,6 +1,7 @@
 -- Who holds a pod by what it knows is its owner.
 use Rattle.std.proofs.Common.{arith, ◌≡◌, ◌⊎◌, inl, inr, ◌≤◌, ℕ, Bool, true, false, not, ◌&&◌, ◌||◌, ◌==◌, cond, bytes_eq, Option, Some, None, List, [], ◌∷◌, map, refl, sym, ap, subst, ◌∙◌}
 use Rattle.std.proofs.lemmas.Bool.Decides.{nat_tests}
+use Rattle.std.proofs.lemmas.Bool.{or_left, and_parts}
 use Rattle.dir_model.specs.declared.area.Area.{Area}
 use Rattle.dir_model.specs.declared.area.Area.TheVariants as area
 use Rattle.dir_model.specs.declared.spot.Spot.{Spot}
@@ -25,17 +26,16 @@ use Rattle.lifecycle.specs.declared.machine.Transition.TheVariants as turn
 use Rattle.lifecycle.specs.PodMachine.{enabled, leads, after_transition, transition, arrival, transition_if, on_opening, find_opening, is_deleter, is_exclusive_own, is_owner, is_gone, pod_progress, age_in}
 use Rattle.dir_rules.specs.declared.standing.Held.{Held}
 use Rattle.dir_rules.specs.declared.standing.Standing.{Standing}
-use Rattle.lifecycle.proofs.Lists.{In, or_left}
-use Rattle.lifecycle.proofs.Handles.{both, nat_same}
+use Rattle.lifecycle.proofs.Lists.{In}
 use Rattle.lifecycle.proofs.Linked.{own}
 use Rattle.lifecycle.proofs.Invariant.{may_own, own_named, holding, held_by, grip_of}
 use Rattle.dir_model.specs.declared.event.Event.{Event}
 use Rattle.lifecycle.specs.PodMachine.{pod_state_next, pod_state_from, pod_state, exists, is_being_deleted}
 use Rattle.lifecycle.specs.Executions.{IsConforming}
 use Rattle.lifecycle.proofs.Lives.{saw_other, saw_me}
-use Rattle.lifecycle.proofs.Step.{Given, stepped}
+use Rattle.lifecycle.proofs.Step.{Given, stepped, no_turn}
 use Rattle.lifecycle.proofs.Run.{Good, ConformingFrom, given, next_good, conforming_tail, good_start, conforming_from, good}
-use Rattle.dir_model.proofs.Lists.{and_both, or_last, same_self}
+use Rattle.dir_model.proofs.Lists.{and_both, or_last, same_self, same_number}
 
 -- the states in which this process moved it last to prepare, and to run
 abbrev pub after_prepare : PodState → ℕ → Bool
@@ -251,7 +251,7 @@ traced_move u p s t k from to of x is e =
     })
   where
     newest : last_move_of u (and_move to k.moves) ≡ Some to
-    newest = ap (λ b. last_move_of u (cond b (to ∷ k.moves) k.moves)) (both (is_stage to.area) (bytes_eq to.name u) of).0
+    newest = ap (λ b. last_move_of u (cond b (to ∷ k.moves) k.moves)) (and_parts (is_stage to.area) (bytes_eq to.name u) of).0
         ∙ ap (λ b. cond b (Some to) (last_move_of u k.moves)) of
 
     out : (spot : Spot) → Some to ≡ Some spot → to ≡ spot
@@ -268,23 +268,20 @@ abbrev pub is_move_of : List ℕ → Request → Reply → Bool
 is_move_of u (MoveFolder from to) Done = is_spot_of_pod u to
 is_move_of u request reply = false
 
-not_stay : {X : Type 0} (x : Transition) → None ≡ Some x → X
-not_stay x e = absurd (cc)
-
 pub stay_turn : (u : List ℕ) (n : Namespace) (s : PodState) (p : ℕ) (request : Request) (reply : Reply) →
     is_move_of u request reply ≡ false → (x : Transition) → transition u n s p request reply ≡ Some x → is_stay x ≡ true
 stay_turn u n s p (MakeFolder spot) Done off x e = stays_so (is_spot_of_pod u spot) turn.Make x refl e
-stay_turn u n s p (MoveFolder from to) Done off x e = not_stay x (sym (ap (λ b. cond b (arrival to.area) None) off) ∙ e)
+stay_turn u n s p (MoveFolder from to) Done off x e = no_turn x (sym (ap (λ b. cond b (arrival to.area) None) off) ∙ e)
 stay_turn u n s p (TryLock h Exclusive) Done off x e =
     stays_so (not (is_gone s) && on_opening (is_deleter u) (find_opening n p h)) turn.BeginDelete x refl e
-stay_turn u n s p (TryLock h Shared) Done off x e = not_stay x e
+stay_turn u n s p (TryLock h Shared) Done off x e = no_turn x e
 stay_turn u n s p (Close h) Done off x e = stays_so (is_owner p s && on_opening (is_exclusive_own u) (find_opening n p h)) turn.End x refl e
 stay_turn u n s p (RemoveFolder spot) Done off x e = stays_so (is_spot_of_pod u spot) turn.Remove x refl e
 stay_turn u n s p request.Finish Done off x e = stays_so (is_owner p s) turn.End x refl e
 stay_turn u n s p Kill Done off x e = stays_so (is_owner p s) turn.End x refl e
-stay_turn u n s p (TryLock h Exclusive) reply off x e = not_stay x e
-stay_turn u n s p (TryLock h Shared) reply off x e = not_stay x e
-stay_turn u n s p request reply off x e = not_stay x e
+stay_turn u n s p (TryLock h Exclusive) reply off x e = no_turn x e
+stay_turn u n s p (TryLock h Shared) reply off x e = no_turn x e
+stay_turn u n s p request reply off x e = no_turn x e
 
 pub same_moves : (u : List ℕ) (k : Standing) (request : Request) (reply : Reply) → is_move_of u request reply ≡ false →
     last_move_of u (standing_replied k request reply).moves ≡ last_move_of u k.moves
@@ -317,9 +314,9 @@ same_moves u k request reply off = refl
 some_arrival : (u : List ℕ) (n : DirState) (s : PodState) (σ : ℕ → Standing) (p : ℕ) (from to : Spot) →
     is_spot_of_pod u to ≡ true → lock_rules_allow (σ p) (MoveFolder from to) ≡ true → (x : Transition) × (arrival to.area ≡ Some x)
 some_arrival u n s σ p from to of may =
-    by from.area to.area (both (bytes_eq from.name to.name) (locks_allow_move (σ p) from.name from.area to.area)
+    by from.area to.area (and_parts (bytes_eq from.name to.name) (locks_allow_move (σ p) from.name from.area to.area)
     (sym (ap (λ b. cond b (bytes_eq from.name to.name && locks_allow_move (σ p) from.name from.area to.area) true)
-    (or_last (is_stage from.area) (is_stage to.area) (both (is_stage to.area) (bytes_eq to.name u) of).0)) ∙ may)).1
+    (or_last (is_stage from.area) (is_stage to.area) (and_parts (is_stage to.area) (bytes_eq to.name u) of).0)) ∙ may)).1
   where
     by : (a b : Area) → locks_allow_move (σ p) from.name a b ≡ true → (x : Transition) × (arrival b ≡ Some x)
     by area.Embryo area.Prepare h = (turn.BeginPrepare, refl)
@@ -373,9 +370,9 @@ traced_step u n s σ e g q x = by (e.process == q) refl
     by : (b : Bool) → (e.process == q) ≡ b → Traced u q t (stood q (σ q) e)
     by false off = subst (λ (k : Standing). Traced u q t k) (sym (saw_other e.process q (σ q) e.request e.reply off))
         (traced_other u (transition u n.namespace s e.process e.request e.reply) e.process q s t (σ q) off turning x)
-    by true on = subst (λ (r : ℕ). Traced u r t (stood r (σ r) e)) (nat_same e.process q on)
+    by true on = subst (λ (r : ℕ). Traced u r t (stood r (σ r) e)) (same_number e.process q on)
         (subst (λ (k : Standing). Traced u e.process t k) (sym (saw_me e.process (σ e.process) e.request e.reply))
-        (own (subst (λ (r : ℕ). Traced u r s (σ r)) (sym (nat_same e.process q on)) x) (is_move_of u e.request e.reply)
+        (own (subst (λ (r : ℕ). Traced u r s (σ r)) (sym (same_number e.process q on)) x) (is_move_of u e.request e.reply)
         refl))
 
 traced_from : (u : List ℕ) (es : List Event) (n : DirState) (s : PodState) (σ : ℕ → Standing) → Good u n s σ →
@@ -415,7 +412,7 @@ owner_holds u h p conforming own = (
     by : (s : PodState) (d m : Bool) → is_being_deleted s ≡ d → (d || m) ≡ true →
         may_own s o.0.process (area_of o.0.target) ≡ true → (m || is_garbage (area_of o.0.target)) ≡ true
     by s d true e f may = refl
-    by (Deleting w f) true false e x may = (both (o.0.process == w) (is_garbage (area_of o.0.target)) may).1
+    by (Deleting w f) true false e x may = (and_parts (o.0.process == w) (is_garbage (area_of o.0.target)) may).1
     by s true false e x may = cc
     by s false false e x may = cc
 
@@ -424,14 +421,14 @@ hold_moved : (s : PodState) (p : ℕ) (a : Area) → exists s ≡ true → may_o
     (after_prepare s p || after_run s p) ≡ true → is_owner p s ≡ true
 hold_moved (Preparing o) p a e may m = may
 hold_moved (Running o) p a e may m = may
-hold_moved (Deleting o f) p a e may m = (both (p == o) (is_garbage a) may).0
+hold_moved (Deleting o f) p a e may m = (and_parts (p == o) (is_garbage a) may).0
 hold_moved s p a e may m = cc
 
 hold_garbage : (s : PodState) (p : ℕ) (a : Area) → exists s ≡ true → may_own s p a ≡ true → is_garbage a ≡ true →
     age_in a ≤ pod_progress s → is_owner p s ≡ true
 hold_garbage (Preparing o) p a e may g l = may
 hold_garbage (Running o) p a e may g l = may
-hold_garbage (Deleting o f) p a e may g l = (both (p == o) (is_garbage a) may).0
+hold_garbage (Deleting o f) p a e may g l = (and_parts (p == o) (is_garbage a) may).0
 hold_garbage (Embryo m) p area.ExitedGarbage e may g l = absurd (omega (arith, l))
 hold_garbage (Embryo m) p area.Garbage e may g l = absurd (omega (arith, l))
 hold_garbage Prepared p area.ExitedGarbage e may g l = absurd (omega (arith, l))
@@ -454,7 +451,7 @@ holder_owns u h p conforming e living holds = by (moved_in u (standing_of p h)) 
         (g.inv.knows p living).linked holds
 
     x : (is_exclusive_own u o.0 ≡ true) × ((moved_in u (standing_of p h) || is_garbage (area_of o.0.target)) ≡ true)
-    x = both (is_exclusive_own u o.0) (moved_in u (standing_of p h) || is_garbage (area_of o.0.target)) o.1.1.1
+    x = and_parts (is_exclusive_own u o.0) (moved_in u (standing_of p h) || is_garbage (area_of o.0.target)) o.1.1.1
 
     may : may_own (pod_state u h) p (area_of o.0.target) ≡ true
     may = ap (λ q. may_own (pod_state u h) q (area_of o.0.target)) (sym o.1.1.0) ∙ g.inv.pod.owns o.0 o.1.0 x.0
@@ -475,5 +472,5 @@ holder_owns u h p conforming e living holds = by (moved_in u (standing_of p h)) 
         is_owner p (pod_state u h) ≡ true
     by true m k = hold_moved (pod_state u h) p (area_of o.0.target) e may (last (last_move_of u (standing_of p h).moves) refl m)
     by false m k = hold_garbage (pod_state u h) p (area_of o.0.target) e may k
-        (g.inv.pod.named o.0 o.1.0 (own_named u o.0.target (both (is_own_of u o.0.target) (is_exclusive o.0.lock)
+        (g.inv.pod.named o.0 o.1.0 (own_named u o.0.target (and_parts (is_own_of u o.0.target) (is_exclusive o.0.lock)
         x.0).0)).1

@@ -1,5 +1,7 @@
 -- Each event is a transition that the pod's state has, and the phase is what place and lock say.
 use Rattle.std.proofs.Common.{◌≡◌, ℕ, Bool, true, false, ◌&&◌, cond, bytes_eq, Option, Some, None, is_some, List, [], ◌∷◌, ◌++◌, refl, sym, ap, ◌∙◌}
+use Rattle.std.proofs.lemmas.Bool.{and_parts}
+use Rattle.plain_laws.proofs.Booleans.{clash}
 use Rattle.dir_model.specs.declared.area.Area.{Area}
 use Rattle.dir_model.specs.declared.area.Area.TheVariants as area
 use Rattle.dir_model.specs.declared.spot.Spot.{Spot}
@@ -17,7 +19,6 @@ use Rattle.lifecycle.specs.declared.machine.Transition.{Transition}
 use Rattle.lifecycle.specs.PodMachine.{enabled, transition, is_owner, is_area_of_state}
 use Rattle.dir_rules.specs.declared.standing.Standing.{Standing}
 use Rattle.lifecycle.proofs.Lists.{any_in, in_any}
-use Rattle.lifecycle.proofs.Handles.{both, clash, nat_same}
 use Rattle.lifecycle.proofs.Linked.{own}
 use Rattle.lifecycle.proofs.Invariant.{may_own, Pod, own_named}
 use Rattle.dir_model.specs.declared.area.Phase.TheVariants as phase
@@ -30,7 +31,7 @@ use Rattle.lifecycle.proofs.Opens.{found_pod}
 use Rattle.lifecycle.proofs.Step.{stepped}
 use Rattle.lifecycle.proofs.Run.{Good, ConformingFrom, given, next_good, conforming_tail, good_start, conforming_from, good}
 use Rattle.lifecycle.proofs.OwnHandles.{Right, right}
-use Rattle.dir_model.proofs.Lists.{and_both, same_self}
+use Rattle.dir_model.proofs.Lists.{and_both, same_self, same_number}
 
 -- what holds after a beginning of a conforming execution, and what is left
 pub record Reached (u : List ℕ) (n : DirState) (s : PodState) (σ : ℕ → Standing) (rest : List Event) : Type 0 where
@@ -161,14 +162,14 @@ phase_is u n s spot f pod right of at = phase_table spot.area s (is_owned n f) p
     number = sym at ∙ found.1
 
     folder_is : (o : Option ℕ) → is_folder f o ≡ true → o ≡ Some f
-    folder_is (Some k) h = ap Some (nat_same k f h)
+    folder_is (Some k) h = ap Some (same_number k f h)
     folder_is None h = cc
 
     owner : is_owned n f ≡ true → (q : ℕ) × ((c : Area) × (may_own s q c ≡ true))
     owner h =
         let o = any_in (owns f) n.openings h in
-        let x = both (is_folder f o.0.folder) (is_own o.0.target && is_exclusive o.0.lock) o.1.1 in
-        let y = both (is_own o.0.target) (is_exclusive o.0.lock) x.1 in (
+        let x = and_parts (is_folder f o.0.folder) (is_own o.0.target && is_exclusive o.0.lock) o.1.1 in
+        let y = and_parts (is_own o.0.target) (is_exclusive o.0.lock) x.1 in (
           o.0.process,
           (
             area_of o.0.target,
@@ -185,7 +186,7 @@ phase_is u n s spot f pod right of at = phase_table spot.area s (is_owned n f) p
     owned : (q : ℕ) → is_owner q s ≡ true → is_owned n f ≡ true
     owned q h =
         let o = pod.held q h in
-        let x = both (is_own_of u o.0.target) (is_exclusive o.0.lock) o.1.1.0 in
+        let x = and_parts (is_own_of u o.0.target) (is_exclusive o.0.lock) o.1.1.0 in
         in_any (owns f) o.0 n.openings o.1.0
         (and_both (is_folder f o.0.folder) (is_own o.0.target && is_exclusive o.0.lock)
         (ap (is_folder f) ((pod.named o.0 o.1.0 (own_named u o.0.target x.0)).0 ∙ sym number) ∙ same_self f)

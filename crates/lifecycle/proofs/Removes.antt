@@ -1,5 +1,7 @@
 -- A folder is removed.
 use Rattle.std.proofs.Common.{arith, ◌≡◌, ◌≤◌, ℕ, Bool, true, false, ◌==◌, cond, bytes_eq, Some, None, List, map, refl, sym, ap, ◌∙◌}
+use Rattle.std.proofs.lemmas.Bool.{and_parts}
+use Rattle.plain_laws.proofs.Booleans.{clash}
 use Rattle.dir_model.specs.declared.area.Area.{Area}
 use Rattle.dir_model.specs.declared.area.Area.TheVariants as area
 use Rattle.dir_model.specs.declared.spot.Spot.{Spot}
@@ -11,12 +13,11 @@ use Rattle.lifecycle.specs.declared.machine.PodState.{PodState}
 use Rattle.lifecycle.specs.declared.machine.PodState.TheVariants.{Absent, Embryo, Preparing, AbortedPrepare, Prepared, Running, Exited, ExitedGarbage, Garbage, Deleting, Gone}
 use Rattle.lifecycle.specs.PodMachine.{is_area_of_state, pod_progress, age_in}
 use Rattle.dir_rules.specs.declared.standing.Standing.{Standing}
-use Rattle.lifecycle.proofs.Handles.{both, clash, nat_same}
 use Rattle.lifecycle.proofs.Invariant.{may_own, Pod, Knows, others}
 use Rattle.lifecycle.proofs.Moves.{place_once}
 use Rattle.lifecycle.proofs.Places.{same_name, removed_there, removed_elsewhere}
 use Rattle.lifecycle.proofs.Makes.{of_same, of_name}
-use Rattle.dir_model.proofs.Lists.{and_both, same_self}
+use Rattle.dir_model.proofs.Lists.{and_both, same_self, same_number}
 
 abbrev pub and_removed : Namespace → Spot → Namespace
 and_removed n spot = record n { folders = map (removed spot) n.folders }
@@ -42,7 +43,7 @@ gone_place a = refl
 -- who holds Own of a pod that stands in a garbage place deletes it
 pub deleting : (p : ℕ) (s : PodState) (a b : Area) → is_garbage a ≡ true → is_area_of_state a s ≡ true → may_own s p b ≡ true →
     (f : Area) × (s ≡ Deleting p f)
-deleting p (Deleting o f) a b g at may = (f, ap (λ x. Deleting x f) (sym (nat_same p o (both (p == o) (is_garbage b) may).0)))
+deleting p (Deleting o f) a b g at may = (f, ap (λ x. Deleting x f) (sym (same_number p o (and_parts (p == o) (is_garbage b) may).0)))
 deleting p (Embryo m) area.ExitedGarbage b g at may = cc
 deleting p (Embryo m) area.Garbage b g at may = cc
 deleting p (Embryo m) a b g at may = cc

@@ -1,5 +1,8 @@
 -- What the machine of a whole trace tells of one pod.
 use Rattle.std.proofs.Common.{◌≡◌, ℕ, Bool, true, false, not, ◌&&◌, cond, bytes_eq, Option, Some, None, List, [], ◌∷◌, ◌++◌, find, refl, sym, ap, subst, ◌∙◌}
+use Rattle.std.proofs.lemmas.Bool.{and_parts}
+use Rattle.plain_laws.proofs.Booleans.{clash}
+use Rattle.plain_laws.proofs.Texts.{same_text}
 use Rattle.dir_model.specs.declared.event.Event.{Event}
 use Rattle.dir_model.specs.declared.spot.Mode.TheVariants.{Shared, Exclusive}
 use Rattle.dir_model.specs.declared.area.Area.{Area}
@@ -22,8 +25,6 @@ use Rattle.lifecycle.specs.Watch.{watch, watch_from, watch_next, watched, is_thi
 use Rattle.lifecycle.specs.Executions.{IsConforming}
 use Rattle.lifecycle.specs.Ownership.{ShowsPod}
 use Rattle.lifecycle.proofs.EveryPod.{shows_pod}
-use Rattle.lifecycle.proofs.Handles.{both, clash}
-use Rattle.lifecycle.proofs.Places.{name_same}
 use Rattle.lifecycle.proofs.ByEvents.{watch_is}
 
 turned_absent : (o : Option Transition) (p : ℕ) → (o ≡ Some turn.Make → ⊥) → after_transition o p Absent ≡ Absent
@@ -49,7 +50,7 @@ makes_only u gs p (MakeFolder spot) Done off e = by (is_spot_of_pod u spot) refl
   where
     by : (b : Bool) → is_spot_of_pod u spot ≡ b → transition_if b turn.Make ≡ Some turn.Make → ⊥
     by true f e =
-        let x = both (is_stage spot.area) (bytes_eq spot.name u) f in
+        let x = and_parts (is_stage spot.area) (bytes_eq spot.name u) f in
         clash (bytes_eq spot.name u) x.1 (sym (ap (λ b. Makes u (cond b (Some spot.name) None)) x.0) ∙ off)
     by false f e = cc
 makes_only u gs p (MoveFolder from to) Done off e = by (is_spot_of_pod u to) to.area e
@@ -135,7 +136,7 @@ found u whole (e ∷ es) x f = by (pod_made_by e.request e.reply) f (λ k. found
         one : (b : Bool) → bytes_eq name u ≡ b → cond b (Some (pod_entry_of whole name))
             (find (is_pod_entry u) (made_pod_entries whole es)) ≡ Some x → x.state ≡ (watch u whole).state
         one true is f = ap (λ (y : PodEntry). y.state) (sym (out f))
-            ∙ ap (λ (v : List ℕ). (watch v whole).state) (name_same name u is)
+            ∙ ap (λ (v : List ℕ). (watch v whole).state) (same_text name u is)
           where
             out : Some (pod_entry_of whole name) ≡ Some x → pod_entry_of whole name ≡ x
             out f = cc

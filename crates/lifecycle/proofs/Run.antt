@@ -1,5 +1,7 @@
 -- The invariant holds of every conforming execution.
 use Rattle.std.proofs.Common.{◌≡◌, ◌⊎◌, inl, inr, ℕ, Bool, true, false, not, ◌||◌, ◌==◌, cond, Option, Some, None, List, [], ◌∷◌, ◌++◌, map, refl, sym, ap, subst, ◌∙◌}
+use Rattle.std.proofs.lemmas.Bool.{and_parts}
+use Rattle.plain_laws.proofs.Booleans.{clash}
 use Rattle.dir_model.specs.declared.area.Area.TheVariants as area
 use Rattle.dir_model.specs.declared.spot.Mode.TheVariants.{Shared, Exclusive}
 use Rattle.dir_model.specs.declared.request.Request.{Request}
@@ -17,7 +19,7 @@ use Rattle.lifecycle.specs.declared.machine.PodState.{PodState}
 use Rattle.lifecycle.specs.declared.machine.PodState.TheVariants.{Absent}
 use Rattle.dir_rules.specs.declared.standing.Held.{Held}
 use Rattle.dir_rules.specs.declared.standing.Standing.{Standing}
-use Rattle.lifecycle.proofs.Handles.{is_due, both, clash, nat_same}
+use Rattle.lifecycle.proofs.Handles.{is_due}
 use Rattle.lifecycle.proofs.Invariant.{Knows, Invariant}
 use Rattle.dir_model.specs.declared.event.Event.{Event}
 use Rattle.lifecycle.specs.PodMachine.{pod_state_next, pod_state_from, pod_state}
@@ -30,7 +32,7 @@ use Rattle.dir_model.specs.Paths.{is_well_formed}
 use Rattle.lifecycle.proofs.Makes.{absent_place}
 use Rattle.lifecycle.proofs.Lives.{begun_me, unborn_before, lived, saw_other, saw_me}
 use Rattle.lifecycle.proofs.Step.{Given, Stepped, stepped}
-use Rattle.dir_model.proofs.Lists.{not_true, same_self}
+use Rattle.dir_model.proofs.Lists.{not_true, same_self, same_number}
 use Rattle.dir_model.proofs.Allowed.{allowed_parts}
 
 -- the invariant, and that who hasn't begun knows nothing
@@ -89,12 +91,12 @@ next_maker u n s σ p request reply g x t (inl stays) = by g.inv.maker
         ((stood q (σ q) (event p request reply)).made ≡ true)
     kept q false e d c f = subst (λ (k : Standing). (draws u k ≡ true) × (k.made ≡ true))
         (sym (saw_other p q (σ q) request reply e)) d
-    kept q true e d true f = absurd (new_born q (sym (nat_same p q e)) f d)
+    kept q true e d true f = absurd (new_born q (sym (same_number p q e)) f d)
     kept q true e d false f = subst (λ (r : ℕ). (draws u (stood r (σ r) (event p request reply)) ≡ true) ×
-        ((stood r (σ r) (event p request reply)).made ≡ true)) (nat_same p q e)
+        ((stood r (σ r) (event p request reply)).made ≡ true)) (same_number p q e)
         (subst (λ (k : Standing). (draws u k ≡ true) × (k.made ≡ true)) (sym (saw_me p (σ p) request reply))
         (kept_draw u (σ p) request reply f (subst (λ (r : ℕ). (draws u (σ r) ≡ true) × ((σ r).made ≡ true))
-        (sym (nat_same p q e)) d)))
+        (sym (same_number p q e)) d)))
 
     by : (s ≡ Absent) ⊎ Maker u σ → (t ≡ Absent) ⊎ Maker u (λ q. stood q (σ q) (event p request reply))
     by (inl e) = inl (stays e)
@@ -122,16 +124,16 @@ next_good u n s σ e g =
         (sym (saw_other e.process q (σ q) e.request e.reply off))
         (x.others q off (g.inv.knows q (lived n.namespace e.process q e.request e.reply off living)))
     knows x q living true on = subst (λ (r : ℕ). Knows u r (state_next n e).namespace x.state (stood r (σ r) e))
-        (nat_same e.process q on) (subst (λ (k : Standing). Knows u e.process (state_next n e).namespace x.state k)
+        (same_number e.process q on) (subst (λ (k : Standing). Knows u e.process (state_next n e).namespace x.state k)
         (sym (saw_me e.process (σ e.process) e.request e.reply))
-        (x.me (subst (λ (r : ℕ). lives (state_next n e).namespace r ≡ true) (sym (nat_same e.process q on)) living)))
+        (x.me (subst (λ (r : ℕ). lives (state_next n e).namespace r ≡ true) (sym (same_number e.process q on)) living)))
 
     unborn : (q : ℕ) → has_begun (state_next n e).namespace q ≡ false → (b : Bool) → (e.process == q) ≡ b →
         stood q (σ q) e ≡ nothing_standing
     unborn q un false off = saw_other e.process q (σ q) e.request e.reply off
         ∙ g.unborn q (unborn_before n.namespace e.process q e.request e.reply un)
     unborn q un true on = clash (has_begun (state_next n e).namespace q)
-        (subst (λ (r : ℕ). has_begun (state_next n e).namespace r ≡ true) (nat_same e.process q on)
+        (subst (λ (r : ℕ). has_begun (state_next n e).namespace r ≡ true) (same_number e.process q on)
         (begun_me n e.process e.request e.reply g.may g.is)) un
 
 -- what is left of a conforming execution, from a state
@@ -144,15 +146,15 @@ pub record ConformingFrom (u : List ℕ) (n : DirState) (σ : ℕ → Standing) 
 pub given : (u : List ℕ) (n : DirState) (s : PodState) (σ : ℕ → Standing) (e : Event) (es : List Event) → Good u n s σ →
     ConformingFrom u n σ (e ∷ es) → Given u n s σ e.process e.request e.reply
 given u n s σ e es good conforming =
-    let a = both (is_allowed n e) (is_run_from (state_next n e) es) conforming.run in
+    let a = and_parts (is_allowed n e) (is_run_from (state_next n e) es) conforming.run in
     let b = allowed_parts n e a.0 in
-    let c = both (is_well_formed e.request) (is_due n.namespace e.process e.request) b.0 in
+    let c = and_parts (is_well_formed e.request) (is_due n.namespace e.process e.request) b.0 in
     record {
       inv = good.inv;
       unborn = good.unborn;
       may = c.1;
       is = b.1;
-      rule = λ alive. ruled (both (is_foreign e.process e || lock_rules_allow (σ e.process) e.request)
+      rule = λ alive. ruled (and_parts (is_foreign e.process e || lock_rules_allow (σ e.process) e.request)
           (keeps_lock_rules_from e.process (stood e.process (σ e.process) e) es) (conforming.rules e.process)).0
           (ap (λ c. not c || is_kill e.request) (same_self e.process) ∙ alive);
       distinct = conforming.distinct [] (e ∷ es) refl;
@@ -165,8 +167,8 @@ given u n s σ e es good conforming =
 pub conforming_tail : (u : List ℕ) (n : DirState) (σ : ℕ → Standing) (e : Event) (es : List Event) →
     ConformingFrom u n σ (e ∷ es) → ConformingFrom u (state_next n e) (λ q. stood q (σ q) e) es
 conforming_tail u n σ e es conforming = record {
-  run = (both (is_allowed n e) (is_run_from (state_next n e) es) conforming.run).1;
-  rules = λ p. (both (is_foreign p e || lock_rules_allow (σ p) e.request) (keeps_lock_rules_from p (stood p (σ p) e) es) (conforming.rules p)).1;
+  run = (and_parts (is_allowed n e) (is_run_from (state_next n e) es) conforming.run).1;
+  rules = λ p. (and_parts (is_foreign p e || lock_rules_allow (σ p) e.request) (keeps_lock_rules_from p (stood p (σ p) e) es) (conforming.rules p)).1;
   distinct = λ before later is. conforming.distinct (e ∷ before) later (ap (λ (l : List Event). e ∷ l) is);
 }
 

@@ -14,11 +14,10 @@ use Rattle.lifecycle.specs.declared.machine.PodState.{PodState}
 use Rattle.lifecycle.specs.declared.machine.PodState.TheVariants.{Absent}
 use Rattle.lifecycle.specs.PodMachine.{pod_progress, age_in}
 use Rattle.dir_rules.specs.declared.standing.Standing.{Standing}
-use Rattle.lifecycle.proofs.Handles.{both}
 use Rattle.lifecycle.proofs.Invariant.{placed_age}
 use Rattle.std.proofs.Common.{append_assoc}
-use Rattle.std.specs.Prelude.{nat_le}
-use Rattle.std.proofs.lemmas.Bool.Decides.{nat_tests}
+use Rattle.std.proofs.lemmas.Bool.{and_parts}
+use Rattle.plain_laws.proofs.Numbers.{at_most}
 use Rattle.dir_model.specs.declared.event.Event.{Event}
 use Rattle.dir_model.proofs.Chains.{states_next-append, run_from-left}
 use Rattle.lifecycle.specs.PodMachine.{pod_state_next, pod_state_from, pod_state, phase_of_state}
@@ -48,12 +47,9 @@ shorter u es rest n σ l = record {
     keeps_left : (p : ℕ) (xs : List Event) (k : Standing) → keeps_lock_rules_from p k (xs ++ rest) ≡ true → keeps_lock_rules_from p k xs ≡ true
     keeps_left p [] k h = refl
     keeps_left p (x ∷ xs) k h =
-        let y = both (is_foreign p x || lock_rules_allow k x.request) (keeps_lock_rules_from p (stood p k x) (xs ++ rest)) h in
+        let y = and_parts (is_foreign p x || lock_rules_allow k x.request) (keeps_lock_rules_from p (stood p k x) (xs ++ rest)) h in
         and_both (is_foreign p x || lock_rules_allow k x.request) (keeps_lock_rules_from p (stood p k x) xs) y.0
         (keeps_left p xs (stood p k x) y.1)
-
-at_most : (n m : ℕ) → n ≤ m → nat_le n m ≡ true
-at_most n m l = grind (arith, nat_tests)
 
 -- a folder that is found twice at a stage of a pod's life stood there between
 pub stays_between : (h : List Event) → IsConforming h → StaysBetween h

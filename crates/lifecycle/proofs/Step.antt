@@ -1,6 +1,9 @@
 -- One event of a conforming execution.
 use Rattle.std.proofs.Common.{◌≡◌, ◌⊎◌, inl, inr, ℕ, Bool, true, false, not, ◌&&◌, ◌||◌, ◌==◌, cond, bytes_eq, Option, Some, None, is_some, List, [], ◌∷◌, ◌++◌, map, refl, sym, ap, subst, ◌∙◌}
 use Rattle.std.specs.List.{list_any}
+use Rattle.std.proofs.lemmas.Bool.{and_parts}
+use Rattle.plain_laws.proofs.Booleans.{clash}
+use Rattle.plain_laws.proofs.Texts.{same_text}
 use Rattle.dir_model.specs.declared.area.Area.{Area}
 use Rattle.dir_model.specs.declared.area.Area.TheVariants as area
 use Rattle.dir_model.specs.declared.spot.Spot.{Spot}
@@ -29,13 +32,14 @@ use Rattle.lifecycle.specs.declared.machine.Transition.{Transition}
 use Rattle.lifecycle.specs.declared.machine.Transition.TheVariants as turn
 use Rattle.lifecycle.specs.PodMachine.{enabled, after_transition, transition, arrival, transition_if, on_opening, find_opening, is_deleter, is_exclusive_own, is_owner, is_gone, is_area_of_state}
 use Rattle.dir_rules.specs.declared.standing.Standing.{Standing}
+use Rattle.dir_rules.proofs.Standings.{looked_holdings}
 use Rattle.lifecycle.proofs.Lists.{last_in, any_in, in_any}
-use Rattle.lifecycle.proofs.Handles.{both, clash, lock_free, none_refused, refused_if, is_due}
-use Rattle.lifecycle.proofs.Linked.{bare, mine, Linked, linked_own, linked_other, looked_holdings}
+use Rattle.lifecycle.proofs.Handles.{lock_free, none_refused, refused_if, is_due}
+use Rattle.lifecycle.proofs.Linked.{bare, mine, Linked, linked_own, linked_other}
 use Rattle.lifecycle.proofs.Invariant.{may_own, Pod, Knows, Invariant, holding, grip_of, others, others_still}
 use Rattle.dir_model.specs.declared.request.DirError.{DirError}
 use Rattle.dir_model.specs.declared.request.DirError.TheVariants.{Missing, Exists}
-use Rattle.lifecycle.proofs.Places.{name_same, same_name}
+use Rattle.lifecycle.proofs.Places.{same_name}
 use Rattle.lifecycle.proofs.Opens.{open_pod, open_knows, gate_pod, gate_knows, found_pod, ungripped_opened}
 use Rattle.lifecycle.proofs.Ends.{end_pod, end_others, close_pod, close_others, enabled_end, ends_or_not, either}
 use Rattle.lifecycle.proofs.Closes.{close_knows}
@@ -72,7 +76,7 @@ pub record Given (u : List ℕ) (n : DirState) (s : PodState) (σ : ℕ → Stan
   pub rule : is_kill request ≡ false → lock_rules_allow (σ p) request ≡ true
   pub distinct : (a b : ℕ) → draws u (σ a) ≡ true → draws u (σ b) ≡ true → a ≡ b
 
-no_turn : {X : Type 0} (x : Transition) → None ≡ Some x → X
+pub no_turn : {X : Type 0} (x : Transition) → None ≡ Some x → X
 no_turn x e = absurd (cc)
 
 refused : (u : List ℕ) (n : Namespace) (s : PodState) (p : ℕ) (request : Request) (e : DirError) (left : ℕ) →
@@ -128,7 +132,7 @@ move u n s σ p from to g = by (is_spot_of_pod u to) (is_stage from.area) (is_st
 
     ruled : (b : Bool) → (is_stage from.area || is_stage to.area) ≡ b → b ≡ true →
         (bytes_eq from.name to.name ≡ true) × (locks_allow_move k from.name from.area to.area ≡ true)
-    ruled true e h = both (bytes_eq from.name to.name) (locks_allow_move k from.name from.area to.area)
+    ruled true e h = and_parts (bytes_eq from.name to.name) (locks_allow_move k from.name from.area to.area)
         (sym (ap (λ b. cond b (bytes_eq from.name to.name && locks_allow_move k from.name from.area to.area) true) e)
         ∙ g.rule refl)
     ruled false e h = cc
@@ -136,7 +140,7 @@ move u n s σ p from to g = by (is_spot_of_pod u to) (is_stage from.area) (is_st
     mine_moves : is_spot_of_pod u to ≡ true → (bytes_eq from.name to.name ≡ true) ×
         (locks_allow_move k from.name from.area to.area ≡ true) → Stepped u n.namespace s σ p (MoveFolder from to) Done
     mine_moves of_to r =
-        let name : from.name ≡ u = name_same from.name to.name r.0 ∙ of_name u to of_to in
+        let name : from.name ≡ u = same_text from.name to.name r.0 ∙ of_name u to of_to in
         let pods = moves_pods k from.name from.area to.area r.1 in
         let of_from : is_spot_of_pod u from ≡ true = and_both (is_stage from.area) (bytes_eq from.name u) pods.0
         (same_name from.name u name) in
@@ -173,12 +177,12 @@ move u n s σ p from to g = by (is_spot_of_pod u to) (is_stage from.area) (is_st
     from_not not_to r false e = e
     from_not not_to r true e = clash (is_spot_of_pod u to) (and_both (is_stage to.area) (bytes_eq to.name u)
         (moves_pods k from.name from.area to.area r.1).1
-        (same_name to.name u (sym (name_same from.name to.name r.0) ∙ of_name u from e))) not_to
+        (same_name to.name u (sym (same_text from.name to.name r.0) ∙ of_name u from e))) not_to
 
     by : (b c d : Bool) → is_spot_of_pod u to ≡ b → is_stage from.area ≡ c → is_stage to.area ≡ d →
         Stepped u n.namespace s σ p (MoveFolder from to) Done
     by true c d e f h = mine_moves e (ruled (is_stage from.area || is_stage to.area) refl
-        (or_last (is_stage from.area) (is_stage to.area) (both (is_stage to.area) (bytes_eq to.name u) e).0))
+        (or_last (is_stage from.area) (is_stage to.area) (and_parts (is_stage to.area) (bytes_eq to.name u) e).0))
     by false true d e f h = not_mine e
         (from_not e (ruled (is_stage from.area || is_stage to.area) refl (ap (λ b. b || is_stage to.area) f))
         (is_spot_of_pod u from) refl)
@@ -209,14 +213,14 @@ make u n s σ p spot g = by (is_spot_of_pod u spot) refl
           (subst (λ (x : PodState). Pod u n.namespace x) e g.inv.pod);
       me = λ living. subst (λ b. Knows u p (and_folder n.namespace spot) (Embryo p)
           (cond b (record (σ p) { made = true; embryo_under_lock = shares_area area.Embryo (σ p) }) (σ p)))
-          (sym (both (is_stage spot.area) (bytes_eq spot.name u) of).0)
+          (sym (and_parts (is_stage spot.area) (bytes_eq spot.name u) of).0)
           (make_knows u n.namespace p spot (σ p) of m (subst (λ (x : PodState). Knows u p n.namespace x (σ p)) e
           knows));
       others = λ q off other. make_others u n.namespace p q spot (σ q) off
           (subst (λ (x : PodState). Knows u q n.namespace x (σ q)) e other);
       absent = inr (subst (λ b. (draws u (cond b (record (σ p) { made = true; embryo_under_lock = shares_area area.Embryo (σ p) })
           (σ p)) ≡ true) × ((cond b (record (σ p) { made = true; embryo_under_lock = shares_area area.Embryo (σ p) }) (σ p)).made ≡
-          true)) (sym (both (is_stage spot.area) (bytes_eq spot.name u) of).0)
+          true)) (sym (and_parts (is_stage spot.area) (bytes_eq spot.name u) of).0)
           (ap (λ (v : List ℕ). draws v (σ p)) (sym (of_name u spot of)) ∙ m.draws, refl));
     }
       where
@@ -225,7 +229,7 @@ make u n s σ p spot g = by (is_spot_of_pod u spot) refl
 
     by : (b : Bool) → is_spot_of_pod u spot ≡ b → Stepped u n.namespace s σ p (MakeFolder spot) Done
     by true of =
-        let m = made_by u (σ p) spot (both (is_stage spot.area) (bytes_eq spot.name u) of).0 (g.rule refl) in
+        let m = made_by u (σ p) spot (and_parts (is_stage spot.area) (bytes_eq spot.name u) of).0 (g.rule refl) in
         first of m (absent of m g.inv.maker)
     by false off = still u n.namespace s σ p (MakeFolder spot) Done (ap (λ b. transition_if b turn.Make) off)
         (make_pod_other u n.namespace s spot off g.inv.pod)
@@ -237,7 +241,7 @@ pub removal_own : (k : Standing) (spot : Spot) → is_stage spot.area ≡ true �
     (is_garbage spot.area ≡ true) × (holds_own spot.name k ≡ true)
 removal_own k spot pod may =
     let e = any_in (is_removal_held spot) k.holdings may in
-    let x = both (is_exclusive e.0.lock) (is_removal_target spot e.0.target) e.1.1 in
+    let x = and_parts (is_exclusive e.0.lock) (is_removal_target spot e.0.target) e.1.1 in
     let y = on e.0.target x.1 in (
       y.0,
       in_any (is_own_held spot.name) e.0 k.holdings e.1.0
@@ -250,13 +254,13 @@ removal_own k spot pod may =
 
     on : (t : Target) → is_removal_target spot t ≡ true → (is_garbage spot.area ≡ true) × (is_own_of spot.name t ≡ true)
     on (Own here) h =
-        let x = both (is_garbage spot.area) (spot_eq here spot) h in (
+        let x = and_parts (is_garbage spot.area) (spot_eq here spot) h in (
           x.0,
           of_same spot.name here spot x.1 ∙ and_both (is_stage spot.area) (bytes_eq spot.name spot.name) pod
               (same_name spot.name spot.name refl),
         )
     on (Claim here) h = cc
-    on (Gate gate) h = apart spot.area (both (is_in area.Removed spot.area) (is_in area.Removed gate) h).0 pod
+    on (Gate gate) h = apart spot.area (and_parts (is_in area.Removed spot.area) (is_in area.Removed gate) h).0 pod
 
 remove : (u : List ℕ) (n : DirState) (s : PodState) (σ : ℕ → Standing) (p : ℕ) (spot : Spot) →
     Given u n s σ p (RemoveFolder spot) Done → Stepped u n.namespace s σ p (RemoveFolder spot) Done
@@ -274,7 +278,7 @@ remove u n s σ p spot g = by (is_spot_of_pod u spot) refl
         (standing_by (folder_at n.namespace spot) (none_refused n p (RemoveFolder spot) refl g.is))).0
 
     ruled : is_spot_of_pod u spot ≡ true → (is_garbage spot.area ≡ true) × (holds_own spot.name (σ p) ≡ true)
-    ruled of = removal_own (σ p) spot (both (is_stage spot.area) (bytes_eq spot.name u) of).0 (g.rule refl)
+    ruled of = removal_own (σ p) spot (and_parts (is_stage spot.area) (bytes_eq spot.name u) of).0 (g.rule refl)
 
     removes : is_spot_of_pod u spot ≡ true → (f : Area) × (s ≡ Deleting p f) → Stepped u n.namespace s σ p (RemoveFolder spot) Done
     removes of (f, e) = record {
@@ -358,7 +362,7 @@ end_has p s c x e = by (is_owner p s && c) refl e
     out f = cc
 
     by : (b : Bool) → (is_owner p s && c) ≡ b → transition_if b turn.End ≡ Some x → enabled x p s ≡ true
-    by true f e = subst (λ (t : Transition). enabled t p s ≡ true) (out e) (enabled_end p s ∙ (both (is_owner p s) c f).0)
+    by true f e = subst (λ (t : Transition). enabled t p s ≡ true) (out e) (enabled_end p s ∙ (and_parts (is_owner p s) c f).0)
     by false f e = no_turn x e
 
 end_has_own : (p : ℕ) (s : PodState) (x : Transition) → transition_if (is_owner p s) turn.End ≡ Some x → enabled x p s ≡ true
@@ -376,7 +380,7 @@ dead : (n : Namespace) (p : ℕ) → lives (without_process n p) p ≡ true → 
 dead n p h = clash (list_any (λ r. r == p) (n.ended ++ p ∷ []))
     (in_any (λ r. r == p) p (n.ended ++ p ∷ []) (last_in n.ended p) (same_self p))
     (not_true (list_any (λ r. r == p) (n.ended ++ p ∷ []))
-    (both (has_begun n p) (not (list_any (λ r. r == p) (n.ended ++ p ∷ []))) h).1)
+    (and_parts (has_begun n p) (not (list_any (λ r. r == p) (n.ended ++ p ∷ []))) h).1)
 
 ends : (u : List ℕ) (n : Namespace) (s : PodState) (σ : ℕ → Standing) (p : ℕ) → Pod u n s →
     Stepped u n s σ p request.Finish Done

@@ -5,6 +5,7 @@ use Rattle.std.proofs.lemmas.List.{drop_more, take_more, drop-set}
 use Rattle.std.proofs.lemmas.Slice.Eq.{bytes_eq-Decides}
 use Rattle.dir_model.specs.Paths.{is_slash}
 use Rattle.dir_rules.specs.Marks.{has_slash, parent, digits}
+use Rattle.dir_laws.proofs.Paths.{parent_plain}
 
 -- the parent, where the path was read up to a place
 abbrev pub scan : ℕ → ℕ → List ℕ → List ℕ
@@ -27,17 +28,8 @@ pub scan_more : (path : List ℕ) (i last : ℕ) → i < length path → scan (i
 scan_more path i last h =
     rw (drop_more path i 0 h) (rw (take_more path i 0 h) (rw (take_by (is_slash (slice_index path i)) path i last) (scan_step (take i path) (drop (i + 1) path) (take last path) (slice_index path i))))
 
-no_parent : (path : List ℕ) → has_slash path ≡ false → parent path ≡ []
-no_parent [] h = refl
-no_parent (b ∷ bs) h = by (is_slash b) (has_slash bs) h
-  where
-    by : (s t : Bool) → (s || t) ≡ false → cond t (b ∷ parent bs) [] ≡ []
-    by true t e = cc
-    by false true e = cc
-    by false false e = refl
-
 pub scan_first : (path : List ℕ) → scan 0 0 path ≡ parent path
-scan_first path = by (has_slash path) (no_parent path)
+scan_first path = by (has_slash path) (parent_plain path)
   where
     by : (h : Bool) → (h ≡ false → parent path ≡ []) → cond h (parent path) [] ≡ parent path
     by true none = refl

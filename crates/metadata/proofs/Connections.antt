@@ -1,7 +1,8 @@
 -- Connections that were served, one after the other.
-use Rattle.std.proofs.Common.{arith, ◌≡◌, inl, inr, ◌≤◌, ◌+◌, ℕ, Option, Some, None, option_map, Ok, Err, List, [], ◌∷◌, ◌++◌, length, refl, ap, subst, ◌∙◌}
+use Rattle.std.proofs.Common.{◌≡◌, inl, inr, ◌≤◌, ◌+◌, ℕ, Option, Some, None, option_map, Ok, Err, List, [], ◌∷◌, ◌++◌, length, refl, ap, subst, ◌∙◌}
 use Rattle.std.specs.Prelude.{IsErrOf, OnOk}
 use Rattle.dir_model.specs.Causes.{Rose}
+use Rattle.dir_laws.proofs.Rose.{rose_later, rose_still}
 use Rattle.dir_trait.specs.DirCalls.{DirAt}
 use Rattle.listener.specs.Connections.{Connection, HungUp, ListenerAt, fresh, past_with_current, HangsUp, WritesText, read_on, written_on}
 use Rattle.metadata_request.specs.Inputs.{unread_of, HasRead}
@@ -75,12 +76,6 @@ fault_more [] (Ok done) = refl
 fault_more [] (Err e) = refl
 fault_more (Ok done ∷ rest) served = fault_more rest served
 fault_more (Err e ∷ rest) served = refl
-
-rose_later : (a b c : ℕ) → a ≤ b → Rose b c → Rose a c
-rose_later a b c before rose = omega arith
-
-rose_still : (a b c : ℕ) → Rose a b → b ≤ c → Rose a c
-rose_still a b c rose after = omega arith
 
 -- why the first of both failed
 pub first_cause : (first served : Served) (e : MetaError) (a b c : ℕ) → (IsErrOf first e → Rose a b) → (IsErrOf served e → Rose b c) → a ≤ b → b ≤ c → IsErrOf (first_failed_of first served) e → Rose a c

@@ -66,7 +66,7 @@ other_phase pod phase.ExitedGarbage area trace off is now = let e : Some phase.E
 other_phase pod phase.Garbage area trace off is now = let e : Some phase.Garbage ≡ Some phase.Running = sym is.is ∙ now in cc
 other_phase pod phase.Deleting area trace off is now = let e : Some phase.Deleting ≡ Some phase.Running = sym is.is ∙ now in cc
 
-event_so : {me : ℕ} {old new : List Event} {P : List Event → Type 0} (Q : List Event → Type 0) → ((trace : List Event) → P trace → Q trace) → AtOwnEvent me old new P → AtOwnEvent me old new Q
+pub event_so : {me : ℕ} {old new : List Event} {P : List Event → Type 0} (Q : List Event → Type 0) → ((trace : List Event) → P trace → Q trace) → AtOwnEvent me old new P → AtOwnEvent me old new Q
 event_so Q f at = record { before = at.before; step = at.step; later = at.later; rest = at.rest; begins = at.begins; ends = at.ends; own = at.own; holds = f (at.before ++ at.step ∷ []) at.holds }
 
 pub phase_told : (pod : PodId) (found : Found) (b : Bool) (old new : DirAt) → b ≡ is_running found → IsExactly old new pod found → TellsPhase pod b old new

@@ -41,7 +41,7 @@ event_within {me} {a} {b} {c} {d} {P} more rest ab cd at = record {
 conforms_at : {me : ℕ} {old new : List Event} {P : DirState → Type 0} (at : AtOwnStep me old new P) → IsConforming new → IsConforming (moment at)
 conforms_at at conforming = conforming_left (moment at) at.rest (subst IsConforming at.ends conforming)
 
-stage_of : (area : Area) → rank area ≤ 5 → is_stage area ≡ true
+pub stage_of : (area : Area) → rank area ≤ 5 → is_stage area ≡ true
 stage_of area within = grind (arith, nat_tests)
 
 pub found_exactly : (pod : PodId) (phase : Phase) (area : Area) {me : ℕ} {old new : List Event} → rank area ≤ 5 → IsConforming new → AtOwnStep me old new (HasPhase (pod_spot pod area) phase) → AtOwnEvent me old new (IsInPhase pod phase area)

@@ -16,14 +16,14 @@ use Rattle.dir_model.specs.declared.request.Reply.{Reply}
 use Rattle.dir_model.specs.declared.request.Reply.TheVariants.{Done, Refused}
 use Rattle.dir_model.specs.declared.request.Request.{Request}
 use Rattle.dir_model.specs.declared.request.Request.TheVariants.{MakeFolder, MoveFolder, Open, TryLock}
-use Rattle.dir_model.specs.Calls.{CallStep, Interference, TookPlace, LeftNothing}
+use Rattle.dir_model.specs.Calls.{CallStep, TookPlace, LeftNothing}
 use Rattle.dir_model.specs.Causes.{Rose}
 use Rattle.dir_model.specs.Replies.{may_refuse, done_reply}
 use Rattle.dir_model.proofs.Lists.{and_both, or_last}
 use Rattle.dir_rules.specs.declared.seen.Entry.{Entry}
 use Rattle.dir_rules.specs.declared.seen.Seen.{Seen}
-use Rattle.dir_rules.specs.Conforms.{Agrees, IsTied}
-use Rattle.dir_rules.proofs.Tied.{meanwhile_unseen, lived_meanwhile}
+use Rattle.dir_rules.specs.Conforms.{IsTied}
+use Rattle.dir_rules.proofs.Tied.{tied_meanwhile}
 use Rattle.dir_trait.specs.DirCalls.{DirAt, DirCall, ExtendsBy, HeldBetween}
 use Rattle.dir_trait.specs.Effects.{OnlyAsks}
 use Rattle.dir_files.specs.declared.lock_error.LockError.{LockError}
@@ -38,7 +38,8 @@ use Rattle.folder_building.specs.Sources.{SourceAt, UnlikeContent, UnlikeAt}
 use Rattle.folder_building.specs.Sources.{in_images, reads_image_files}
 use Rattle.folder_building.specs.Stored.{LacksAt}
 use Rattle.folder_building.specs.Work.{EndsWithStrayBuilding, is_stray_building, builds_at, either}
-use Rattle.folder_building.proofs.Working.{worked_call, at_spot}
+use Rattle.folder_building.proofs.Working.{worked_call}
+use Rattle.folder_building.proofs.Following.{Follows, nothing_follows}
 use Rattle.pod_build.specs.declared.make_error.MakeError.TheVariants.{Busy, Taken, Unlike, DirFault, Stray}
 use Rattle.pod_build.specs.MakingRefusals.{making_change_refusal, making_lock_refusal, make_folder_refusal, make_error_of_build}
 use Rattle.pod_build.specs.MakingRequests.{pod_at, begins_pod, hands_pod, hands_on, fills_pod, shows_taken, shows_changed, area_before}
@@ -47,15 +48,8 @@ use Rattle.pod_build.specs.MakingCauses.{WasOpenedThere, ShowsTaken, LosesPod, i
 use Rattle.pod_build.specs.Makings.{HasMovedPod}
 use Rattle.pod_build.specs.Handovers.{is_handed_to}
 use Rattle.dir_model.proofs.Chains.{nothing_yet, and_call}
-use Rattle.pod_build.proofs.Times.{Follows, embryo_cause, nothing_follows}
-
--- the same call, by what its spots are
-pub with_spot : {observed : Bool} {old new : DirAt} {a b : Spot} {reply : Reply} (request : Spot → Request) → a ≡ b → DirCall observed old (request a) reply new → DirCall observed old (request b) reply new
-with_spot {observed} {old} {new} {a} {b} {reply} request is c = subst (λ (s : Spot). DirCall observed old (request s) reply new) is c
-
-pub with_spots : {observed : Bool} {old new : DirAt} {from from' to to' : Spot} {reply : Reply} → from ≡ from' → to ≡ to' → DirCall observed old (MoveFolder from to) reply new → DirCall observed old (MoveFolder from' to') reply new
-with_spots {observed} {old} {new} {from} {from'} {to} {to'} {reply} a b c =
-    subst (λ (t : Spot). DirCall observed old (MoveFolder from' t) reply new) b (subst (λ (f : Spot). DirCall observed old (MoveFolder f to) reply new) a c)
+use Rattle.dir_model.proofs.Spots.{spot_self}
+use Rattle.pod_build.proofs.Times.{embryo_cause}
 
 -- a spot, by what its area is
 pub in_area : {spot : Spot} {area here : Area} (draw : PodId) → spot ≡ pod_at area draw → area ≡ here → spot ≡ pod_at here draw
@@ -72,18 +66,18 @@ follows_call c = record { same = c.same; faults = c.faults; asks = λ r. true; e
 
 -- the calls are among those of the making
 pub worked_make : {observed : Bool} {old new : DirAt} (draw : PodId) (answer : Result (Unit {0}) DirError) → DirCall observed old (MakeFolder (pod_at Embryo draw)) (done_reply answer) new → OnlyAsks observed (begins_pod draw) old new
-worked_make draw (Ok done) c = worked_call (at_spot (pod_at Embryo draw)) refl c
-worked_make draw (Err error) c = worked_call (at_spot (pod_at Embryo draw)) refl c
+worked_make draw (Ok done) c = worked_call (spot_self (pod_at Embryo draw)) refl c
+worked_make draw (Err error) c = worked_call (spot_self (pod_at Embryo draw)) refl c
 
 asks_leave : (draw : PodId) → begins_pod draw (MoveFolder (pod_at Embryo draw) (pod_at Prepare draw)) ≡ true
-asks_leave draw = and_both _ _ (at_spot (pod_at Embryo draw)) (at_spot (pod_at Prepare draw))
+asks_leave draw = and_both _ _ (spot_self (pod_at Embryo draw)) (spot_self (pod_at Prepare draw))
 
 pub worked_leave : {observed : Bool} {old new : DirAt} (draw : PodId) (answer : Result (Unit {0}) DirError) → DirCall observed old (MoveFolder (pod_at Embryo draw) (pod_at Prepare draw)) (done_reply answer) new → OnlyAsks observed (begins_pod draw) old new
 worked_leave draw (Ok done) c = worked_call (asks_leave draw) refl c
 worked_leave draw (Err error) c = worked_call (asks_leave draw) refl c
 
 asks_hand : (draw : PodId) (to : Area) → hands_pod draw to (MoveFolder (pod_at Prepare draw) (pod_at to draw)) ≡ true
-asks_hand draw to = and_both _ _ (at_spot (pod_at Prepare draw)) (at_spot (pod_at to draw))
+asks_hand draw to = and_both _ _ (spot_self (pod_at Prepare draw)) (spot_self (pod_at to draw))
 
 pub worked_hand : {observed : Bool} {old new : DirAt} (draw : PodId) (to : Area) (answer : Result (Unit {0}) DirError) → DirCall observed old (MoveFolder (pod_at Prepare draw) (pod_at to draw)) (done_reply answer) new → OnlyAsks observed (hands_pod draw to) old new
 worked_hand draw to (Ok done) c = worked_call (asks_hand draw to) refl c
@@ -125,8 +119,8 @@ pub shows_call : {draw : PodId} {me : ℕ} {old new : List Event} (request : Req
 shows_call {draw} {me} {old} {new} request reply lock shows step = record { before = old; after = new; later = []; request = request; reply = reply; since = nothing_yet; lock = lock; shows = shows; step = step; ends = sym (append-nil new) }
 
 pub taken_move : (draw : PodId) (to : Spot) (e : DirError) → may_refuse (MoveFolder (pod_at Embryo draw) to) e ≡ true → making_change_refusal e ≡ Stray → shows_taken draw (MoveFolder (pod_at Embryo draw) to) (Refused e 0) ≡ true
-taken_move draw to Missing may is = at_spot (pod_at Embryo draw)
-taken_move draw to Exists may is = at_spot (pod_at Embryo draw)
+taken_move draw to Missing may is = spot_self (pod_at Embryo draw)
+taken_move draw to Exists may is = spot_self (pod_at Embryo draw)
 taken_move draw to Failed may is = cc
 taken_move draw to dir.NoMemory may is = cc
 taken_move draw to e may is = cc
@@ -146,7 +140,7 @@ changed_move draw to dir.NoMemory on may is = cc
 changed_move draw to e on may is = cc
 
 pub taken_open : (draw : PodId) (e : DirError) → may_refuse (Open (pod_at Embryo draw) which.Own) e ≡ true → making_change_refusal e ≡ Stray → shows_taken draw (Open (pod_at Embryo draw) which.Own) (Refused e 0) ≡ true
-taken_open draw Missing may is = at_spot (pod_at Embryo draw)
+taken_open draw Missing may is = spot_self (pod_at Embryo draw)
 taken_open draw Failed may is = cc
 taken_open draw dir.NoMemory may is = cc
 taken_open draw e may is = cc
@@ -267,13 +261,6 @@ fill_cause {observed} {old} {new} plan source e fault failed unlike lacks = reco
     by : (e ≡ build.SourceFault) ⊎ (e ≡ build.DirFault) → Rose old.faults new.faults
     by (inl is) = absurd (never_rose (failed is))
     by (inr is) = fault is
-
--- what a process knew before a call, it knew at the call's step
-pub tied_meanwhile : {me : ℕ} {old new : List Event} {s : Seen} → IsTied me old s → Interference me old new → IsTied me new s
-tied_meanwhile {me} {old} {new} {s} tied m = record {
-  living = λ now. subst (Agrees s) (sym (meanwhile_unseen m)) (tied.living (lived_meanwhile m now));
-  conforms = λ kept. ap (λ (x : Seen). x.kept) (meanwhile_unseen m) ∙ tied.conforms kept;
-}
 
 -- the move that was answered Ok
 pub moved_by : {me : ℕ} {from to : Spot} {old new : List Event} {s : Seen} (entries : List Entry) (intent : Intent) → s.standing.intent ≡ Some intent → s.making ≡ Some (holding from entries) → IsTied me old s → CallStep me old (MoveFolder from to) Done new → HasMovedPod me from to entries intent old new

@@ -1,6 +1,7 @@
 -- A pod that was prepared was made faithfully, whatever others did; and in a conforming execution it stands there as it was made.
 use Rattle.std.proofs.Common.{◌≡◌, ℕ, Bool, true, false, not, ◌||◌, cond, Option, Some, None, List, [], ◌∷◌, ◌++◌, unwrap_or, refl, sym, ap, subst, ◌∙◌, append-nil, append_assoc, arith}
 use Rattle.std.specs.List.{AllByRecursion}
+use Rattle.plain_laws.proofs.Booleans.{clash}
 use Rattle.ac_types.specs.declared.image_ref.ImageRef.{ImageRef}
 use Rattle.dir_model.specs.declared.area.Area.{Area}
 use Rattle.dir_model.specs.declared.area.Area.TheVariants.{Prepare}
@@ -27,15 +28,17 @@ use Rattle.dir_rules.specs.declared.seen.Seen.{Seen}
 use Rattle.dir_rules.specs.Seen.{spoilt}
 use Rattle.dir_rules.specs.Standing.{shares_area}
 use Rattle.dir_rules.specs.Conforms.{IsTied, lost, seen_of, seen_replied}
+use Rattle.dir_laws.proofs.Living.{lived_first}
 use Rattle.dir_trait.specs.DirCalls.{DirAt}
 use Rattle.dir_trait.specs.Knowledge.{Knows}
+use Rattle.folder_building.proofs.Following.{Follows}
 use Rattle.lifecycle.specs.Executions.{IsConforming}
 use Rattle.folder_contents.specs.Handing.{hands_over}
 use Rattle.folder_contents.specs.UnderGate.{KnowsAlong, shares_images}
 use Rattle.folder_contents.proofs.Along.{each_beginning, foreign_same, one_of, own_next}
 use Rattle.folder_contents.proofs.Handed.{moves_hand_over}
-use Rattle.lifecycle.proofs.Handles.{clash, is_due}
-use Rattle.gate_reading.proofs.GoingOn.{knows_standing, knows_gate, lived_first}
+use Rattle.lifecycle.proofs.Handles.{is_due}
+use Rattle.gate_reading.proofs.GoingOn.{knows_standing, knows_gate}
 use Rattle.image_reading.specs.Looks.{reads_images}
 use Rattle.manifests.specs.PodData.{pod_data}
 use Rattle.pod_manifest.specs.Wishes.{Wishes}
@@ -45,7 +48,6 @@ use Rattle.pod_build.specs.Progress.{seen_making, holding, nothing_made}
 use Rattle.pod_build.specs.Makings.{HasMovedPod}
 use Rattle.pod_build.specs.Handovers.{BeforeHandingOver, KnewMade}
 use Rattle.pod_build.proofs.Handing.{until_step}
-use Rattle.pod_build.proofs.Times.{Follows}
 use Rattle.pod_build.specs.Preparations.{Began, HasPrepared, ReadsThenMakes, IsHandedOver, IsPrepared}
 use Rattle.pod_build.specs.FaithfulBuild.{HasImagesBetween, IsFaithfulBuild, HandsOverFaithfully}
 

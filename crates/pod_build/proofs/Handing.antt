@@ -2,6 +2,7 @@
 use Rattle.std.proofs.Common.{◌≡◌, ◌⊎◌, inl, inr, ℕ, Bool, true, false, not, ◌&&◌, ◌||◌, ◌==◌, bytes_eq, List, [], ◌∷◌, ◌++◌, refl, sym, ap, subst, ◌∙◌, append_assoc, append-nil, arith}
 use Rattle.std.proofs.lemmas.Bool.Decides.{nat_tests}
 use Rattle.std.specs.List.{AllByRecursion}
+use Rattle.plain_laws.proofs.Booleans.{clash}
 use Rattle.dir_model.specs.declared.area.Area.{Area}
 use Rattle.dir_model.specs.declared.area.Area.TheVariants.{Embryo, Prepare}
 use Rattle.dir_model.specs.declared.event.Event.{Event}
@@ -18,13 +19,13 @@ use Rattle.dir_model.specs.State.{spot_eq}
 use Rattle.dir_model.specs.Calls.{CallStep, IsRun, TookPlace, LeftNothing, Extends, event, is_foreign}
 use Rattle.dir_model.proofs.Chains.{nothing_yet, and_call, and_more, extends_wider, run-left}
 use Rattle.dir_model.proofs.Lists.{all_left, all_right, and_left, not_true, same_rest, same_self}
+use Rattle.dir_rules.proofs.Tied.{tied_meanwhile}
 use Rattle.dir_trait.specs.DirCalls.{DirAt, DirCall}
 use Rattle.folder_building.specs.declared.plan.PlanEntry.{PlanEntry}
 use Rattle.pod_build.specs.MakingRequests.{pod_at, begins_pod, fills_pod}
 use Rattle.pod_build.specs.Progress.{seen_making, in_prepare}
 use Rattle.pod_build.specs.Makings.{WherePlanFilled}
 use Rattle.pod_build.specs.Handovers.{is_handed_to, is_pod_handover, BeforeHandingOver, HandsOverMade}
-use Rattle.pod_build.proofs.Calls.{tied_meanwhile}
 
 -- no request of this kind hands a pod over
 abbrev pub HandsNothingOver : (Request → Bool) → Type 0
@@ -35,9 +36,6 @@ moves_by me from to = event me (MoveFolder from to) Done
 
 own_move : (me : ℕ) (from to : Spot) → is_foreign me (moves_by me from to) ≡ false
 own_move me from to = ap (λ b. not b || false) (same_self me)
-
-never : {X : Type 0} (b : Bool) → b ≡ true → b ≡ false → X
-never b so not_so = let clash : true ≡ false = sym so ∙ not_so in cc
 
 -- where two lists are one, an item of the first stands in the first part of the second or behind it
 cut : {X : Type 0} (e : X) (later : List X) (m x y : List X) → m ++ e ∷ later ≡ x ++ y →
@@ -57,7 +55,7 @@ cut {X} e later (v ∷ m) (z ∷ x) y is = by (cut e later m x y cc)
 -- an own move isn't among events of others
 not_among : {X : Type 0} (me : ℕ) (from to : Spot) (others m w : List Event) → AllByRecursion (λ e. is_foreign me e ≡ true) others → others ≡ m ++ moves_by me from to ∷ w → X
 not_among me from to others m w foreign is =
-    never (is_foreign me (moves_by me from to)) (all_right (λ e. is_foreign me e ≡ true) m (moves_by me from to ∷ w) (subst (λ (l : List Event). AllByRecursion (λ e. is_foreign me e ≡ true) l) is foreign)).0 (own_move me from to)
+    clash (is_foreign me (moves_by me from to)) (all_right (λ e. is_foreign me e ≡ true) m (moves_by me from to ∷ w) (subst (λ (l : List Event). AllByRecursion (λ e. is_foreign me e ≡ true) l) is foreign)).0 (own_move me from to)
 
 -- the part of a trace behind an earlier one
 rest_is : (e : Event) (old : List Event) {new before : List Event} {more : List Event} (m later : List Event) → before ≡ old ++ m → new ≡ before ++ e ∷ later → new ≡ old ++ more → m ++ e ∷ later ≡ more
@@ -75,7 +73,7 @@ none_handed {P} {asks} {me} {old} {new} none e = record { so = λ before m later
     by m later from to whole out =
         let own : Asked (moves_by me from to) = (all_right Asked m (moves_by me from to ∷ later) (subst (λ (l : List Event). AllByRecursion Asked l) (sym whole) e.asked)).0 in
         let asked : asks (MoveFolder from to) ≡ true = sym (ap (λ b. b || asks (MoveFolder from to)) (own_move me from to)) ∙ own in
-        never (is_pod_handover (MoveFolder from to)) out (none (MoveFolder from to) asked)
+        clash (is_pod_handover (MoveFolder from to)) out (none (MoveFolder from to) asked)
 
 -- and where nothing is asked for at all
 pub nothing_handed : {P : List Event → Type 0} {me : ℕ} {trace : List Event} → BeforeHandingOver P me trace trace

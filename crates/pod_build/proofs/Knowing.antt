@@ -1,5 +1,6 @@
 -- What the maker of a pod knows after each part of the making.
 use Rattle.std.proofs.Common.{◌≡◌, inl, inr, ℕ, Bool, true, false, not, ◌&&◌, ◌||◌, ◌==◌, Some, None, List, [], ◌∷◌, refl, sym, ap, subst, ◌∙◌}
+use Rattle.plain_laws.proofs.Texts.{same_bytes}
 use Rattle.dir_model.specs.declared.area.Area.{Area}
 use Rattle.dir_model.specs.declared.area.Area.TheVariants.{Embryo, Prepare, Run, Images}
 use Rattle.dir_model.specs.declared.intent.Intent.{Intent}
@@ -22,7 +23,7 @@ use Rattle.dir_rules.specs.declared.seen.Seen.{Seen}
 use Rattle.dir_rules.specs.LockRules.{is_open_on}
 use Rattle.dir_rules.specs.Conforms.{seen_replied}
 use Rattle.dir_rules.specs.Rules.{is_whole_pod}
-use Rattle.dir_rules.proofs.Looks.{Fresh, same_bytes, deletes_none}
+use Rattle.dir_rules.proofs.Looks.{Fresh, deletes_none}
 use Rattle.dir_trait.specs.DirCalls.{DirAt, DirCall}
 use Rattle.dir_trait.specs.Knowledge.{Knows}
 use Rattle.dir_trait.proofs.Knowing.{knows_call}
@@ -32,13 +33,14 @@ use Rattle.folder_building.specs.declared.plan.PlanEntry.{PlanEntry}
 use Rattle.folder_building.specs.Plans.{AreMade}
 use Rattle.folder_building.specs.Making.{IsSite, MayFill, CarriesOut, BeginsPlan}
 use Rattle.folder_building.specs.Sources.{SourceAt, may_read_images}
+use Rattle.folder_building.proofs.Following.{Follows, nothing_follows}
 use Rattle.pod_build.specs.MakingRequests.{pod_at}
 use Rattle.pod_build.specs.Progress.{Progress, seen_making, holding, nothing_made, in_embryo, in_prepare, handed, own_held}
 use Rattle.pod_build.specs.Work.{IsMaker, MayMake, MakesUnderImages, UnderMakingLocks, Owns, WhereMakingPod, HasMakerFolder}
 use Rattle.pod_build.specs.Makings.{HasFilledPrepare, WherePlanFilled, IsHanded, HasMade}
 use Rattle.pod_locks.specs.Running.{RunsPod}
 use Rattle.pod_build.proofs.Steps.{is_maker_of, own_given, made_seen, unmade_seen, locked_seen, unlocked_seen, left_seen, unleft_seen, handed_seen, unhanded_seen, gate_given_back, gate_given_after}
-use Rattle.pod_build.proofs.Times.{Follows, nothing_follows, moved_within}
+use Rattle.pod_build.proofs.Times.{moved_within}
 use Rattle.pod_build.proofs.Calls.{moved_by}
 
 -- the folder was made, or not

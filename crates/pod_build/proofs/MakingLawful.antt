@@ -1,6 +1,7 @@
 -- Where every process keeps the local rules no making is refused as stray.
 use Rattle.std.proofs.Common.{◌≡◌, ◌⊎◌, inl, inr, ℕ, Bool, true, false, not, ◌&&◌, ◌||◌, ◌==◌, cond, Option, Some, None, find, IfErr, IsErrOf, Result, List, [], ◌∷◌, ◌++◌, refl, sym, ap, subst, ◌∙◌}
 use Rattle.std.specs.List.{AllByRecursion}
+use Rattle.plain_laws.proofs.Booleans.{no_more}
 use Rattle.dir_model.specs.declared.area.Area.{Area}
 use Rattle.dir_model.specs.declared.area.Area.TheVariants.{Embryo, Prepare, Prepared, Run, Removed}
 use Rattle.dir_model.specs.declared.event.Event.{Event}
@@ -23,6 +24,7 @@ use Rattle.dir_model.specs.Replies.{is_late_reply}
 use Rattle.dir_model.specs.State.{spot_eq}
 use Rattle.dir_model.proofs.Chains.{step_extends}
 use Rattle.dir_model.proofs.Lists.{and_left, and_right, and_both, same_self}
+use Rattle.dir_model.proofs.Spots.{spot_self}
 use Rattle.dir_rules.specs.declared.seen.Seen.{Seen}
 use Rattle.dir_rules.specs.declared.standing.Held.{Held}
 use Rattle.dir_rules.specs.declared.standing.Standing.{Standing}
@@ -36,7 +38,6 @@ use Rattle.dir_rules.proofs.Tied.{meanwhile_unseen, own_seen, seen_after-append}
 use Rattle.dir_trait.specs.DirCalls.{DirAt}
 use Rattle.folder_building.specs.declared.plan.PlanEntry.{PlanEntry}
 use Rattle.folder_building.specs.Work.{is_stray_building}
-use Rattle.folder_building.proofs.Working.{at_spot}
 use Rattle.folder_contents.proofs.Spots.{one_location}
 use Rattle.lifecycle.specs.Executions.{IsConforming}
 use Rattle.lifecycle.proofs.Draws.{conforming_left}
@@ -65,10 +66,6 @@ took {me} {old} {new} {request} {reply} call timely = by call.own
     by : TookPlace call.before me request reply new ⊎ LeftNothing call.before me request reply new → TookPlace call.before me request reply new
     by (inl t) = t
     by (inr left) = absurd (timely left.late)
-
-never_both : (b : Bool) → (b && false) ≡ true → ⊥
-never_both true is = cc
-never_both false is = cc
 
 -- no pod that is moved meets another
 never_met : {me : ℕ} {old new : List Event} (from to : Spot) (left : ℕ) → CallStep me old (MoveFolder from to) (Refused Exists left) new → IsConforming new → is_stage from.area ≡ true → ⊥
@@ -141,7 +138,7 @@ module _ (draw : PodId) where
         let may : may_make s.standing Here ≡ true = and_left (may_make s.standing Here) (content_rules_allow s (MakeFolder Here)) x.may in
         let named = and_left (is_in Embryo Embryo && draws (pod_text draw.bytes) s.standing) _ may in
         let held = and_right _ (shares_area Embryo s.standing) (and_right (is_in Embryo Embryo && draws (pod_text draw.bytes) s.standing) _ may) in
-        let after : HasEmbryo (seen_replied s (MakeFolder Here) Done) = record { embryo_under_lock = held; drawn = and_right (is_in Embryo Embryo) _ named; makes = and_both _ _ (at_spot Here) refl } in
+        let after : HasEmbryo (seen_replied s (MakeFolder Here) Done) = record { embryo_under_lock = held; drawn = and_right (is_in Embryo Embryo) _ named; makes = and_both _ _ (spot_self Here) refl } in
         subst (λ (h : List Event). HasEmbryo (seen_of me h)) (sym t.grown) (subst HasEmbryo (sym (own_seen me call.before (MakeFolder Here) Done refl)) after)
 
     -- so nobody else takes it
@@ -234,7 +231,7 @@ module _ (draw : PodId) where
 
     never_changed : {old new : List Event} (request : Request) (reply : Reply) → shows_changed draw request reply ≡ true → CallStep me old request reply new → IsConforming new → ⊥
     never_changed {old} {new} (MoveFolder from to) (Refused Missing left) is call conforming =
-        let t = took call (λ late. never_both (left == 0) late) in
+        let t = took call (λ late. no_more (left == 0) late) in
         let x = steps call.before (event me (MoveFolder from to) (Refused Missing left)) (subst IsConforming t.grown conforming) refl refl in
         let s = seen_of me call.before in
         let makes = brings_its s from to is (and_right (lock_rules_allow s.standing (MoveFolder from to)) (may_move_by_contents s from to) x.may) in

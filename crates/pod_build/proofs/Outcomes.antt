@@ -15,17 +15,17 @@ use Rattle.dir_model.specs.Local.{Local, IsUnopened, without}
 use Rattle.dir_model.proofs.Chains.{nothing_yet, and_call, and_more, extends_wider}
 use Rattle.dir_model.proofs.Lists.{or_last}
 use Rattle.dir_model.proofs.Holdings.{tried_by}
+use Rattle.dir_model.proofs.Spots.{spot_self}
 use Rattle.dir_trait.specs.DirCalls.{DirAt, DirCall, ExtendsBy}
 use Rattle.dir_trait.specs.Effects.{OnlyAsks, LeavesOpen}
 use Rattle.dir_files.specs.AreaLocks.{is_taking_area, closes, and_area_lock}
-use Rattle.folder_building.proofs.Working.{at_spot}
+use Rattle.folder_building.proofs.Following.{Follows}
 use Rattle.pod_build.specs.declared.make_error.MakeError.{MakeError}
 use Rattle.pod_build.specs.MakingRequests.{pod_at, begins_pod, fills_pod, hands_pod, finishes_pod, makes_pod}
 use Rattle.pod_build.specs.Progress.{and_own, with_own}
 use Rattle.pod_build.specs.Makings.{with_owned}
 use Rattle.pod_locks.specs.declared.owned.Owned.{Owned}
 use Rattle.pod_build.proofs.Locals.{locked_own, other_number, own_closed, gate_given_local}
-use Rattle.pod_build.proofs.Times.{Follows}
 
 -- the lock of embryo was had
 pub record Shares (observed : Bool) (g : Handle) (old new : DirAt) : Type 0 where
@@ -105,7 +105,7 @@ hands_finishes draw to r is = rw is refl
 
 -- its own lock was opened and taken, or not
 asks_open : (draw : PodId) → begins_pod draw (Open (pod_at Embryo draw) which.Own) ≡ true
-asks_open draw = at_spot (pod_at Embryo draw)
+asks_open draw = spot_self (pod_at Embryo draw)
 
 module _ {observed : Bool} {old mid : DirAt} (draw : PodId) where
   pub went_locked : {new : DirAt} (h : Handle) → IsUnopened old.local h → DirCall observed old (Open (pod_at Embryo draw) which.Own) (Opened h) mid → DirCall observed mid (TryLock h Exclusive) Done new → LeavesOpen observed (begins_pod draw) (and_own old.local draw h) old new
@@ -131,10 +131,6 @@ module _ {observed : Bool} {old mid : DirAt} (draw : PodId) where
 pub went_as : {observed : Bool} {asks : Request → Bool} {a b : DirAt} (m : Local) (draw : PodId) (r q : Result Handle MakeError) → r ≡ q → LeavesOpen observed asks (with_own m draw r) a b → LeavesOpen observed asks (with_own m draw q) a b
 went_as {observed} {asks} {a} {b} m draw r q is w = subst (λ (x : Result Handle MakeError). LeavesOpen observed asks (with_own m draw x) a b) is w
 
-pub ok_both : {X E : Type 0} (P Q R : X → Type 0) (r : Result X E) → ((x : X) → P x → Q x → R x) → IfOk r P → IfOk r Q → IfOk r R
-ok_both P Q R (Ok x) f p q = f x p q
-ok_both P Q R (Err e) f p q = tt
-
 pub apart_from : {b : Local} (a : Local) (g own : Handle) → b ≡ and_area_lock a g Embryo Shared → IsUnopened b own → (own.number == g.number) ≡ false
 apart_from a g own is h = other_number a g own Embryo (subst (λ (m : Local). IsUnopened m own) is h)
 
@@ -142,10 +138,6 @@ apart_from a g own is h = other_number a g own Embryo (subst (λ (m : Local). Is
 pub err_with : {X E : Type 0} (P Q : E → Type 0) (r : Result X E) → ((e : E) → r ≡ Err e → P e → Q e) → IfErr r P → IfErr r Q
 err_with P Q (Ok x) f p = p
 err_with P Q (Err e) f p = f e refl p
-
-pub err_same : {A B E : Type 0} (Q : E → Type 0) (r : Result A E) (other : Result B E) → ((e : E) → other ≡ Err e → r ≡ Err e) → IfErr r Q → IfErr other Q
-err_same Q r (Ok b) f h = tt
-err_same Q r (Err e) f h = subst (λ x. IfErr x Q) (f e refl) h
 
 -- a start that was refused
 pub worked_residual : {observed : Bool} {asks : Request → Bool} {m : Local} {a b : DirAt} (draw : PodId) (r : Result Handle MakeError) (e : MakeError) → r ≡ Err e → LeavesOpen observed asks (with_own m draw r) a b → LeavesOpen observed asks m a b

@@ -3,8 +3,8 @@ use Rattle.std.proofs.Common.{◌≡◌, inl, inr, ℕ, Bool, true, List, [], �
 use Rattle.ac_types.specs.declared.image_ref.ImageRef.{ImageRef}
 use Rattle.dir_model.specs.declared.intent.Draw.{Draw}
 use Rattle.dir_trait.specs.DirCalls.{DirAt}
+use Rattle.folder_building.proofs.Following.{Follows}
 use Rattle.pod_manifest.specs.Wishes.{Wishes}
-use Rattle.pod_build.proofs.Times.{Follows}
 use Rattle.pod_build.specs.declared.error.BuildError.{BuildError}
 use Rattle.pod_build.specs.Causes.{IsStretchWithin, During, IsMadeByPlan, IsRefusedUnderLock}
 

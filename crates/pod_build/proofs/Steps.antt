@@ -1,6 +1,7 @@
 -- What the maker of a pod knows after each of its calls.
 use Rattle.std.proofs.Common.{◌≡◌, ℕ, Bool, true, false, not, ◌&&◌, ◌||◌, ◌==◌, cond, bytes_eq, Option, Some, None, List, [], ◌∷◌, map, filter, refl, ap, ◌∙◌}
 use Rattle.std.specs.List.{list_any}
+use Rattle.plain_laws.proofs.Texts.{same_bytes}
 use Rattle.dir_model.specs.declared.area.Area.{Area}
 use Rattle.dir_model.specs.declared.area.Area.TheVariants.{Embryo, Prepare, Prepared, Run, ExitedGarbage, Garbage, Incoming}
 use Rattle.dir_model.specs.declared.intent.Intent.{Intent}
@@ -30,7 +31,7 @@ use Rattle.dir_rules.specs.LockRules.{is_open_on, may_lock_by, may_lock_own}
 use Rattle.dir_rules.specs.Rules.{allows, is_deleting, is_whole_pod}
 use Rattle.dir_rules.specs.Seen.{moved_making}
 use Rattle.dir_rules.specs.Conforms.{seen_replied}
-use Rattle.dir_rules.proofs.Looks.{Fresh, Plain, same_bytes, none_given, map_same, closed_plain, newest_found, newest_locked, alone_newest, deletes_none}
+use Rattle.dir_rules.proofs.Looks.{Fresh, Plain, none_given, map_same, closed_plain, newest_found, newest_locked, alone_newest, deletes_none}
 use Rattle.dir_files.specs.AreaLocks.{on_gate}
 use Rattle.folder_building.specs.declared.plan.PlanEntry.{PlanEntry}
 use Rattle.pod_build.specs.MakingRequests.{pod_at}

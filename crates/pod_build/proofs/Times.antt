@@ -1,5 +1,5 @@
 -- What came about in a part of a time came about in the whole.
-use Rattle.std.proofs.Common.{◌≡◌, inl, inr, ◌≤◌, ℕ, Bool, true, List, [], ◌∷◌, ◌++◌, refl, sym, ap, subst, ◌∙◌, append-nil, append_assoc, arith}
+use Rattle.std.proofs.Common.{◌≡◌, inl, inr, ℕ, Bool, true, List, [], ◌∷◌, ◌++◌, refl, sym, ap, subst, ◌∙◌, append-nil, append_assoc, arith}
 use Rattle.dir_model.specs.declared.event.Event.{Event}
 use Rattle.dir_model.specs.declared.area.Area.TheVariants.{Embryo}
 use Rattle.dir_model.specs.declared.intent.Intent.{Intent}
@@ -11,11 +11,11 @@ use Rattle.dir_model.specs.declared.request.Request.TheVariants.{MoveFolder}
 use Rattle.dir_model.specs.declared.request.Reply.{Reply}
 use Rattle.dir_model.specs.declared.request.Reply.TheVariants.{Done}
 use Rattle.dir_model.specs.Calls.{CallStep, Extends, event}
-use Rattle.dir_model.specs.Causes.{Rose}
 use Rattle.dir_model.specs.Local.{Local}
-use Rattle.dir_model.proofs.Chains.{nothing_yet, and_more, extends_wider}
+use Rattle.dir_model.proofs.Chains.{and_more, extends_wider}
 use Rattle.dir_model.proofs.Moments.{at_before}
 use Rattle.dir_rules.specs.declared.seen.Entry.{Entry}
+use Rattle.dir_laws.proofs.Rose.{rose_later, rose_still}
 use Rattle.dir_trait.specs.DirCalls.{DirAt, ExtendsBy, HeldBetween}
 use Rattle.dir_trait.specs.Effects.{OnlyAsks, LeavesOpen}
 use Rattle.folder_building.specs.declared.plan.PlanEntry.{PlanEntry}
@@ -25,31 +25,13 @@ use Rattle.dir_files.specs.AreaLocks.{IsFreeElsewhere, is_taking_area}
 use Rattle.folder_building.specs.Sources.{in_images}
 use Rattle.folder_building.specs.Stored.{LacksAt}
 use Rattle.folder_building.proofs.Stored.{lacks_after, lacks_before}
+use Rattle.folder_building.proofs.Following.{Follows}
 use Rattle.pod_build.specs.MakingRequests.{locks_own, is_move_to_prepare, shows_changed}
 use Rattle.pod_build.specs.MakingCauses.{WasAnswered, IsCopiedAt, MakingWorkCause, EmbryoCause, MakeCause, AsksFirst, AsksFolder, HasMadeFolder, ShowsTaken, LosesEmbryo, WasTakenMade, WasThenAnswered, MakesEmbryo, BringsToPrepare, LosesPod, LosesOwn}
 use Rattle.pod_build.specs.Makings.{HasMovedPod}
 
--- calls, whatever they leave open
-pub record Follows (observed : Bool) (old new : DirAt) : Type 0 where
-  pub same : new.process ≡ old.process
-  pub faults : old.faults ≤ new.faults
-  pub asks : Request → Bool
-  pub extends : observed ≡ true → ExtendsBy asks old new
-
-pub follows_work : {observed : Bool} {asks : Request → Bool} {a b : DirAt} → OnlyAsks observed asks a b → Follows observed a b
-follows_work {observed} {asks} w = record { same = w.same; faults = w.faults; asks = asks; extends = w.extends }
-
 pub follows_went : {observed : Bool} {asks : Request → Bool} {l : Local} {a b : DirAt} → LeavesOpen observed asks l a b → Follows observed a b
 follows_went {observed} {asks} w = record { same = w.same; faults = w.faults; asks = asks; extends = w.extends }
-
-pub nothing_follows : {observed : Bool} {a : DirAt} → Follows observed a a
-nothing_follows {observed} {a} = record { same = refl; faults = omega arith; asks = λ r. true; extends = λ t. nothing_yet }
-
-rose_later : (a b c : ℕ) → a ≤ b → Rose b c → Rose a c
-rose_later a b c before rose = omega arith
-
-rose_still : (a b c : ℕ) → Rose a b → b ≤ c → Rose a c
-rose_still a b c rose after = omega arith
 
 -- an own answer
 pub answered_self : (answers : Request → Reply → Bool) {request : Request} {reply : Reply} {me : ℕ} {old new : List Event} → answers request reply ≡ true → CallStep me old request reply new → WasAnswered answers me old new

@@ -3,6 +3,7 @@ use Rattle.std.proofs.Common.{◌≡◌, ◌≤◌, ◌<◌, ℕ, Bool, true, fa
 use Rattle.dir_model.specs.declared.area.Area.{Area}
 use Rattle.dir_model.specs.declared.area.Area.TheVariants.{Images, Prepare}
 use Rattle.std.specs.List.{list_any}
+use Rattle.std.proofs.lemmas.Bool.{or_right}
 use Rattle.dir_model.specs.declared.intent.Draw.{Draw}
 use Rattle.dir_model.specs.declared.intent.Intent.{Intent}
 use Rattle.dir_model.specs.declared.opening.Target.TheVariants.{Gate}
@@ -32,6 +33,7 @@ use Rattle.dir_files.specs.declared.lock_error.LockError.{LockError}
 use Rattle.dir_files.specs.declared.lock_error.LockError.TheVariants as lock
 use Rattle.dir_files.proofs.Locking.{unlocked_same}
 use Rattle.folder_building.specs.declared.plan.PlanEntry.{PlanEntry}
+use Rattle.folder_building.proofs.Following.{Follows}
 use Rattle.folder_contents.specs.Handing.{hands_over}
 use Rattle.image_reading.specs.Looks.{reads_images, OnlyReadsImages, KnowsStillNamed}
 use Rattle.pod_plan.specs.PodPlans.{ComesInTurn, MakesWhole}
@@ -45,7 +47,6 @@ use Rattle.pod_build.proofs.Begun.{begun_under}
 use Rattle.pod_build.proofs.Locals.{other_number, gate_closed}
 use Rattle.pod_build.proofs.Steps.{gate_given_after}
 use Rattle.pod_build.proofs.Handing.{HandsNothingOver}
-use Rattle.pod_build.proofs.Times.{Follows}
 use Rattle.pod_plan.specs.declared.plan_error.PlanError.{PlanError}
 use Rattle.pod_plan.specs.declared.plan_error.PlanError.TheVariants as plan
 use Rattle.pod_build.specs.declared.error.BuildError.{BuildError}
@@ -57,11 +58,6 @@ use Rattle.pod_build.specs.Refusals.{gate_refusal, plan_refusal, IsMakeRefusal}
 use Rattle.pod_build.specs.Causes.{FailsMaking, FindsImagesFree, AreaHeldElsewhere}
 use Rattle.pod_build.specs.Requests.{prepares, prepares_under_lock}
 use Rattle.pod_build.specs.Preparations.{Began, IsAlone, HasGateAlone}
-
--- two promises of an answer give a third
-pub ok_with : {T E : Type 0} (P R Q : T → Type 0) (r : Result T E) → ((x : T) → P x → R x → Q x) → IfOk r P → IfOk r R → IfOk r Q
-ok_with P R Q (Ok x) f p q = f x p q
-ok_with P R Q (Err e) f p q = tt
 
 -- the place of an entry that is copied lies in the plan
 before_end : (before rest : List PlanEntry) (e : PlanEntry) → length before < length (before ++ e ∷ rest)
@@ -77,10 +73,6 @@ worked_went w = record { same = w.same; faults = w.faults; local_is = w.local; e
 -- what is asked for under the lock of images, and with it
 reads_under : (draw : PodId) (to : Area) (r : Request) → reads_images r ≡ true → prepares_under_lock draw to r ≡ true
 reads_under draw to r is = ap (λ b. b || makes_pod draw to r) is
-
-or_right : (a b : Bool) → b ≡ true → (a || b) ≡ true
-or_right true b is = refl
-or_right false b is = is
 
 makes_under : (draw : PodId) (to : Area) (r : Request) → makes_pod draw to r ≡ true → prepares_under_lock draw to r ≡ true
 makes_under draw to r is = or_right (reads_images r) (makes_pod draw to r) is

@@ -1,9 +1,8 @@
 -- A lock of the pod is given up: what was known besides stays.
-use Rattle.std.proofs.Common.{◌≡◌, Bool, true, false, not, ◌&&◌, ◌||◌, cond, List, [], ◌∷◌, map, filter, refl, ap, ◌∙◌}
+use Rattle.std.proofs.Common.{◌≡◌, true, false, not, ◌&&◌, ◌||◌, cond, List, ◌∷◌, map, filter, ap, ◌∙◌}
 use Rattle.std.specs.List.{list_any}
+use Rattle.plain_laws.proofs.Lists.{none_of_filter}
 use Rattle.dir_model.specs.declared.area.Area.TheVariants.{Embryo}
-use Rattle.dir_model.specs.declared.opening.Target.TheVariants as target
-use Rattle.dir_model.specs.declared.spot.Handle.{Handle}
 use Rattle.dir_model.specs.declared.request.Request.TheVariants.{Close}
 use Rattle.dir_model.specs.declared.request.Reply.TheVariants.{Done}
 use Rattle.dir_model.specs.Pods.{pod_text}
@@ -11,25 +10,11 @@ use Rattle.dir_model.proofs.Lists.{same_self}
 use Rattle.dir_rules.specs.declared.standing.Held.{Held}
 use Rattle.dir_rules.specs.declared.seen.Seen.{Seen}
 use Rattle.dir_rules.specs.Standing.{is_handle_held, is_gate_shared, gives_up, uncovered_by_close, intends, holds_own}
-use Rattle.dir_rules.specs.Rules.{is_gate}
 use Rattle.dir_rules.specs.Conforms.{seen_replied}
-use Rattle.dir_rules.proofs.Looks.{Fresh, none_given}
+use Rattle.dir_rules.proofs.Looks.{Fresh, none_given, none_dropped}
 use Rattle.pod_locks.specs.ClaimHolding.{is_on_folder}
 use Rattle.pod_locks.specs.Holding.{is_in_garbage, IsBare, KeepsHoldings}
-use Rattle.pod_locks.proofs.OwnOpenings.{none_fails}
-use Rattle.pod_locks.proofs.ClaimSeen.{map_gates, gate_cover}
-
-none_dropped : (c : Handle) (hs : List Held) → Fresh c hs → filter (λ h. not (is_handle_held c h)) hs ≡ hs
-none_dropped c [] f = refl
-none_dropped c (x ∷ hs) f = by (is_handle_held c x) f (λ r. none_dropped c hs r)
-  where
-    by : (b : Bool) → (b || list_any (is_handle_held c) hs) ≡ false → (Fresh c hs → filter (λ y. not (is_handle_held c y)) hs ≡ hs)
-        → cond (not b) (x ∷ filter (λ y. not (is_handle_held c y)) hs) (filter (λ y. not (is_handle_held c y)) hs) ≡ x ∷ hs
-    by true f go = cc
-    by false f go = ap (λ (r : List Held). x ∷ r) (go f)
-
-recovered : (c : Handle) (whole : List Held) (h : Held) → not (is_gate h.target) ≡ false → uncovered_by_close c whole h ≡ h
-recovered c whole h g = ap (λ b. let r : Held = record h { covered = not b && h.covered } in r) (gate_cover c whole h.target g)
+use Rattle.pod_locks.proofs.ClaimSeen.{map_gates, recovered}
 
 module _ (x : Held) (base known : Seen) (fresh : Fresh x.handle base.standing.holdings) (apart : list_any is_on_folder base.standing.holdings ≡ false)
     (plain : is_gate_shared Embryo x ≡ false) (held : known.standing.holdings ≡ x ∷ base.standing.holdings) where
@@ -62,5 +47,5 @@ module _ (x : Held) (base known : Seen) (fresh : Fresh x.handle base.standing.ho
     intent = intent;
     holdings = given_holdings;
     kept = given_kept ∙ kept;
-    bare = none_fails is_in_garbage _ known.items bare;
+    bare = none_of_filter is_in_garbage _ known.items bare;
   }

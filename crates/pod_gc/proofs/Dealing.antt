@@ -32,14 +32,6 @@ pub all_ok_at : {T E X : Type 0} (r : Result T E) (P : X → T → Type 0) → (
 all_ok_at (Ok y) P f = f
 all_ok_at (Err e) P f = tt
 
-pub both_ok : {T E : Type 0} (P Q R : T → Type 0) (r : Result T E) → ((x : T) → P x → Q x → R x) → IfOk r P → IfOk r Q → IfOk r R
-both_ok P Q R (Ok x) f p q = f x p q
-both_ok P Q R (Err e) f p q = tt
-
-pub all_ok : {T E : Type 0} (P Q R S : T → Type 0) (r : Result T E) → ((x : T) → P x → Q x → R x → S x) → IfOk r P → IfOk r Q → IfOk r R → IfOk r S
-all_ok P Q R S (Ok x) f p q o = f x p q o
-all_ok P Q R S (Err e) f p q o = tt
-
 pub gc_by : (expire : ℕ) (intent : Option Intent) → intends (λ i. is_gc i.kind && (i.expire == expire)) intent ≡ true → intends (λ i. is_gc i.kind) intent ≡ true
 gc_by expire None is = cc
 gc_by expire (Some i) is = and_left (is_gc i.kind) (i.expire == expire) is

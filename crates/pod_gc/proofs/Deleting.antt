@@ -1,6 +1,7 @@
 -- What a process may do that holds a pod's Own in a garbage place, and what it knows once that is given up.
 use Rattle.std.proofs.Common.{◌≡◌, ◌≤◌, ℕ, Bool, true, false, not, ◌||◌, cond, Some, List, [], ◌∷◌, ◌++◌, filter, refl, sym, ap, subst, ◌∙◌, arith}
 use Rattle.std.specs.List.{list_any}
+use Rattle.plain_laws.proofs.Lists.{none_of_filter}
 use Rattle.dir_model.specs.declared.area.Area.{Area}
 use Rattle.dir_model.specs.declared.area.Area.TheVariants.{Prepared, ExitedGarbage, Garbage}
 use Rattle.dir_model.specs.declared.pod.PodId.{PodId}
@@ -29,9 +30,11 @@ use Rattle.dir_rules.specs.Standing.{is_garbage, is_in, is_handle_held, gives_up
 use Rattle.dir_rules.specs.LockRules.{is_removal_held, may_lock_own}
 use Rattle.dir_rules.specs.Seen.{forget_items}
 use Rattle.dir_rules.specs.Conforms.{seen_replied, Looked}
+use Rattle.dir_laws.proofs.Rose.{rose_later}
 use Rattle.dir_trait.specs.DirCalls.{DirAt, DirCall, ExtendsBy, HeldBetween}
 use Rattle.dir_trait.specs.Knowledge.{Knows, OnlyLooks}
 use Rattle.dir_trait.proofs.Knowing.{knows_call}
+use Rattle.dir_trait.proofs.Looking.{fresh_of}
 use Rattle.dir_trait.specs.Effects.{OnlyAsks, LeavesOpen, Given}
 use Rattle.folder_contents.proofs.Spots.{one_location}
 use Rattle.folder_removal.specs.declared.error.DeleteError.{DeleteError}
@@ -42,7 +45,7 @@ use Rattle.folder_removal.proofs.Strays.{stray_called}
 use Rattle.folder_removal.specs.Known.{is_there, MayDelete, KnowsBut, KnowsDeleted, Deletes, OnlyTries}
 use Rattle.phase_read.specs.Read.{pod_spot}
 use Rattle.pod_locks.specs.ClaimHolding.{is_on_folder}
-use Rattle.pod_locks.proofs.ClaimSeen.{off}
+use Rattle.pod_locks.proofs.ClaimSeen.{off, none_kind}
 use Rattle.pod_locks.specs.Work.{Grew}
 use Rattle.pod_locks.proofs.Traces.{grown_by, deeds_after, one_deed}
 use Rattle.pod_locks.specs.declared.setback.Setback.{Setback}
@@ -51,15 +54,13 @@ use Rattle.pod_locks.specs.Setbacks.{delete_setback}
 use Rattle.pod_locks.specs.Requests.{looks_at}
 use Rattle.pod_locks.specs.Holding.{and_pod_lock, on_pod_lock, with_pod_lock, is_in_garbage, IsBare, MayTakeLock, KeepsHoldings, KeepsReady}
 use Rattle.pod_locks.specs.Causes.{StepWasStopped, IsAbsentAt, CannotOpenAt, Did, is_stray_step}
-use Rattle.pod_locks.proofs.Calls.{rose_later, lock_closed}
-use Rattle.pod_locks.proofs.ClaimKnowing.{new_number}
-use Rattle.pod_locks.proofs.OwnOpenings.{none_fails}
+use Rattle.pod_locks.proofs.Calls.{lock_closed}
 use Rattle.pod_gc.specs.RemovalRequests.{is_garbage_place, deletes_in, removes}
 use Rattle.pod_gc.specs.RemovalCauses.{is_missing, StoppedDeleting}
 use Rattle.pod_gc.specs.RemovalHolding.{MayRemove, HasOwn, KeepsBut}
 use Rattle.pod_gc.proofs.CallKinds.{looks_remove}
 use Rattle.pod_gc.proofs.Closing.{given_holdings, given_kept}
-use Rattle.pod_gc.proofs.Stages.{none_kind, same_ready}
+use Rattle.pod_gc.proofs.Stages.{same_ready}
 use Rattle.pod_locks.proofs.Parts.{none_there}
 
 -- the two garbage places
@@ -69,7 +70,7 @@ place_deletes ExitedGarbage is = refl
 place_deletes Garbage is = refl
 place_deletes _ is = cc
 
-place_garbage : (a : Area) → is_garbage_place a ≡ true → is_garbage a ≡ true
+pub place_garbage : (a : Area) → is_garbage_place a ≡ true → is_garbage a ≡ true
 place_garbage ExitedGarbage is = refl
 place_garbage Garbage is = refl
 place_garbage _ is = cc
@@ -188,7 +189,7 @@ takes_own {now} {s} pod a place may = record {
 }
 
 pub owns_there : {now : ℕ} {s : Seen} {d : DirAt} {h : Handle} (pod : PodId) (a : Area) → Knows d s → IsUnopened d.local h → MayRemove now s → HasOwn pod a (with_pod_lock pod a Own h s)
-owns_there {now} {s} {d} {h} pod a k unopened may = record { own = h; base = s; apart = may.apart; bare = may.bare; fresh = new_number h k unopened; is = refl }
+owns_there {now} {s} {d} {h} pod a k unopened may = record { own = h; base = s; apart = may.apart; bare = may.bare; fresh = fresh_of h k unopened; is = refl }
 
 -- and delete the folder
 
@@ -223,7 +224,7 @@ but_deleted {pod} {a} {s} bare d = record {
   intent = ap (λ (x : Seen). x.standing.intent) d.is.same;
   holdings = ap (λ (x : Seen). x.standing.holdings) d.is.same;
   kept = ap (λ (x : Seen). x.kept) d.is.same;
-  others = ap (λ (x : Seen). list_any is_in_garbage (forget_items (pod_spot pod a) x.items)) d.is.same ∙ none_fails is_in_garbage _ (forget_items (pod_spot pod a) s.items) (none_fails is_in_garbage _ s.items bare);
+  others = ap (λ (x : Seen). list_any is_in_garbage (forget_items (pod_spot pod a) x.items)) d.is.same ∙ none_of_filter is_in_garbage _ (forget_items (pod_spot pod a) s.items) (none_of_filter is_in_garbage _ s.items bare);
   knows = d.knows;
 }
 
@@ -233,7 +234,7 @@ but_tried {pod} {a} {s} bare d = record {
   intent = ap (λ (x : Seen). x.standing.intent) d.only.same;
   holdings = ap (λ (x : Seen). x.standing.holdings) d.only.same;
   kept = ap (λ (x : Seen). x.kept) d.only.same;
-  others = ap (λ (l : List ShownItem). list_any is_in_garbage l) d.only.items ∙ none_fails is_in_garbage _ s.items bare;
+  others = ap (λ (l : List ShownItem). list_any is_in_garbage l) d.only.items ∙ none_of_filter is_in_garbage _ s.items bare;
   knows = d.knows;
 }
 
@@ -266,7 +267,7 @@ known_looked {pod} {a} looks s k h =
       intent = ap (λ (y : Seen). y.standing.intent) x.looked.same;
       holdings = ap (λ (y : Seen). y.standing.holdings) x.looked.same;
       kept = ap (λ (y : Seen). y.kept) x.looked.same;
-      others = ap (λ (y : Seen). list_any is_in_garbage (forget_items (pod_spot pod a) y.items)) x.looked.same ∙ none_fails is_in_garbage _ s.items (has_bare h);
+      others = ap (λ (y : Seen). list_any is_in_garbage (forget_items (pod_spot pod a) y.items)) x.looked.same ∙ none_of_filter is_in_garbage _ s.items (has_bare h);
       knows = x.knows;
     }
 
@@ -330,7 +331,7 @@ ready_owned {observed} {now} {a} {b} {c} {d} {h} pod area place t unopened held 
     let x = owned (with_pod_lock pod area Own h s) (held s k (takes_own pod area place may)) (owns_there pod area k unopened may) in
     record {
       known = _;
-      keeps = given_own pod area place h s x.known (new_number h k unopened) may.apart x.holdings x.intent x.kept x.others;
+      keeps = given_own pod area place h s x.known (fresh_of h k unopened) may.apart x.holdings x.intent x.kept x.others;
       knows = knows_call t x.knows refl refl z;
     }
 

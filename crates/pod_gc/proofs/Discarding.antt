@@ -1,5 +1,6 @@
 -- What a process may do under the pod's Claim, and what it knows once Claim is given up.
 use Rattle.std.proofs.Common.{◌≡◌, ℕ, Bool, true, Some, refl, sym, subst, ◌∙◌, arith}
+use Rattle.plain_laws.proofs.Texts.{same_bytes}
 use Rattle.dir_model.specs.declared.area.Area.TheVariants.{Prepared, Garbage}
 use Rattle.dir_model.specs.declared.pod.PodId.{PodId}
 use Rattle.dir_model.specs.declared.spot.Handle.{Handle}
@@ -13,14 +14,14 @@ use Rattle.dir_model.specs.Pods.{pod_text}
 use Rattle.dir_model.proofs.Chains.{and_call, and_more, extends_wider}
 use Rattle.dir_rules.specs.declared.seen.Seen.{Seen}
 use Rattle.dir_rules.specs.Conforms.{Looked}
-use Rattle.dir_rules.proofs.Looks.{same_bytes}
 use Rattle.dir_trait.specs.DirCalls.{DirAt, DirCall}
 use Rattle.dir_trait.specs.Knowledge.{Knows, OnlyLooks}
 use Rattle.dir_trait.proofs.Knowing.{knows_call}
+use Rattle.dir_trait.proofs.Looking.{fresh_of}
 use Rattle.dir_trait.specs.Effects.{OnlyAsks, LeavesOpen, Given}
 use Rattle.phase_read.specs.Read.{pod_spot}
 use Rattle.pod_locks.proofs.ClaimCalls.{lock_closed}
-use Rattle.pod_locks.proofs.ClaimSeen.{off}
+use Rattle.pod_locks.proofs.ClaimSeen.{off, none_kind}
 use Rattle.pod_locks.proofs.Times.{at_part}
 use Rattle.pod_locks.proofs.Traces.{grown_none}
 use Rattle.pod_locks.specs.declared.setback.Setback.{Setback}
@@ -31,13 +32,12 @@ use Rattle.pod_locks.specs.Causes.{StepWasStopped, IsAbsentAt, CannotOpenAt, Loc
 use Rattle.pod_locks.proofs.Calls.{Follows}
 use Rattle.pod_locks.proofs.Within.{held_within}
 use Rattle.pod_locks.proofs.Knowing.{knows_as}
-use Rattle.pod_locks.proofs.ClaimKnowing.{new_number}
 use Rattle.pod_gc.specs.RemovalRequests.{removes}
 use Rattle.pod_gc.specs.RemovalHolding.{MayDiscard, UnderClaim}
 use Rattle.pod_gc.specs.RemovalCauses.{is_look_setback, RemovalStopsAlone, StoppedAlone, BusyInPrepared, BusyByLooks}
 use Rattle.pod_gc.proofs.Closing.{given_keeps}
 use Rattle.pod_gc.proofs.CallKinds.{looks_remove}
-use Rattle.pod_gc.proofs.Stages.{none_kind, spares, same_ready}
+use Rattle.pod_gc.proofs.Stages.{spares, same_ready}
 
 module _ {now : ℕ} (pod : PodId) (claim : Handle) (base : Seen) (may : MayDiscard pod now base) where
   abbrev Under : Seen
@@ -91,7 +91,7 @@ pub takes_claim : {now : ℕ} {s : Seen} (pod : PodId) → MayDiscard pod now s 
 takes_claim {now} {s} pod may = record { alone = off Claim (pod_spot pod Prepared) s.standing.holdings may.may.apart; single = none_kind Claim s.standing.holdings may.may.apart; opens = refl; bare = refl; may = refl }
 
 pub discards_under : {now : ℕ} {s : Seen} {d : DirAt} {h : Handle} (pod : PodId) → Knows d s → IsUnopened d.local h → MayDiscard pod now s → UnderClaim pod now (with_pod_lock pod Prepared Claim h s)
-discards_under {now} {s} {d} {h} pod k unopened may = record { claim = h; base = s; may = may; fresh = new_number h k unopened; is = refl }
+discards_under {now} {s} {d} {h} pod k unopened may = record { claim = h; base = s; may = may; fresh = fresh_of h k unopened; is = refl }
 
 -- and once it is given up
 pub ready_claimed : {observed : Bool} {now : ℕ} {a b c d : DirAt} {h : Handle} (pod : PodId) → observed ≡ true → IsUnopened a.local h → Given (MayTakeLock pod Prepared Claim) a (λ s. Knows b (with_pod_lock pod Prepared Claim h s))
@@ -100,7 +100,7 @@ ready_claimed {observed} {now} {a} {b} {c} {d} {h} pod t unopened held under z s
     let x = under (with_pod_lock pod Prepared Claim h s) (held s k (takes_claim pod may)) (discards_under pod k unopened may) in
     record {
       known = _;
-      keeps = given_keeps (on_pod_lock pod Prepared Claim h (Some Exclusive)) s x.known (new_number h k unopened) may.may.apart refl x.keeps.holdings x.keeps.intent x.keeps.kept x.keeps.bare;
+      keeps = given_keeps (on_pod_lock pod Prepared Claim h (Some Exclusive)) s x.known (fresh_of h k unopened) may.may.apart refl x.keeps.holdings x.keeps.intent x.keeps.kept x.keeps.bare;
       knows = knows_call t x.knows refl refl z;
     }
 

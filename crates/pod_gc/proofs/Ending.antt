@@ -16,10 +16,10 @@ use Rattle.dir_model.proofs.Lists.{same_self}
 use Rattle.dir_rules.specs.declared.seen.Seen.{Seen}
 use Rattle.dir_trait.specs.DirCalls.{DirAt, ListCall, ExtendsBy, HeldBetween}
 use Rattle.dir_trait.specs.Knowledge.{Knows}
+use Rattle.dir_trait.proofs.ListCalls.{list_extends}
 use Rattle.dir_trait.specs.Effects.{Given}
 use Rattle.dir_files.specs.Listed.{ShowsAreaBetween}
 use Rattle.dir_files.specs.AreaLocks.{is_taking_area, closes, with_gate, MayLock, IsFreeElsewhere}
-use Rattle.folder_removal.proofs.Calls.{list_extends}
 use Rattle.pod_locks.specs.Holding.{KeepsReady}
 use Rattle.pod_locks.proofs.Calls.{Follows}
 use Rattle.pod_gc.specs.declared.ages.Times.{Times}

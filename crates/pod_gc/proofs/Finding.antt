@@ -36,10 +36,6 @@ use Rattle.pod_gc.proofs.Rounds.{may_looked}
 use Rattle.dir_trait.specs.Knowledge.{OnlyLooks}
 use Rattle.dir_trait.specs.Effects.{Given}
 
-pub ok_both : {A E : Type 0} (P Q R : A → Type 0) (r : Result A E) → ((a : A) → P a → Q a → R a) → IfOk r P → IfOk r Q → IfOk r R
-ok_both P Q R (Ok a) f p q = f a p q
-ok_both P Q R (Err e) f p q = tt
-
 -- the pod was brought aside
 
 module _ (pod : PodId) (me : ℕ) (old new : List Event) where

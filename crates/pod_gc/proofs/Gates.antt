@@ -1,5 +1,6 @@
 -- The pass over embryo, under that area's lock.
 use Rattle.std.proofs.Common.{◌≡◌, ◌≤◌, inl, inr, ℕ, Bool, true, false, Some, None, List, [], ◌∷◌, ◌++◌, refl, ap, subst, ◌∙◌, arith}
+use Rattle.plain_laws.proofs.Lists.{none_of_filter}
 use Rattle.dir_model.specs.declared.area.Area.{Area}
 use Rattle.dir_model.specs.declared.area.Area.TheVariants.{Embryo}
 use Rattle.dir_model.specs.declared.event.Event.{Event}
@@ -14,6 +15,7 @@ use Rattle.dir_rules.specs.declared.seen.Seen.{Seen}
 use Rattle.dir_rules.specs.Standing.{is_known}
 use Rattle.dir_trait.specs.DirCalls.{DirAt, ExtendsBy, HeldBetween}
 use Rattle.dir_trait.specs.Knowledge.{Knows}
+use Rattle.dir_trait.proofs.Looking.{fresh_of}
 use Rattle.dir_trait.specs.Effects.{OnlyAsks, Given}
 use Rattle.dir_files.specs.declared.lock_error.LockError.{LockError}
 use Rattle.dir_files.specs.declared.lock_error.LockError.TheVariants as lock
@@ -21,8 +23,6 @@ use Rattle.dir_files.specs.AreaLocks.{is_taking_area, closes, and_area_lock, wit
 use Rattle.dir_files.proofs.Locking.{unlocked_same}
 use Rattle.pod_locks.specs.Holding.{is_in_garbage, KeepsHoldings, KeepsReady}
 use Rattle.pod_locks.proofs.Calls.{Follows}
-use Rattle.pod_locks.proofs.ClaimKnowing.{new_number}
-use Rattle.pod_locks.proofs.OwnOpenings.{none_fails}
 use Rattle.pod_locks.proofs.Traces.{grown_by}
 use Rattle.pod_gc.specs.declared.ages.Times.{Times}
 use Rattle.pod_gc.specs.declared.line.Deed.TheVariants.{BusyGate}
@@ -52,7 +52,7 @@ module _ (s z : Seen) (h : Handle) (k : KeepsHoldings (with_gate s h Embryo (Som
   inside = ap (λ (hs : List Held). let r : Seen = record z { standing = record z.standing { holdings = hs } } in r) k.holdings
 
   given_keeps : KeepsHoldings s (exclusive_given Embryo Inner)
-  given_keeps = record { intent = k.intent; holdings = refl; kept = k.kept; bare = none_fails is_in_garbage _ z.items k.bare }
+  given_keeps = record { intent = k.intent; holdings = refl; kept = k.kept; bare = none_of_filter is_in_garbage _ z.items k.bare }
 
 pub ready_under : {now expire : ℕ} {a b c d : DirAt} {h : Handle} → IsUnopened a.local h → ((s : Seen) → Knows a s → MayLock s Embryo Exclusive → Knows b (with_gate s h Embryo (Some Exclusive)))
     → Given (MayPassPods Embryo now expire) b (λ s. KeepsReady s c)
@@ -62,7 +62,7 @@ ready_under {now} {expire} {a} {b} {c} {d} {h} unopened taken pass given s k m =
     record {
       known = exclusive_given Embryo (Inner s x.known h x.keeps);
       keeps = given_keeps s x.known h x.keeps;
-      knows = given (Inner s x.known h x.keeps) (new_number h k unopened) (subst (λ (y : Seen). Knows c y) (inside s x.known h x.keeps) x.knows);
+      knows = given (Inner s x.known h x.keeps) (fresh_of h k unopened) (subst (λ (y : Seen). Knows c y) (inside s x.known h x.keeps) x.knows);
     }
 
 pub ready_same : {now expire : ℕ} {a b : DirAt} → ((s : Seen) → Knows a s → MayLock s Embryo Exclusive → Knows b s) → Given (MaySweepAll now expire) a (λ s. KeepsReady s b)

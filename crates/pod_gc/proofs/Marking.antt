@@ -1,6 +1,7 @@
 -- What a process knows that listed the marks of a pod, and what the listing tells.
 use Rattle.std.proofs.Common.{◌≡◌, ◌&&◌, ℕ, Bool, true, false, not, cond, codes, bytes_eq, find, Option, Some, None, is_some, Result, Ok, Err, List, [], ◌∷◌, refl, sym, ap, subst, ◌∙◌}
 use Rattle.std.specs.List.{list_any}
+use Rattle.plain_laws.proofs.Texts.{same_bytes}
 use Rattle.dir_model.specs.declared.area.Area.{Area}
 use Rattle.dir_model.specs.declared.area.Area.TheVariants.{Prepared, ExitedGarbage}
 use Rattle.dir_model.specs.declared.item.Item.{Item}
@@ -30,12 +31,12 @@ use Rattle.dir_rules.specs.LockRules.{is_removal_held, is_removal_target, may_re
 use Rattle.dir_rules.specs.Rules.{root_of, may_read_area, is_gate}
 use Rattle.dir_rules.specs.Seen.{later, created_among, note_created, with_items}
 use Rattle.dir_rules.specs.Conforms.{seen_listed}
-use Rattle.dir_rules.proofs.Looks.{same_bytes}
 use Rattle.dir_trait.specs.DirCalls.{DirAt, ListCall, HeldBetween, ExtendsBy}
+use Rattle.dir_trait.proofs.ListCalls.{list_extends}
 use Rattle.dir_trait.specs.Effects.{OnlyAsks, Given}
 use Rattle.dir_files.specs.Listed.{ShowsDirectoryBetween}
 use Rattle.dir_files.proofs.Folders.{tells_absent, tells_present}
-use Rattle.folder_removal.proofs.Calls.{list_extends, knows_list}
+use Rattle.folder_removal.proofs.Calls.{knows_list}
 use Rattle.phase_read.specs.Read.{pod_spot}
 use Rattle.pod_locks.specs.ClaimHolding.{is_on_folder}
 use Rattle.pod_locks.proofs.Traces.{grown_none}

@@ -7,9 +7,7 @@ use Rattle.dir_model.specs.declared.area.Phase.{Phase}
 use Rattle.dir_model.specs.declared.area.Phase.TheVariants as kind
 use Rattle.dir_model.specs.declared.event.Event.{Event}
 use Rattle.dir_model.specs.declared.pod.PodId.{PodId}
-use Rattle.dir_model.specs.declared.request.Request.{Request}
 use Rattle.dir_model.specs.declared.request.Request.TheVariants.{MoveFolder}
-use Rattle.dir_model.specs.declared.request.Reply.{Reply}
 use Rattle.dir_model.specs.declared.request.Reply.TheVariants.{Done}
 use Rattle.dir_model.specs.declared.spot.Spot.{Spot}
 use Rattle.dir_model.specs.Areas.{rank, is_stage, phase_in}
@@ -17,7 +15,7 @@ use Rattle.dir_model.specs.Calls.{AtOwnStep, CallStep, TookPlace, LeftNothing, e
 use Rattle.dir_model.specs.State.{DirState, stands, folder_at, empty_state}
 use Rattle.dir_model.specs.Trace.{state_next, state_after}
 use Rattle.dir_model.proofs.Chains.{states_next-append}
-use Rattle.dir_model.proofs.Moments.{at_grown, at_weaker, some_number}
+use Rattle.dir_model.proofs.Moments.{at_weaker, some_number}
 use Rattle.dir_model.proofs.Spots.{spot_self}
 use Rattle.folder_contents.proofs.Spots.{one_area}
 use Rattle.lifecycle.specs.Executions.{IsConforming}
@@ -29,8 +27,9 @@ use Rattle.phase_read.specs.Read.{pod_spot, WasFound, stages_before}
 use Rattle.phase_read.proofs.InTurn.{left_out_grown}
 use Rattle.pod_locks.specs.Work.{Grew}
 use Rattle.pod_locks.proofs.Times.{at_part}
-use Rattle.pod_locks.proofs.Traces.{grown_none}
+use Rattle.pod_locks.proofs.Traces.{grown_none, grown_more, grown_call}
 use Rattle.pod_locks.specs.Causes.{IsAbsentAt}
+use Rattle.pod_locks.proofs.ClaimLawful.{grew_at}
 use Rattle.pod_gc.specs.RemovalRequests.{is_removable, aside, area_of_phase}
 use Rattle.pod_gc.specs.Found.{is_moved, PutAway}
 use Rattle.pod_gc.specs.Removals.{MissedOnItsWay, FoundThenMissed, MissedTimes}
@@ -65,7 +64,7 @@ stage_place kind.Exited = refl
 stage_place kind.ExitedGarbage = refl
 stage_place p = refl
 
-stage_aside : (p : Phase) → is_stage (aside p) ≡ true
+pub stage_aside : (p : Phase) → is_stage (aside p) ≡ true
 stage_aside kind.Exited = refl
 stage_aside kind.ExitedGarbage = refl
 stage_aside p = refl
@@ -103,20 +102,6 @@ moved_stands me from to a b s = by s.own
         subst (λ (z : DirState). stands z.namespace to ≡ true) (sym next)
         (ap (λ (o : Option ℕ). is_some o) (moved_there w.namespace to from to (none_stands w.namespace to stood.1) (spot_self to)) ∙ stood.0)
 
--- how far a trace has grown
-grown_with : {a b c : List Event} → Grew a b → Grew b c → Grew a c
-grown_with {a} ab bc = record { more = ab.more ++ bc.more; grown = bc.grown ∙ (ap (λ h. h ++ bc.more) ab.grown ∙ append_assoc a ab.more bc.more) }
-
-grown_at : {me : ℕ} {a b : List Event} {P : DirState → Type 0} → AtOwnStep me a b P → Grew a b
-grown_at at = let g = at_grown at in record { more = g.0; grown = g.1 }
-
-grown_step : {me : ℕ} {request : Request} {reply : Reply} {a b : List Event} → CallStep me a request reply b → Grew a b
-grown_step {me} {request} {reply} {a} {b} s = by s.own
-  where
-    by : TookPlace s.before me request reply b ⊎ LeftNothing s.before me request reply b → Grew a b
-    by (inl took) = grown_with (record { more = s.meanwhile.others; grown = s.meanwhile.grown }) (record { more = event me request reply ∷ []; grown = took.grown })
-    by (inr late) = record { more = s.meanwhile.others; grown = late.same ∙ s.meanwhile.grown }
-
 grown_put : (pod : PodId) (p : Phase) {me : ℕ} {a b : List Event} → PutAway pod p me a b → Grew a b
 grown_put pod p {me} {a} {b} x = by (is_moved p) refl
   where
@@ -125,8 +110,8 @@ grown_put pod p {me} {a} {b} x = by (is_moved p) refl
     by false is = subst (λ (c : List Event). Grew a c) (sym (x.still is)) grown_none
 
 grown_missed : (pod : PodId) (p : Phase) {me : ℕ} {a b : List Event} → MissedOnItsWay pod p me a b → Grew a b
-grown_missed pod p (inl at) = grown_at at
-grown_missed pod p (inr x) = grown_with (grown_put pod p x.1) (grown_at x.2)
+grown_missed pod p (inl at) = grew_at at
+grown_missed pod p (inr x) = grown_more (grown_put pod p x.1) (grew_at x.2)
 
 -- a read that found it, at a moment
 record FoundAt (spot : Spot) (me : ℕ) (a b : List Event) : Type 0 where
@@ -136,7 +121,7 @@ found_moment : (spot : Spot) (p : Phase) {me : ℕ} {a b : List Event} → WasFo
 found_moment spot p (inl stood) = record { at = stood.there }
 found_moment spot p (inr x) =
     let told = x.1 in
-    record { at = at_part grown_none refl (grown_at told.told) (at_weaker (λ s. stands s.namespace spot ≡ true) (λ s is. ap (λ (o : Option ℕ). is_some o) is) told.found) }
+    record { at = at_part grown_none refl (grew_at told.told) (at_weaker (λ s. stands s.namespace spot ≡ true) (λ s is. ap (λ (o : Option ℕ). is_some o) is) told.found) }
 
 found_place : (spot : Spot) (p : Phase) {me : ℕ} {a b : List Event} → WasFound me a b spot p → is_removable p ≡ true → spot.area ≡ area_of_phase p
 found_place spot p (inl stood) r = place_is spot.area false p stood.is r
@@ -265,8 +250,8 @@ module _ (pod : PodId) (me : ℕ) (a c : List Event) (conforming : IsConforming 
             let from_after : Grew after moved = did.4 in
             let to_before : Grew f.between did.0 = did.2 in
             let arrived = moved_stands me (pod_spot pod (area_of_phase f.phase)) (pod_spot pod (aside f.phase)) did.0 after step in
-            let took = grown_step step in
-            let from_absent = grown_at absent in
+            let took = grown_call step in
+            let from_absent = grew_at absent in
             let later : after ≡ f.between ++ (to_before.more ++ took.more) = took.grown ∙ (ap (λ (h : List Event). h ++ took.more) to_before.grown ∙ append_assoc f.between to_before.more took.more) in
             let rest_is : c ≡ after ++ (from_after.more ++ (from_absent.more ++ rest)) =
             whole ∙ (ap (λ (h : List Event). h ++ rest) (from_absent.grown ∙ ap (λ (h : List Event). h ++ from_absent.more) from_after.grown) ∙ simp append_assoc) in
@@ -280,7 +265,7 @@ module _ (pod : PodId) (me : ℕ) (a c : List Event) (conforming : IsConforming 
   grown_found : (start b : List Event) → FoundThenMissed pod me start b → Grew start b
   grown_found start b f =
       let out = left_out_grown pod me start f.read.between (stages_before f.area) f.read.earlier in
-      grown_with (grown_with (record { more = out.0; grown = out.1 }) (grown_at (found_moment (pod_spot pod f.area) f.phase f.read.found).at)) (grown_missed pod f.phase f.way)
+      grown_more (grown_more (record { more = out.0; grown = out.1 }) (grew_at (found_moment (pod_spot pod f.area) f.phase f.read.found).at)) (grown_missed pod f.phase f.way)
 
   -- each miss finds it further along
   missed_onward : (n : ℕ) (b rest : List Event) → c ≡ b ++ rest → MissedTimes (suc n) pod me a b → Past pod (suc (suc n)) b c

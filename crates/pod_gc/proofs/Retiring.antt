@@ -2,6 +2,7 @@
 use Rattle.std.proofs.Common.{◌≡◌, ◌⊎◌, inl, inr, ◌==◌, ◌&&◌, ◌||◌, ℕ, Bool, true, false, not, cond, bytes_eq, Option, Some, None, is_some, Result, Ok, Err, List, [], ◌∷◌, ◌++◌, option_to_list, append-nil, refl, sym, ap, subst, ◌∙◌}
 use Rattle.std.specs.List.{list_any}
 use Rattle.std.proofs.lemmas.Bool.{eqb-true}
+use Rattle.plain_laws.proofs.Texts.{same_bytes}
 use Rattle.dir_model.specs.declared.area.Area.TheVariants.{Run, ExitedGarbage}
 use Rattle.dir_model.specs.declared.event.Event.{Event}
 use Rattle.dir_model.specs.declared.intent.Intent.{Intent}
@@ -39,7 +40,7 @@ use Rattle.dir_rules.specs.LockRules.{is_open_on}
 use Rattle.dir_rules.specs.Seen.{is_own_mark, is_free, marks}
 use Rattle.dir_rules.specs.Rules.{allows, may_note, may_mark, spares_deleted_pod, is_deleting}
 use Rattle.dir_rules.specs.Conforms.{seen_replied}
-use Rattle.dir_rules.proofs.Looks.{same_bytes, deletes_none}
+use Rattle.dir_rules.proofs.Looks.{deletes_none}
 use Rattle.dir_trait.specs.DirCalls.{DirAt, DirCall}
 use Rattle.dir_trait.specs.Knowledge.{Knows}
 use Rattle.dir_trait.proofs.Knowing.{knows_call}

@@ -1,5 +1,5 @@
 -- What the steps of a round come to, and the rounds one after the other.
-use Rattle.std.proofs.Common.{◌≡◌, ◌≤◌, ◌+◌, ◌==◌, ◌⊎◌, inl, inr, ℕ, zero, suc, Bool, true, false, Option, Some, None, Result, Ok, Err, IfOk, IfErr, List, [], ◌++◌, append_assoc, append-nil, refl, sym, ap, subst, ◌∙◌, arith}
+use Rattle.std.proofs.Common.{◌≡◌, ◌≤◌, ◌+◌, ◌==◌, ◌⊎◌, inl, inr, ℕ, zero, suc, Bool, true, false, Option, Some, None, Result, Ok, Err, IfOk, IfErr, List, [], append-nil, refl, sym, ap, subst, ◌∙◌, arith}
 use Rattle.std.specs.List.{list_any}
 use Rattle.dir_model.specs.declared.area.Area.{Area}
 use Rattle.dir_model.specs.declared.area.Area.TheVariants.{Prepared, ExitedGarbage, Garbage}
@@ -27,6 +27,7 @@ use Rattle.dir_rules.specs.declared.seen.Seen.{Seen}
 use Rattle.dir_rules.specs.Standing.{intends, is_remover}
 use Rattle.dir_rules.specs.Rules.{asks_for}
 use Rattle.dir_rules.specs.Conforms.{Looked}
+use Rattle.dir_laws.proofs.Rose.{rose_later, rose_still}
 use Rattle.dir_trait.specs.DirCalls.{DirAt, ExtendsBy}
 use Rattle.dir_trait.specs.Knowledge.{OnlyLooks}
 use Rattle.dir_trait.specs.Effects.{OnlyAsks, Given}
@@ -52,8 +53,9 @@ use Rattle.pod_locks.specs.declared.setback.Setback.TheVariants as stop
 use Rattle.pod_locks.specs.Setbacks.{look_setback}
 use Rattle.pod_locks.specs.Holding.{KeepsHoldings, KeepsReady}
 use Rattle.pod_locks.specs.Causes.{StepWasStopped, IsAbsentAt, Did, WasStrayStep, LockBusyElsewhere}
-use Rattle.pod_locks.proofs.Calls.{Follows, stray_part, rose_later, rose_still}
+use Rattle.pod_locks.proofs.Calls.{Follows, stray_part}
 use Rattle.pod_locks.proofs.Within.{held_within}
+use Rattle.pod_locks.proofs.Outcomes.{event_part}
 use Rattle.pod_gc.specs.declared.attempt.Round.{Round}
 use Rattle.pod_gc.specs.declared.attempt.Round.TheVariants as round
 use Rattle.pod_gc.specs.declared.remove_error.RemoveError.{RemoveError}
@@ -310,13 +312,8 @@ missed_next pod {me} {other} a b c n m same f =
     let next : suc n ≡ n + 1 = omega arith in
     subst (λ (k : ℕ). MissedTimes k pod me a c) next (b, m, subst (λ (p : ℕ). FoundThenMissed pod p b c) same f)
 
-pub event_after : {me other : ℕ} {a b c : List Event} {P : List Event → Type 0} → Grew a b → other ≡ me → AtOwnEvent other b c P → AtOwnEvent me a c P
-event_after {me} {other} {a} {b} {c} {P} ab same at =
-    let g = subst (λ (p : ℕ). AtOwnEvent p b c P) same at in
-    record { before = g.before; step = g.step; later = ab.more ++ g.later; rest = g.rest; begins = g.begins ∙ ap (λ h. h ++ g.later) ab.grown ∙ append_assoc a ab.more g.later; ends = g.ends; own = g.own; holds = g.holds }
-
 wrong_after : {pod : PodId} {p : Phase} {me other : ℕ} {a b c : List Event} → Grew a b → other ≡ me → WasWrongToRemove pod p other b c → WasWrongToRemove pod p me a c
-wrong_after ab same w = record { wrong = w.wrong; area = w.area; was = event_after ab same w.was }
+wrong_after ab same w = record { wrong = w.wrong; area = w.area; was = event_part ab same w.was }
 
 pub ended_at : {observed : Bool} (pod : PodId) {a b : DirAt} (c : DirAt) (x : Round) → observed ≡ true → Follows observed a b → (x ≡ round.Missed → ⊥) → WentRound pod x b c → RemovedLater pod a c
 ended_at {observed} pod {a} {b} c round.Gone t ab other w = record { between = b.trace; first = ab.grown t; ended = inr (subst (λ (p : ℕ). FoundNoPod pod p b.trace c.trace) ab.same w) }

@@ -1,5 +1,6 @@
 -- What a step at a listed pod comes to as a deed.
 use Rattle.std.proofs.Common.{◌≡◌, ◌≤◌, ◌||◌, ◌⊎◌, inl, inr, ℕ, Bool, true, false, Option, Some, None, codes, Result, Ok, Err, IfOk, IfErr, List, refl, sym, ap, subst, ◌∙◌, not}
+use Rattle.plain_laws.proofs.Results.{err_all}
 use Rattle.dir_model.specs.declared.area.Area.{Area}
 use Rattle.dir_model.specs.declared.area.Area.TheVariants as area
 use Rattle.dir_model.specs.declared.area.Phase.{Phase}
@@ -32,7 +33,7 @@ use Rattle.phase_read.specs.Read.{pod_spot, HasPhase, is_pod_spot}
 use Rattle.phase_read.specs.Exact.{AtOwnEvent, IsInPhase}
 use Rattle.phase_read.proofs.Exact.{found_exactly}
 use Rattle.pod_locks.specs.Work.{Grew}
-use Rattle.pod_locks.proofs.ClaimSeen.{off}
+use Rattle.pod_locks.proofs.ClaimSeen.{off, none_kind}
 use Rattle.pod_locks.proofs.Times.{at_part, deeds_part}
 use Rattle.pod_locks.proofs.Traces.{grown_none, grown_more}
 use Rattle.pod_locks.specs.declared.setback.Setback.{Setback}
@@ -40,19 +41,21 @@ use Rattle.pod_locks.specs.declared.setback.Setback.TheVariants as stop
 use Rattle.pod_locks.specs.Requests.{looks_at, moves_pod, peeks_at}
 use Rattle.pod_locks.specs.Holding.{MayLook, LooksFree, with_look, KeepsReady}
 use Rattle.pod_locks.specs.Causes.{StepWasStopped, IsAbsentAt, Did, WasStrayStep, LockBusyElsewhere, PodHeldByAnother, FreeOfOthers, FreeIfObserved}
-use Rattle.pod_locks.proofs.Calls.{Follows, stray_part, rose_later}
+use Rattle.pod_locks.proofs.Calls.{Follows, stray_part}
 use Rattle.pod_gc.specs.RemovalRequests.{is_garbage_place, removes}
 use Rattle.pod_gc.specs.RemovalHolding.{MayRemove}
 use Rattle.pod_gc.proofs.CallKinds.{looks_remove}
-use Rattle.pod_gc.proofs.Stages.{none_kind, same_ready, err_all}
-use Rattle.pod_gc.proofs.Rounds.{may_kept, looked_keeps, event_after}
+use Rattle.pod_gc.proofs.Stages.{same_ready}
+use Rattle.pod_gc.proofs.Rounds.{may_kept, looked_keeps}
 use Rattle.dir_model.specs.declared.spot.Mode.TheVariants.{Shared, Exclusive}
 use Rattle.dir_model.specs.Replies.{is_look_at}
 use Rattle.dir_model.proofs.Chains.{and_more, extends_wider}
 use Rattle.dir_rules.specs.Standing.{is_in}
+use Rattle.dir_laws.proofs.Rose.{rose_later}
 use Rattle.pod_locks.specs.Elsewhere.{is_owned_phase}
 use Rattle.pod_locks.proofs.Elsewhere.{met_elsewhere}
 use Rattle.pod_locks.proofs.Within.{held_within, free_within, told_within}
+use Rattle.pod_locks.proofs.Outcomes.{event_part}
 use Rattle.phase_read.proofs.Stages.{pod_spot_only}
 use Rattle.pod_gc.specs.declared.gc_error.GcError.{GcError}
 use Rattle.pod_gc.specs.declared.line.Deed.{Deed}
@@ -363,7 +366,7 @@ deed_after : {pod : PodId} {place : Area} {deed : Deed} {me other : ℕ} {a b c 
 deed_after ab same x = record {
   moved = λ to is. let y = x.moved to is in (y.0, y.1, deeds_part ab same grown_none y.2);
   deleted = λ is. let y = x.deleted is in (y.0, deeds_part ab same grown_none y.1);
-  kept = λ p is. let y = x.kept p is in (y.0, λ conforming. event_after ab same (y.1 conforming));
+  kept = λ p is. let y = x.kept p is in (y.0, λ conforming. event_part ab same (y.1 conforming));
   left = λ is. at_part ab same grown_none (x.left is);
   gate = x.gate;
   claimed = λ here is. free_within ab same grown_none (x.claimed here is);
@@ -377,7 +380,7 @@ deed_later c t ab x = deed_after (ab.grown t) ab.same x
 pub left_after : {pod : PodId} {place : Area} {deed : Deed} {me other : ℕ} {a b c : List Event} → Grew a b → other ≡ me → LeftToAnother pod place deed other b c → LeftToAnother pod place deed me a c
 left_after {pod} {place} {deed} {me} {other} {a} {b} {c} ab same x =
     let y = subst (λ (p : ℕ). LeftToAnother pod place deed p b c) same x in
-    record { held = λ which is. held_within ab refl grown_none (y.held which is); owner = λ conforming p is owned. event_after ab refl (y.owner conforming p is owned) }
+    record { held = λ which is. held_within ab refl grown_none (y.held which is); owner = λ conforming p is owned. event_part ab refl (y.owner conforming p is owned) }
 
 pub busy_later : {observed : Bool} {now : ℕ} {pod : PodId} {place : Area} {a b : DirAt} (deed : Deed) (c : DirAt) → observed ≡ true → Follows observed a b → Given (MayRemove now) a (λ s. KeepsReady s b) → Given (MayRemove now) b (λ s. LeavesToAnother pod place deed b c)
     → Given (MayRemove now) a (λ s. LeavesToAnother pod place deed a c)

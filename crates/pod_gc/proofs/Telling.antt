@@ -4,6 +4,7 @@ use Rattle.std.specs.List.{list_any}
 use Rattle.std.specs.List.Sorted.{IsStrictlySortedBy}
 use Rattle.std.specs.Ordering.{nat_cmp}
 use Rattle.std.specs.Cmp.Lexicographic.{slice_cmp}
+use Rattle.plain_laws.proofs.Lists.{any_left, any_right, map_both}
 use Rattle.dir_model.specs.declared.area.Area.{Area}
 use Rattle.dir_model.specs.declared.event.Event.{Event}
 use Rattle.dir_model.specs.declared.pod.PodId.{PodId}
@@ -14,12 +15,12 @@ use Rattle.dir_model.specs.Areas.{rank}
 use Rattle.dir_model.specs.Calls.{Extends}
 use Rattle.dir_model.specs.Pods.{pod_of_text}
 use Rattle.dir_model.proofs.Chains.{nothing_yet, extends_more, extends_wider}
-use Rattle.dir_model.proofs.Lists.{all_both, all_weaker, or_map, or_last, same_self}
+use Rattle.dir_model.proofs.Lists.{all_both, all_weaker, same_self}
 use Rattle.dir_rules.specs.declared.seen.Seen.{Seen}
 use Rattle.dir_trait.specs.DirCalls.{DirAt, ListCall}
+use Rattle.dir_trait.proofs.ListCalls.{list_extends}
 use Rattle.dir_trait.specs.Effects.{Given}
 use Rattle.dir_files.specs.Listed.{ShowsAreaBetween}
-use Rattle.folder_removal.proofs.Calls.{list_extends}
 use Rattle.pod_locks.specs.Holding.{KeepsHoldings, KeepsReady}
 use Rattle.pod_gc.specs.declared.ages.Times.{Times}
 use Rattle.pod_gc.specs.declared.line.Deed.{Deed}
@@ -40,19 +41,7 @@ pods_append (x ∷ xs) ys = by (pod_of_text x) (pods_append xs ys)
     by None rest = rest
     by (Some pod) rest = ap (λ (l : List PodId). pod ∷ l) rest
 
-map_both : {X Y : Type 0} (f : X → Y) (xs ys : List X) → map f (xs ++ ys) ≡ map f xs ++ map f ys
-map_both f [] ys = refl
-map_both {X} {Y} f (x ∷ xs) ys = ap (λ (l : List Y). f x ∷ l) (map_both f xs ys)
-
 -- what was asked for is about one of them
-
-any_left : {X : Type 0} (t : X → Bool) (xs ys : List X) → list_any t xs ≡ true → list_any t (xs ++ ys) ≡ true
-any_left t [] ys h = cc
-any_left t (x ∷ xs) ys h = or_map (t x) (list_any t xs) (list_any t (xs ++ ys)) (any_left t xs ys) h
-
-any_right : {X : Type 0} (t : X → Bool) (xs ys : List X) → list_any t ys ≡ true → list_any t (xs ++ ys) ≡ true
-any_right t [] ys h = h
-any_right t (x ∷ xs) ys h = or_last (t x) (list_any t (xs ++ ys)) (any_right t xs ys h)
 
 module _ (now : ℕ) (here : Area) where
   deals_left : (xs ys : List (List ℕ)) (r : Request) → deals_with_pods now here xs r ≡ true → deals_with_pods now here (xs ++ ys) r ≡ true

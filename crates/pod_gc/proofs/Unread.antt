@@ -1,5 +1,6 @@
 -- The steps of a round read no phase, and where a step is refused no folder was removed in it.
 use Rattle.std.proofs.Common.{◌≡◌, inl, inr, ◌||◌, ℕ, suc, Bool, true, false, not, Result, Ok, Err, IfErr, List, [], refl, sym, subst, append-nil, arith}
+use Rattle.plain_laws.proofs.Booleans.{or_nothing}
 use Rattle.dir_model.specs.declared.area.Area.{Area}
 use Rattle.dir_model.specs.declared.area.Area.TheVariants.{ExitedGarbage, Garbage}
 use Rattle.dir_model.specs.declared.area.Phase.{Phase}
@@ -47,12 +48,8 @@ marks_unread : (pod : PodId) (now : ℕ) (r : Request) → marks_at pod now r �
 marks_unread pod now (Open spot which) marked = cc
 marks_unread pod now r marked = refl
 
-first_alone : (b : Bool) → (b || false) ≡ true → b ≡ true
-first_alone true is = refl
-first_alone false is = is
-
 deletes_unread : (pod : PodId) (a : Area) (n : ℕ) → rank a ≡ suc n → (r : Request) → deletes_in pod a r ≡ true → begins_read pod r ≡ false
-deletes_unread pod a n is (Open spot which) asked = opens_past pod a n is spot (first_alone (looks_at pod a (Open spot which)) asked) which
+deletes_unread pod a n is (Open spot which) asked = opens_past pod a n is spot (or_nothing (looks_at pod a (Open spot which)) asked) which
 deletes_unread pod a n is r asked = refl
 
 pub unread_looks : {observed : Bool} {a b : DirAt} (pod : PodId) (area : Area) (n : ℕ) → rank area ≡ suc n → OnlyAsks observed (looks_at pod area) a b → ReadsAtMost 0 observed pod a b

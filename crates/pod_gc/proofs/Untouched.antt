@@ -1,5 +1,6 @@
 -- A pod that is let be was looked at alone, of one that isn't there nothing was moved or removed, and of one that was moved nothing was removed.
 use Rattle.std.proofs.Common.{◌≡◌, ◌||◌, ℕ, Bool, true, false, not, refl, Result, Ok, Err, IfOk, IfErr, List, sym, ap, subst, ◌∙◌}
+use Rattle.plain_laws.proofs.Results.{err_all}
 use Rattle.dir_model.specs.declared.area.Area.{Area}
 use Rattle.dir_model.specs.declared.area.Area.TheVariants as area
 use Rattle.dir_model.specs.declared.event.Event.{Event}
@@ -21,7 +22,6 @@ use Rattle.pod_locks.proofs.Taking.{took_by, took_looks, took_more}
 use Rattle.pod_gc.specs.RemovalRequests.{is_garbage_place, puts_aside}
 use Rattle.pod_gc.specs.RemovalCauses.{BusyByLooks, MissedUntaken, BusyByPeeks}
 use Rattle.pod_gc.proofs.CallKinds.{looks_aside}
-use Rattle.pod_gc.proofs.Stages.{err_all}
 use Rattle.pod_gc.specs.declared.line.Deed.{Deed}
 use Rattle.pod_gc.specs.declared.line.Deed.TheVariants.{Moved, Busy, Left}
 use Rattle.pod_gc.specs.Requests.{lists_marks, looks_over, puts_aside_only, may_be_busy}

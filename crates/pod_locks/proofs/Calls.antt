@@ -25,10 +25,11 @@ use Rattle.dir_model.specs.Replies.{may_refuse, refused_in, open_refusal, is_err
 use Rattle.dir_model.specs.State.{DirState, stands, folder_at}
 use Rattle.dir_model.proofs.Allowed.{allowed_reply}
 use Rattle.dir_model.proofs.Chains.{nothing_yet, and_call}
-use Rattle.dir_model.proofs.Holdings.{tried_by, closed_after_lock}
+use Rattle.dir_model.proofs.Holdings.{tried_by, closed_after_lock, none_locked}
 use Rattle.dir_model.proofs.Lists.{and_both, same_self, map_push}
 use Rattle.dir_model.proofs.Moments.{step_at, missed}
 use Rattle.dir_model.proofs.Spots.{spot_self}
+use Rattle.dir_laws.proofs.Rose.{rose_later, rose_still}
 use Rattle.dir_trait.specs.DirCalls.{DirAt, DirCall, ExtendsBy}
 use Rattle.dir_trait.specs.Effects.{OnlyAsks, LeavesOpen}
 use Rattle.phase_read.specs.Read.{pod_spot}
@@ -76,21 +77,13 @@ peeked_tried pod a answer x y z t = and_call (and_call (and_call nothing_yet ref
 pub peeked_unopened : {observed : Bool} {old new : DirAt} (pod : PodId) (a : Area) (e : DirError) → DirCall observed old (Open (pod_spot pod a) Own) (Refused e 0) new → observed ≡ true → ExtendsBy (peeks_at pod a) old new
 peeked_unopened pod a e x t = and_call nothing_yet refl (asks_peek pod a Own) (x.step t)
 
-none_locked : (h : Handle) (hs : List Holding) → is_open_among h hs ≡ false → map (held_in h Exclusive) hs ≡ hs
-none_locked h [] none = refl
-none_locked h (x ∷ xs) none = by (is_handle_of h x) none (λ rest. none_locked h xs rest)
-  where
-    by : (b : Bool) → (b || is_open_among h xs) ≡ false → (is_open_among h xs ≡ false → map (held_in h Exclusive) xs ≡ xs) → cond b (record x { lock = Some Exclusive }) x ∷ map (held_in h Exclusive) xs ≡ x ∷ xs
-    by true none rest = cc
-    by false none rest = ap (λ (l : List Holding). x ∷ l) (rest none)
-
 pub locked_is : {b c : Local} (m : Local) (h : Handle) (pod : PodId) (a : Area) (which : Which) → IsUnopened m h → b ≡ with_handle m h (target_of (pod_spot pod a) which) → c ≡ locked_with b h Exclusive → c ≡ and_pod_lock m pod a which h
 locked_is {b} {c} m h pod a which unopened open_is lock_is =
     let fresh : Holding = record { handle = h; target = target_of (pod_spot pod a) which; lock = None } in
     lock_is ∙ (ap (λ (x : Local). locked_with x h Exclusive) open_is
     ∙ ap (λ (hs : List Holding). let r : Local = record m { holdings = hs } in r)
     (map_push (held_in h Exclusive) m.holdings fresh ∙ (ap (λ (hs : List Holding). hs ++ held_in h Exclusive fresh ∷ [])
-    (none_locked h m.holdings unopened) ∙ ap (λ b. m.holdings ++ cond b (record fresh { lock = Some Exclusive }) fresh ∷ []) (same_self h.number))))
+    (none_locked h Exclusive m.holdings unopened) ∙ ap (λ b. m.holdings ++ cond b (record fresh { lock = Some Exclusive }) fresh ∷ []) (same_self h.number))))
 
 -- and given up
 pub lock_closed : {b c : Local} (m : Local) (h : Handle) (pod : PodId) (a : Area) (which : Which) → IsUnopened m h → b ≡ and_pod_lock m pod a which h → c ≡ without b h → c ≡ m
@@ -123,10 +116,6 @@ worked_move {observed} {old} {new} pod from to answer x = record { same = x.same
     by (Err e) x = x.local
 
 -- what the refusals rest on
-
-missing_by : (r : DirError) → is_error Missing (Some r) ≡ true → Some r ≡ Some Missing
-missing_by Missing is = refl
-missing_by _ is = cc
 
 cannot_open : (s : DirState) (pod : PodId) (a : Area) (which : Which) → is_error Missing (refused_in (open_refusal which) s.entries (folder_at s.namespace (pod_spot pod a))) ≡ true
     → refused_in (open_refusal which) (s.entries ++ []) (folder_at s.namespace (pod_spot pod a)) ≡ Some Missing
@@ -202,12 +191,6 @@ follows_went w = record { same = w.same; faults = w.faults; grown = λ t. record
 
 pub follows_call : {observed : Bool} {request : Request} {reply : Reply} {a b : DirAt} → DirCall observed a request reply b → Follows observed a b
 follows_call {observed} {request} {reply} {a} {b} c = record { same = c.same; faults = c.faults; grown = λ t. let e = and_call {asks = λ r. true} nothing_yet refl refl (c.step t) in record { more = e.more; grown = e.grown } }
-
-pub rose_later : (a b c : ℕ) → a ≤ b → Rose b c → Rose a c
-rose_later a b c before rose = omega arith
-
-pub rose_still : (a b c : ℕ) → Rose a b → b ≤ c → Rose a c
-rose_still a b c rose after = omega arith
 
 pub stray_part : {me other : ℕ} {a b c d : List Event} → Grew a b → other ≡ me → Grew c d → WasStrayStep other b c → WasStrayStep me a d
 stray_part {me} {other} {a} {b} {c} {d} ab same cd w =

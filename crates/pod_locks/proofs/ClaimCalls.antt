@@ -1,18 +1,16 @@
 -- Single calls of a claim: what they leave open, and what their refusals rest on.
-use Rattle.std.proofs.Common.{◌≡◌, ◌||◌, ℕ, Bool, true, false, cond, Option, Some, None, Err, List, [], ◌∷◌, ◌++◌, map, refl, sym, ap, subst, ◌∙◌, append-nil, arith}
+use Rattle.std.proofs.Common.{◌≡◌, ◌||◌, ℕ, Bool, true, false, cond, Option, Some, None, Err, List, [], ◌∷◌, ◌++◌, map, refl, sym, ap, ◌∙◌, append-nil, arith}
+use Rattle.plain_laws.proofs.Texts.{same_bytes}
 use Rattle.dir_model.specs.declared.event.Event.{Event}
 use Rattle.dir_model.specs.declared.opening.Holding.{Holding}
 use Rattle.dir_model.specs.declared.pod.PodId.{PodId}
 use Rattle.dir_model.specs.declared.spot.Handle.{Handle}
 use Rattle.dir_model.specs.declared.spot.Mode.TheVariants.{Exclusive}
-use Rattle.dir_model.specs.declared.spot.Spot.{Spot}
 use Rattle.dir_model.specs.declared.spot.Which.{Which}
 use Rattle.dir_model.specs.declared.request.DirError.{DirError}
 use Rattle.dir_model.specs.declared.request.DirError.TheVariants.{Missing, Exists, NotEmpty, Locked, Failed}
 use Rattle.dir_model.specs.declared.request.DirError.TheVariants as dir
-use Rattle.dir_model.specs.declared.request.Request.{Request}
 use Rattle.dir_model.specs.declared.request.Request.TheVariants.{Open, TryLock, MoveFolder, Close}
-use Rattle.dir_model.specs.declared.request.Reply.{Reply}
 use Rattle.dir_model.specs.declared.request.Reply.TheVariants.{Done, Opened, Refused}
 use Rattle.dir_model.specs.declared.tree.TreeEntry.{TreeEntry}
 use Rattle.dir_model.specs.Calls.{CallStep, AtOwnStep}
@@ -24,11 +22,10 @@ use Rattle.dir_model.specs.State.{DirState, stands, folder_at}
 use Rattle.dir_model.specs.Pods.{pod_text}
 use Rattle.dir_model.proofs.Allowed.{allowed_reply}
 use Rattle.dir_model.proofs.Chains.{nothing_yet, and_call}
-use Rattle.dir_model.proofs.Holdings.{tried_by, closed_after_lock}
+use Rattle.dir_model.proofs.Holdings.{tried_by, closed_after_lock, none_locked}
 use Rattle.dir_model.proofs.Lists.{and_both, same_self, map_push}
 use Rattle.dir_model.proofs.Moments.{step_at}
 use Rattle.dir_model.proofs.Spots.{spot_self}
-use Rattle.dir_rules.proofs.Looks.{same_bytes}
 use Rattle.dir_trait.specs.DirCalls.{DirAt, DirCall}
 use Rattle.pod_locks.specs.ClaimRequests.{in_prepared, in_run, claims}
 use Rattle.pod_locks.specs.ClaimHolding.{and_prepared_lock}
@@ -37,22 +34,7 @@ use Rattle.pod_locks.specs.Work.{WentClaiming, MovedNothing}
 use Rattle.pod_locks.specs.ClaimCauses.{CannotOpen, IsNotInPrepared, ClaimWasStopped}
 use Rattle.pod_locks.proofs.Traces.{one_deed}
 
-pub with_spot : {observed : Bool} {old new : DirAt} {a b : Spot} {reply : Reply} (request : Spot → Request) → a ≡ b → DirCall observed old (request a) reply new → DirCall observed old (request b) reply new
-with_spot {observed} {old} {new} {a} {b} {reply} request is c = subst (λ (s : Spot). DirCall observed old (request s) reply new) is c
-
-pub with_spots : {observed : Bool} {old new : DirAt} {from from' to to' : Spot} {reply : Reply} → from ≡ from' → to ≡ to' → DirCall observed old (MoveFolder from to) reply new → DirCall observed old (MoveFolder from' to') reply new
-with_spots {observed} {old} {new} {from} {from'} {to} {to'} {reply} a b c =
-    subst (λ (t : Spot). DirCall observed old (MoveFolder from' t) reply new) b (subst (λ (f : Spot). DirCall observed old (MoveFolder f to) reply new) a c)
-
 -- what is open
-
-none_locked : (h : Handle) (hs : List Holding) → is_open_among h hs ≡ false → map (held_in h Exclusive) hs ≡ hs
-none_locked h [] none = refl
-none_locked h (x ∷ xs) none = by (is_handle_of h x) none (λ rest. none_locked h xs rest)
-  where
-    by : (b : Bool) → (b || is_open_among h xs) ≡ false → (is_open_among h xs ≡ false → map (held_in h Exclusive) xs ≡ xs) → cond b (record x { lock = Some Exclusive }) x ∷ map (held_in h Exclusive) xs ≡ x ∷ xs
-    by true none rest = cc
-    by false none rest = ap (λ (l : List Holding). x ∷ l) (rest none)
 
 pub locked_is : {a b : Local} (m : Local) (h : Handle) (pod : PodId) (which : Which) → IsUnopened m h → a ≡ with_handle m h (target_of (in_prepared pod) which) → b ≡ locked_with a h Exclusive → b ≡ and_prepared_lock m pod which h
 locked_is {a} {b} m h pod which unopened open_is lock_is =
@@ -60,7 +42,7 @@ locked_is {a} {b} m h pod which unopened open_is lock_is =
     lock_is ∙ (ap (λ (x : Local). locked_with x h Exclusive) open_is
     ∙ ap (λ (hs : List Holding). let r : Local = record m { holdings = hs } in r)
     (map_push (held_in h Exclusive) m.holdings fresh ∙ (ap (λ (hs : List Holding). hs ++ held_in h Exclusive fresh ∷ [])
-    (none_locked h m.holdings unopened) ∙ ap (λ b. m.holdings ++ cond b (record fresh { lock = Some Exclusive }) fresh ∷ []) (same_self h.number))))
+    (none_locked h Exclusive m.holdings unopened) ∙ ap (λ b. m.holdings ++ cond b (record fresh { lock = Some Exclusive }) fresh ∷ []) (same_self h.number))))
 
 pub lock_closed : {b c : Local} (m : Local) (h : Handle) (pod : PodId) (which : Which) → IsUnopened m h → b ≡ and_prepared_lock m pod which h → c ≡ without b h → c ≡ m
 lock_closed {b} {c} m h pod which unopened is close_is =

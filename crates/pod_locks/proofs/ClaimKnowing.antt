@@ -1,5 +1,5 @@
 -- What a process knows after each part of a claim.
-use Rattle.std.proofs.Common.{◌≡◌, ℕ, Bool, true, None, refl, sym, ap, subst, ◌∙◌}
+use Rattle.std.proofs.Common.{◌≡◌, ℕ, Bool, true, None, refl, sym, ap, subst}
 use Rattle.dir_model.specs.declared.pod.PodId.{PodId}
 use Rattle.dir_model.specs.declared.spot.Handle.{Handle}
 use Rattle.dir_model.specs.declared.spot.Mode.TheVariants.{Exclusive}
@@ -11,13 +11,14 @@ use Rattle.dir_model.specs.declared.request.DirError.TheVariants as dir
 use Rattle.dir_model.specs.declared.request.Request.TheVariants.{Open, TryLock, MoveFolder, Close}
 use Rattle.dir_model.specs.declared.request.Reply.TheVariants.{Done, Opened, Refused}
 use Rattle.dir_model.specs.Calls.{CallStep}
-use Rattle.dir_model.specs.Local.{IsUnopened, is_handle_of}
+use Rattle.dir_model.specs.Local.{IsUnopened}
 use Rattle.dir_rules.specs.declared.seen.Seen.{Seen}
 use Rattle.dir_rules.specs.Conforms.{IsTied}
-use Rattle.dir_rules.proofs.Looks.{Fresh, looked_same}
+use Rattle.dir_rules.proofs.Looks.{looked_same}
 use Rattle.dir_trait.specs.DirCalls.{DirAt, DirCall}
 use Rattle.dir_trait.specs.Knowledge.{Knows, LookedInto}
 use Rattle.dir_trait.proofs.Knowing.{knows_call}
+use Rattle.dir_trait.proofs.Looking.{fresh_of}
 use Rattle.pod_locks.specs.ClaimRequests.{in_prepared, in_run}
 use Rattle.pod_locks.specs.ClaimHolding.{on_prepared_lock, and_held, HasClaim, MayTakePrepared, is_own_lock, with_prepared_lock, with_pod}
 use Rattle.pod_locks.specs.declared.claim_error.ClaimError.TheVariants.{Busy}
@@ -29,12 +30,7 @@ use Rattle.pod_locks.proofs.ClaimOpposed.{held_step}
 use Rattle.pod_locks.proofs.Times.{held_part}
 use Rattle.pod_locks.proofs.Traces.{grown_none, grown_call}
 use Rattle.pod_locks.proofs.ClaimSeen.{CanTake, can_take, not_opened, lock_had, lock_refused, free_given, own_given, moved_seen, unmoved_seen}
-
-pub new_number : {d : DirAt} {s : Seen} (h : Handle) → Knows d s → IsUnopened d.local h → Fresh h s.standing.holdings
-new_number h k unopened = k.handles (is_handle_of h) ∙ unopened
-
-pub knows_as : {d : DirAt} {a b : Seen} → a ≡ b → Knows d a → Knows d b
-knows_as {d} is k = subst (λ (s : Seen). Knows d s) is k
+use Rattle.pod_locks.proofs.Knowing.{knows_as}
 
 -- a lock of the pod was opened
 pub knows_opened : {observed : Bool} {pod : PodId} {which : Which} {h : Handle} {old mid : DirAt} {z : Seen} → observed ≡ true → CanTake pod which z → Knows old z → DirCall observed old (Open (in_prepared pod) which) (Opened h) mid
@@ -46,13 +42,13 @@ pub knows_taken : {observed : Bool} {h : Handle} {old mid new : DirAt} (pod : Po
     → WhereObservedKnew observed (MayTakePrepared pod which) old (λ z. Knows new (with_prepared_lock pod which h z))
 knows_taken {observed} {h} pod which unopened x y t z may k =
     let can = can_take pod which z may in
-    knows_as (lock_had pod which h (is_own_lock which) z (new_number h k unopened) can.alone can.may) (knows_call t (knows_opened t can k x) refl refl y)
+    knows_as (lock_had pod which h (is_own_lock which) z (fresh_of h k unopened) can.alone can.may) (knows_call t (knows_opened t can k x) refl refl y)
 
 pub knows_untaken : {observed : Bool} {h : Handle} {old mid late new : DirAt} (pod : PodId) (which : Which) (e : DirError) → IsUnopened old.local h → DirCall observed old (Open (in_prepared pod) which) (Opened h) mid
     → DirCall observed mid (TryLock h Exclusive) (Refused e 0) late → DirCall observed late (Close h) Done new → WhereObservedKnew observed (MayTakePrepared pod which) old (λ z. Knows new z)
 knows_untaken {observed} {h} pod which e unopened x y w t z may k =
     let can = can_take pod which z may in
-    let fresh = new_number h k unopened in
+    let fresh = fresh_of h k unopened in
     let asked = knows_as (lock_refused pod which h (is_own_lock which) z fresh can.alone can.may e) (knows_call t (knows_opened t can k x) refl refl y) in
     knows_as (free_given pod which h (is_own_lock which) z fresh) (knows_call t asked refl refl w)
 
@@ -71,7 +67,7 @@ module _ {observed : Bool} {pod : PodId} {own : Handle} {a b c : DirAt} (unopene
   knows_unmoved e y w t z has k =
       let both = knows_as (ap (with_prepared_lock pod Own own) has.is) (held t z has k) in
       let asked = knows_as (unmoved_seen pod own has.claim has.base has.may e) (knows_call t both refl refl y) in
-      knows_as (own_given pod own true z (new_number own k unopened)) (knows_call t (knows_as (sym (ap (with_prepared_lock pod Own own) has.is)) asked) refl refl w)
+      knows_as (own_given pod own true z (fresh_of own k unopened)) (knows_call t (knows_as (sym (ap (with_prepared_lock pod Own own) has.is)) asked) refl refl w)
 
 -- what it knew, and no looks more
 pub looked_none : {d : DirAt} {s : Seen} → Knows d s → LookedInto s d

@@ -24,7 +24,7 @@ use Rattle.pod_locks.proofs.Reading.{Moment, later_is, reading_grew}
 pub conforms_before : {a b : List Event} → Grew a b → IsConforming b → IsConforming a
 conforms_before {a} {b} g conforming = conforming_left a g.more (subst IsConforming g.grown conforming)
 
-grew_at : {me : ℕ} {a b : List Event} {P : DirState → Type 0} → AtOwnStep me a b P → Grew a b
+pub grew_at : {me : ℕ} {a b : List Event} {P : DirState → Type 0} → AtOwnStep me a b P → Grew a b
 grew_at at = let g = at_grown at in record { more = g.0; grown = g.1 }
 
 -- no pod that is moved meets another

@@ -1,6 +1,7 @@
 -- What a process knows that takes the locks of a prepared pod, moves it, and gives its Claim up.
 use Rattle.std.proofs.Common.{◌≡◌, ℕ, Bool, true, false, not, ◌&&◌, ◌||◌, ◌==◌, cond, bytes_eq, Option, Some, None, List, [], ◌∷◌, map, filter, refl, sym, ap, subst, ◌∙◌}
 use Rattle.std.specs.List.{list_any}
+use Rattle.plain_laws.proofs.Texts.{same_bytes}
 use Rattle.dir_model.specs.declared.area.Area.{Area}
 use Rattle.dir_model.specs.declared.area.Area.TheVariants.{Embryo, ExitedGarbage, Garbage, Incoming}
 use Rattle.dir_model.specs.declared.item.Inner.{Inner}
@@ -29,7 +30,7 @@ use Rattle.dir_rules.specs.LockRules.{is_open_on, is_same_target, is_removal_hel
 use Rattle.dir_rules.specs.Rules.{allows, runs, is_gate, is_deleting}
 use Rattle.dir_rules.specs.Seen.{folder_moved, still_listed, still_shown, still_known}
 use Rattle.dir_rules.specs.Conforms.{seen_replied}
-use Rattle.dir_rules.proofs.Looks.{Fresh, Plain, same_bytes, none_given, filter_same, closed_plain, newest_found, newest_locked, alone_newest, deletes_none}
+use Rattle.dir_rules.proofs.Looks.{Fresh, Plain, none_given, filter_same, closed_plain, newest_found, newest_locked, alone_newest, deletes_none, none_dropped}
 use Rattle.pod_locks.specs.ClaimRequests.{in_prepared, in_run}
 use Rattle.pod_locks.specs.ClaimCauses.{is_lock}
 use Rattle.pod_locks.specs.ClaimHolding.{on_prepared_lock, and_held, is_on_folder, MayClaim, MayTakePrepared, is_own_lock, with_prepared_lock, with_pod}
@@ -54,7 +55,7 @@ kind_one Claim (target.Claim here) is = refl
 kind_one Claim (target.Own here) is = cc
 kind_one Claim (target.Gate a) is = cc
 
-none_kind : (which : Which) (hs : List Held) → list_any is_on_folder hs ≡ false → list_any (λ h. is_lock which h.target) hs ≡ false
+pub none_kind : (which : Which) (hs : List Held) → list_any is_on_folder hs ≡ false → list_any (λ h. is_lock which h.target) hs ≡ false
 none_kind which hs apart = any_fewer (λ h. is_lock which h.target) is_on_folder (λ h is. kind_one which h.target is) hs apart
 
 -- what changes handles on folders alone changes none of its
@@ -79,7 +80,7 @@ gate_cover h whole (target.Gate a) g = refl
 still_covered : (from : Spot) (h : Held) → not (is_gate h.target) ≡ false → uncover from h ≡ h
 still_covered from h g = ap (λ b. let r : Held = record h { covered = not b && h.covered } in r) (ap (λ b. is_stage from.area && b) (gate_own from.name h.target g) ∙ and_false (is_stage from.area))
 
-recovered : (c : Handle) (whole : List Held) (h : Held) → not (is_gate h.target) ≡ false → uncovered_by_close c whole h ≡ h
+pub recovered : (c : Handle) (whole : List Held) (h : Held) → not (is_gate h.target) ≡ false → uncovered_by_close c whole h ≡ h
 recovered c whole h g = ap (λ b. let r : Held = record h { covered = not b && h.covered } in r) (gate_cover c whole h.target g)
 
 -- nothing hangs on a lock of the pod that isn't had, nor on Own
@@ -235,15 +236,6 @@ module _ (pod : PodId) (claim : Handle) (t : Seen) (whole left : List Held)
       (filter_same (λ i. not (gives_up (is_removal_held i.inner.spot) claim whole)) t.items (λ i. ap not (gives (is_removal_held i.inner.spot))))
       ∙ ap (λ (l : List ShownArea). Given false left t.standing.seen_unowned_under_claim false t.listed t.items l false)
       (filter_same (λ a. not (gives_up (is_gate_exclusive a.area) claim whole)) t.areas (λ a. ap not (gives (is_gate_exclusive a.area)))))))))
-
-none_dropped : (c : Handle) (hs : List Held) → Fresh c hs → filter (λ h. not (is_handle_held c h)) hs ≡ hs
-none_dropped c [] f = refl
-none_dropped c (x ∷ hs) f = by (is_handle_held c x) f (λ r. none_dropped c hs r)
-  where
-    by : (b : Bool) → (b || list_any (is_handle_held c) hs) ≡ false → (Fresh c hs → filter (λ y. not (is_handle_held c y)) hs ≡ hs)
-        → cond (not b) (x ∷ filter (λ y. not (is_handle_held c y)) hs) (filter (λ y. not (is_handle_held c y)) hs) ≡ x ∷ hs
-    by true f go = cc
-    by false f go = ap (λ (r : List Held). x ∷ r) (go f)
 
 module _ (pod : PodId) (claim : Handle) (base : Seen) (may : MayClaim base) (fresh : Fresh claim base.standing.holdings) where
   abbrev Newest : Held

@@ -1,6 +1,8 @@
 -- A process that doesn't hold a pod, and only looks for it, isn't the owner of what it finds.
-use Rattle.std.proofs.Common.{◌≡◌, ◌==◌, ◌||◌, ◌&&◌, ℕ, Bool, true, false, not, cond, Option, Some, None, List, [], ◌∷◌, ◌++◌, map, filter, refl, sym, ap, subst, ◌∙◌, append_assoc, append-nil}
+use Rattle.std.proofs.Common.{◌≡◌, ◌==◌, ◌||◌, ◌&&◌, ℕ, Bool, true, false, not, cond, Some, List, [], ◌∷◌, ◌++◌, map, filter, refl, sym, ap, subst, ◌∙◌, append_assoc, append-nil}
 use Rattle.std.specs.List.{list_any, AllByRecursion}
+use Rattle.plain_laws.proofs.Lists.{any_filtered}
+use Rattle.plain_laws.proofs.Booleans.{clash}
 use Rattle.dir_model.specs.declared.area.Area.{Area}
 use Rattle.dir_model.specs.declared.area.Phase.{Phase}
 use Rattle.dir_model.specs.declared.area.Phase.TheVariants as phase
@@ -23,14 +25,14 @@ use Rattle.dir_model.specs.Replies.{is_look_at}
 use Rattle.dir_model.specs.State.{Namespace, DirState, empty_state, lives}
 use Rattle.dir_model.specs.Trace.{namespace_replied, state_next, states_next, state_after}
 use Rattle.dir_model.proofs.Chains.{states_next-append}
-use Rattle.dir_model.proofs.Lists.{all_left, and_left, or_second, or_last, same_rest, same_self}
+use Rattle.dir_model.proofs.Lists.{all_left, and_left, or_second, or_last, same_rest, same_self, same_number}
 use Rattle.dir_rules.specs.declared.standing.Held.{Held}
 use Rattle.dir_rules.specs.declared.seen.Seen.{Seen}
 use Rattle.dir_rules.specs.declared.standing.Standing.{Standing}
-use Rattle.dir_rules.specs.Standing.{is_own_held, holds_own, is_handle_held, find_held, held_with_mode, uncovered_by_close, looked_by, standing_replied, stood, standing_from, standing_of, nothing_standing}
+use Rattle.dir_rules.specs.Standing.{is_own_held, holds_own, is_handle_held, find_held, held_with_mode, uncovered_by_close, standing_replied, stood, standing_from, standing_of, nothing_standing}
 use Rattle.dir_rules.specs.LockRules.{holds_pod}
 use Rattle.dir_rules.specs.Rules.{is_gate}
-use Rattle.dir_rules.proofs.Standings.{standing_is}
+use Rattle.dir_rules.proofs.Standings.{standing_is, looked_holdings}
 use Rattle.dir_rules.proofs.Tied.{lived_before}
 use Rattle.dir_trait.specs.DirCalls.{DirAt, ExtendsBy}
 use Rattle.dir_trait.specs.Knowledge.{Knows, LookedInto}
@@ -38,9 +40,8 @@ use Rattle.lifecycle.specs.declared.machine.PodState.{PodState}
 use Rattle.lifecycle.specs.declared.machine.PodState.TheVariants as state
 use Rattle.lifecycle.specs.PodMachine.{pod_state, phase_of_state, owner_of, is_owner}
 use Rattle.lifecycle.specs.Executions.{IsConforming}
-use Rattle.lifecycle.proofs.Closes.{any_mapped, any_filtered}
+use Rattle.lifecycle.proofs.Closes.{any_mapped}
 use Rattle.lifecycle.proofs.Draws.{conforming_left, standing_split}
-use Rattle.lifecycle.proofs.Handles.{clash, nat_same}
 use Rattle.lifecycle.proofs.Lists.{any_in, in_any}
 use Rattle.lifecycle.proofs.Owners.{owner_holds}
 use Rattle.phase_read.specs.declared.found.LookError.{LookError}
@@ -80,10 +81,6 @@ shared_before u handle (x ∷ xs) h = by (is_handle_held handle x) (shared_befor
     by true later g = or_last (is_own_held u x) _ (later (or_second _ _ g (no (is_own_of u x.target))))
     by false later g = keep (is_own_held u x) later g
 
-looked_keeps : (o : Option Held) (s : Standing) → (looked_by o s).holdings ≡ s.holdings
-looked_keeps None s = refl
-looked_keeps (Some h) s = refl
-
 -- one look more
 held_before : (u : List ℕ) (test : Spot → Bool) (s : Standing) (request : Request) (reply : Reply) → is_look_at test request ≡ true
     → holds_own u (standing_replied s request reply) ≡ true → holds_own u s ≡ true
@@ -93,7 +90,7 @@ held_before u test s (Open spot which) (Opened handle) look h = free (is_own_of 
     free true g = g
     free false g = g
 held_before u test s (TryLock handle Shared) Done look h =
-    shared_before u handle s.holdings (ap (λ (hs : List Held). list_any (is_own_held u) hs) (sym (looked_keeps (find_held handle s) _)) ∙ h)
+    shared_before u handle s.holdings (ap (λ (hs : List Held). list_any (is_own_held u) hs) (sym (looked_holdings (find_held handle s) _)) ∙ h)
 held_before u test s (Close handle) Done look h =
     any_filtered (is_own_held u) (λ x. not (is_handle_held handle x)) s.holdings
     (sym (any_mapped (is_own_held u) (uncovered_by_close handle s.holdings) (filter (λ x. not (is_handle_held handle x)) s.holdings) (λ x. refl)) ∙ h)
@@ -202,7 +199,7 @@ module _ (pod : PodId) (a b : DirAt) (extends : ExtendsBy (is_look_at (is_pod_sp
           owner = o.0;
           is = o.1;
           other = unless (o.0 == a.process) refl (λ same. not_owner es at.rest whole
-              (subst (λ (h : List Event). is_owner a.process (pod_state (pod_text pod.bytes) h) ≡ true) so (subst (λ (p : ℕ). is_owner p (pod_state (pod_text pod.bytes) trace) ≡ true) (nat_same o.0 a.process same) o.2)));
+              (subst (λ (h : List Event). is_owner a.process (pod_state (pod_text pod.bytes) h) ≡ true) so (subst (λ (p : ℕ). is_owner p (pod_state (pod_text pod.bytes) trace) ≡ true) (same_number o.0 a.process same) o.2)));
         };
       }
     where

@@ -20,6 +20,7 @@ use Rattle.dir_rules.specs.Conforms.{IsTied}
 use Rattle.dir_trait.specs.DirCalls.{DirAt, DirCall, LockToldBetween}
 use Rattle.dir_trait.specs.Knowledge.{Knows}
 use Rattle.dir_trait.proofs.Knowing.{knows_call}
+use Rattle.dir_trait.proofs.Looking.{fresh_of}
 use Rattle.dir_trait.specs.Effects.{Given}
 use Rattle.phase_read.specs.Read.{pod_spot}
 use Rattle.pod_locks.proofs.Traces.{grown_none, grown_call}
@@ -30,7 +31,6 @@ use Rattle.pod_locks.specs.Causes.{PodHeldByAnother, FreeIfObserved, LockBusyEls
 use Rattle.pod_locks.proofs.Opposed.{asked_on, held_step, free_step}
 use Rattle.pod_locks.proofs.Within.{held_within, told_within}
 use Rattle.pod_locks.proofs.Seen.{probed, not_probed, not_opened, lock_opened, lock_unopened, lock_had, lock_refused, lock_given, moved_keeps, unmoved}
-use Rattle.pod_locks.proofs.ClaimKnowing.{new_number}
 
 pub knows_as : {d : DirAt} {a b : Seen} → a ≡ b → Knows d a → Knows d b
 knows_as {d} is k = subst (λ (s : Seen). Knows d s) is k
@@ -38,10 +38,10 @@ knows_as {d} is k = subst (λ (s : Seen). Knows d s) is k
 -- Own was asked for shared
 module _ {observed : Bool} (pod : PodId) (a : Area) {h : Handle} {old mid late new : DirAt} (unopened : IsUnopened old.local h) (x : DirCall observed old (Open (pod_spot pod a) Own) (Opened h) mid) where
   pub knows_probed : DirCall observed mid (TryLock h Shared) Done late → DirCall observed late (Close h) Done new → observed ≡ true → Given (MayLook pod a) old (λ s. LooksFree pod a s new)
-  knows_probed y z t s k may = knows_as (probed pod a h s (new_number h k unopened) may) (knows_call t (knows_call t (knows_call t k refl refl x) refl refl y) refl refl z)
+  knows_probed y z t s k may = knows_as (probed pod a h s (fresh_of h k unopened) may) (knows_call t (knows_call t (knows_call t k refl refl x) refl refl y) refl refl z)
 
   pub knows_unprobed : (e : DirError) → DirCall observed mid (TryLock h Shared) (Refused e 0) late → DirCall observed late (Close h) Done new → observed ≡ true → Given (MayLook pod a) old (λ s. Knows new s)
-  knows_unprobed e y z t s k may = knows_as (not_probed pod a h s (new_number h k unopened) may e) (knows_call t (knows_call t (knows_call t k refl refl x) refl refl y) refl refl z)
+  knows_unprobed e y z t s k may = knows_as (not_probed pod a h s (fresh_of h k unopened) may e) (knows_call t (knows_call t (knows_call t k refl refl x) refl refl y) refl refl z)
 
 pub knows_unopened : {observed : Bool} {old new : DirAt} (pod : PodId) (a : Area) (e : DirError) → DirCall observed old (Open (pod_spot pod a) Own) (Refused e 0) new → observed ≡ true → Given (MayLook pod a) old (λ s. Knows new s)
 knows_unopened pod a e x t s k may = knows_as (not_opened pod a s e) (knows_call t k refl refl x)
@@ -50,12 +50,12 @@ knows_unopened pod a e x t s k may = knows_as (not_opened pod a s e) (knows_call
 module _ {observed : Bool} (pod : PodId) (a : Area) (which : Which) {h : Handle} {old mid : DirAt} (unopened : IsUnopened old.local h) (x : DirCall observed old (Open (pod_spot pod a) which) (Opened h) mid) where
   pub knows_taken : {new : DirAt} → DirCall observed mid (TryLock h Exclusive) Done new → observed ≡ true → Given (MayTakeLock pod a which) old (λ s. Knows new (with_pod_lock pod a which h s))
   knows_taken y t s k may =
-      let fresh = new_number h k unopened in
+      let fresh = fresh_of h k unopened in
       knows_as (lock_had pod a which h s fresh may) (knows_call t (knows_as (lock_opened pod a which h s fresh may) (knows_call t k refl refl x)) refl refl y)
 
   pub knows_untaken : {late new : DirAt} (e : DirError) → DirCall observed mid (TryLock h Exclusive) (Refused e 0) late → DirCall observed late (Close h) Done new → observed ≡ true → Given (MayTakeLock pod a which) old (λ s. Knows new s)
   knows_untaken e y z t s k may =
-      let fresh = new_number h k unopened in
+      let fresh = fresh_of h k unopened in
       let asked = knows_as (lock_refused pod a which h s fresh may e) (knows_call t (knows_as (lock_opened pod a which h s fresh may) (knows_call t k refl refl x)) refl refl y) in
       knows_as (lock_given pod a which h s fresh) (knows_call t asked refl refl z)
 
@@ -110,7 +110,7 @@ module _ {observed : Bool} (pod : PodId) (a : Area) {h : Handle} {old mid late n
 
   pub busy_take : (which : Which) (e : DirError) → DirCall observed old (Open (pod_spot pod a) which) (Opened h) mid → DirCall observed mid (TryLock h Exclusive) (Refused e 0) late → DirCall observed late (Close h) Done new → observed ≡ true
       → Given (MayTakeLock pod a which) old (λ s. LockBusyElsewhere pod a Exclusive (step_lock_setback which e) old new)
-  busy_take which e x y w t s k may = busy_elsewhere pod a which Exclusive false e x y w t s may.single (knows_as (lock_opened pod a which h s (new_number h k unopened) may) (knows_call t k refl refl x))
+  busy_take which e x y w t s k may = busy_elsewhere pod a which Exclusive false e x y w t s may.single (knows_as (lock_opened pod a which h s (fresh_of h k unopened) may) (knows_call t k refl refl x))
 
 -- the pod was moved, or not
 module _ {observed : Bool} (pod : PodId) (from to : Area) {old new : DirAt} where

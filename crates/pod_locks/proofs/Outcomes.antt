@@ -1,6 +1,7 @@
 -- One attempt or two, and what a claim comes to.
-use Rattle.std.proofs.Common.{◌≡◌, ◌⊎◌, inl, inr, ◌≤◌, ℕ, Bool, true, false, cond, Some, None, List, [], ◌∷◌, ◌++◌, refl, sym, ap, subst, ◌∙◌, append_assoc, append-nil, arith}
+use Rattle.std.proofs.Common.{◌≡◌, ◌⊎◌, inl, inr, ℕ, Bool, true, false, Some, None, List, [], ◌∷◌, ◌++◌, refl, sym, ap, subst, ◌∙◌, append_assoc, append-nil, arith}
 use Rattle.std.specs.List.{list_any}
+use Rattle.plain_laws.proofs.Texts.{same_bytes}
 use Rattle.dir_model.specs.declared.area.Area.{Area}
 use Rattle.dir_model.specs.declared.area.Area.TheVariants as area
 use Rattle.dir_model.specs.declared.area.Phase.{Phase}
@@ -15,16 +16,16 @@ use Rattle.dir_model.specs.declared.request.Request.TheVariants.{MoveFolder}
 use Rattle.dir_model.specs.declared.request.Reply.TheVariants.{Refused}
 use Rattle.dir_model.specs.Areas.{is_stage}
 use Rattle.dir_model.specs.Calls.{AtOwnStep}
-use Rattle.dir_model.specs.Causes.{Rose}
 use Rattle.dir_model.specs.Local.{Local}
 use Rattle.dir_model.specs.Pods.{pod_text}
-use Rattle.dir_model.specs.Replies.{is_error}
 use Rattle.dir_model.specs.State.{DirState, stands, folder_at}
 use Rattle.dir_model.specs.Trace.{state_after}
 use Rattle.dir_model.proofs.Allowed.{allowed_reply}
 use Rattle.dir_model.proofs.Lists.{and_both}
 use Rattle.dir_model.proofs.Moments.{at_grown, step_at}
-use Rattle.dir_rules.proofs.Looks.{looked_more, same_bytes}
+use Rattle.dir_rules.proofs.Looks.{looked_more}
+use Rattle.dir_laws.proofs.Rose.{rose_later}
+use Rattle.dir_laws.proofs.Refusals.{exists_by}
 use Rattle.dir_trait.specs.DirCalls.{DirAt}
 use Rattle.dir_trait.specs.Knowledge.{LookedInto}
 use Rattle.lifecycle.specs.declared.machine.PodState.{PodState}
@@ -56,11 +57,8 @@ use Rattle.pod_locks.proofs.Traces.{grown_none, grown_more, grown_by, still_more
 
 -- what was so after the first attempt was so after both
 
-event_part : {me other : ℕ} {a b c : List Event} {P : List Event → Type 0} → Grew a b → other ≡ me → AtOwnEvent other b c P → AtOwnEvent me a c P
+pub event_part : {me other : ℕ} {a b c : List Event} {P : List Event → Type 0} → Grew a b → other ≡ me → AtOwnEvent other b c P → AtOwnEvent me a c P
 event_part {me} {other} {a} {b} {c} {P} ab same at = event_within ab.more [] ab.grown (sym (append-nil c)) (subst (λ (p : ℕ). AtOwnEvent p b c P) same at)
-
-rose_later : (a b c : ℕ) → a ≤ b → Rose b c → Rose a c
-rose_later a b c before rose = omega arith
 
 missed_part : {pod : PodId} {me other : ℕ} {b c : List Event} → other ≡ me → FoundThenMissedPrepared pod other b c → FoundThenMissedPrepared pod me b c
 missed_part {pod} {me} {other} {b} {c} same m = subst (λ (p : ℕ). FoundThenMissedPrepared pod p b c) same m
@@ -153,7 +151,7 @@ is_waiting : (s : PodState) → phase_of_state s ≡ Some phase.Prepared → s �
 is_waiting state.Prepared is = refl
 is_waiting _ is = cc
 
-place_waiting : (a : Area) → is_area_of_state a state.Prepared ≡ true → a ≡ area.Prepared
+pub place_waiting : (a : Area) → is_area_of_state a state.Prepared ≡ true → a ≡ area.Prepared
 place_waiting area.Prepared is = refl
 place_waiting _ is = cc
 
@@ -223,12 +221,6 @@ module _ (pod : PodId) (a c : DirAt) (free : IsFreeThroughout pod a c) (conformi
       let still = stays_between c.trace conforming (in_prepared pod) h.folder (Moment x) p [] y.rest (omega arith) whole x.holds.0 stood in
       let there = subst (λ (h' : List Event). folder_at (state_after h').namespace (in_prepared pod) ≡ Some h.folder) (sym yx) still in
       let e : false ≡ true = sym ((free_at at).unheld h.folder which there) ∙ y.holds in cc
-
--- the place in run was taken
-exists_by : (from to : Bool) → is_error Exists (cond from (cond to (Some Exists) None) (Some Missing)) ≡ true → to ≡ true
-exists_by true true is = refl
-exists_by true false is = cc
-exists_by false to is = cc
 
 barred_at : {me : ℕ} {old new : List Event} (pod : PodId) → WasBarred pod me old new → AtOwnStep me old new (λ s. stands s.namespace (in_run pod) ≡ true)
 barred_at {me} {old} {new} pod b =

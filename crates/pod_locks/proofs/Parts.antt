@@ -1,7 +1,7 @@
 -- The parts of a claim, one after the other: what they leave open, and what stops them.
-use Rattle.std.proofs.Common.{◌≡◌, inl, inr, ◌+◌, ◌≤◌, ◌==◌, not, ℕ, Bool, true, false, IfOk, IfErr, Option, Some, None, is_some, Result, Ok, Err, List, [], ◌∷◌, ◌++◌, filter, refl, sym, ap, subst, ◌∙◌, arith}
-use Rattle.std.proofs.lemmas.Bool.Decides.{nat_tests}
-use Rattle.std.specs.List.{list_any}
+use Rattle.std.proofs.Common.{◌≡◌, inl, inr, ◌+◌, ◌≤◌, ◌==◌, not, ℕ, Bool, true, false, IfOk, IfErr, Option, Some, None, is_some, Result, Ok, Err, List, [], ◌∷◌, ◌++◌, refl, ap, subst, ◌∙◌, arith}
+use Rattle.plain_laws.proofs.Lists.{none_before, none_last}
+use Rattle.plain_laws.proofs.Numbers.{flipped}
 use Rattle.dir_model.specs.declared.opening.Holding.{Holding}
 use Rattle.dir_model.specs.declared.pod.PodId.{PodId}
 use Rattle.dir_model.specs.declared.spot.Handle.{Handle}
@@ -13,17 +13,19 @@ use Rattle.dir_model.specs.declared.request.DirError.TheVariants.{Missing}
 use Rattle.dir_model.specs.declared.request.Request.TheVariants.{MoveFolder, Close}
 use Rattle.dir_model.specs.declared.request.Reply.TheVariants.{Done, Refused}
 use Rattle.dir_model.specs.declared.tree.TreeEntry.{TreeEntry}
-use Rattle.dir_model.specs.Local.{Local, is_handle_of, without, is_open_among, IsUnopened}
+use Rattle.dir_model.specs.Local.{Local, is_handle_of, without, IsUnopened}
 use Rattle.dir_model.specs.Locks.{target_of}
 use Rattle.dir_model.specs.Replies.{refused_in, open_refusal}
 use Rattle.dir_model.specs.State.{DirState, folder_at}
 use Rattle.dir_model.proofs.Chains.{and_call, and_more}
-use Rattle.dir_model.proofs.Lists.{same_self, any_push, any_last, any_fewer, filter_all, filter_push, filter_past}
+use Rattle.dir_model.proofs.Lists.{same_self, filter_push, filter_past}
 use Rattle.dir_model.proofs.Moments.{at_weaker}
+use Rattle.dir_model.proofs.Holdings.{none_closed}
 use Rattle.dir_rules.specs.declared.seen.Seen.{Seen}
 use Rattle.dir_trait.specs.DirCalls.{DirAt, DirCall}
 use Rattle.dir_trait.specs.Knowledge.{Knows, LookedInto}
 use Rattle.dir_trait.proofs.Knowing.{knows_call}
+use Rattle.dir_trait.proofs.Looking.{fresh_of}
 use Rattle.pod_locks.specs.declared.claim_error.ClaimError.{ClaimError}
 use Rattle.pod_locks.specs.declared.claim_error.ClaimError.TheVariants.{NoPod, WrongPhase, Busy, Stray}
 use Rattle.pod_locks.specs.declared.claim_setback.Setback.{Setback}
@@ -33,10 +35,11 @@ use Rattle.pod_locks.specs.ClaimHolding.{and_prepared_lock, and_locked, MayClaim
 use Rattle.pod_locks.specs.Work.{WentClaiming, MovedNothing, InOrder, TookBoth, WhereObservedKnew, Grew, taking_deeds, moving_deeds}
 use Rattle.pod_locks.specs.ClaimCauses.{CannotOpen, IsNotInPrepared, ClaimWasStopped, ClaimStopsAlone, IsLookRefusal, ClaimBusyElsewhere, BusyInTurn, HadAlone, HadBothAlone, HadClaimBefore}
 use Rattle.pod_locks.proofs.ClaimCalls.{asks_move, lock_closed}
-use Rattle.pod_locks.proofs.ClaimKnowing.{new_number, knows_as, looked_none}
+use Rattle.pod_locks.proofs.ClaimKnowing.{looked_none}
 use Rattle.pod_locks.proofs.ClaimSeen.{claim_back, claim_back_after}
 use Rattle.pod_locks.proofs.Times.{Follows, at_part, alone_had, stops_part, busy_part}
 use Rattle.pod_locks.proofs.Traces.{grown_none, grown_call, deeds_then, deeds_before, still_more}
+use Rattle.pod_locks.proofs.Knowing.{knows_as}
 
 -- more calls are allowed
 pub went_wider : {observed : Bool} {pod : PodId} {m n : ℕ} {l : Local} {a b : DirAt} → m ≤ n → WentClaiming observed m pod l a b → WentClaiming observed n pod l a b
@@ -138,30 +141,6 @@ alone_calm {observed} {pod} {stop} a s which is = absurd ((look_only (Busy pod w
 
 -- Claim is given up, once the pod was taken under it, or not
 
-not_twice : (b : Bool) → not (not b) ≡ true → b ≡ true
-not_twice true h = refl
-not_twice false h = cc
-
-none_given : (g : Handle) (hs : List Holding) → is_open_among g hs ≡ false → filter (λ x. not (is_handle_of g x)) hs ≡ hs
-none_given g hs none = filter_all (λ x. not (is_handle_of g x)) hs (any_fewer (λ x. not (not (is_handle_of g x))) (is_handle_of g) (λ x is. not_twice (is_handle_of g x) is) hs none)
-
-none_before : {X : Type 0} (t : X → Bool) (xs : List X) (y : X) → list_any t (xs ++ y ∷ []) ≡ false → list_any t xs ≡ false
-none_before t xs y none = by (list_any t xs) (λ is. any_push t xs y is)
-  where
-    by : (b : Bool) → (b ≡ true → list_any t (xs ++ y ∷ []) ≡ true) → b ≡ false
-    by true f = let clash : true ≡ false = sym (f refl) ∙ none in cc
-    by false f = refl
-
-none_last : {X : Type 0} (t : X → Bool) (xs : List X) (y : X) → list_any t (xs ++ y ∷ []) ≡ false → t y ≡ false
-none_last t xs y none = by (t y) (λ is. any_last t xs y is)
-  where
-    by : (b : Bool) → (b ≡ true → list_any t (xs ++ y ∷ []) ≡ true) → b ≡ false
-    by true f = let clash : true ≡ false = sym (f refl) ∙ none in cc
-    by false f = refl
-
-flipped : (a b : ℕ) → (a == b) ≡ false → (b == a) ≡ false
-flipped a b h = grind (arith, nat_tests)
-
 abbrev held_on : PodId → Which → Handle → Holding
 held_on pod which h = record { handle = h; target = target_of (in_prepared pod) which; lock = Some Exclusive }
 
@@ -176,7 +155,7 @@ module _ (m : Local) (pod : PodId) (claim own : Handle) (new : IsUnopened (and_p
   claim_closed unopened = ap (λ (hs : List Holding). let r : Local = record m { holdings = hs } in r)
       (filter_push (λ x. not (is_handle_of claim x)) (m.holdings ++ held_on pod Claim claim ∷ []) (held_on pod Own own) (ap not other_number)
       ∙ (ap (λ (l : List Holding). l ++ held_on pod Own own ∷ []) (filter_past (λ x. not (is_handle_of claim x)) m.holdings (held_on pod Claim claim) (ap not (same_self claim.number)))
-      ∙ ap (λ (l : List Holding). l ++ held_on pod Own own ∷ []) (none_given claim m.holdings unopened)))
+      ∙ ap (λ (l : List Holding). l ++ held_on pod Own own ∷ []) (none_closed claim m.holdings unopened)))
 
 pub unopened_before : {l : Local} (m : Local) (pod : PodId) (claim own : Handle) → l ≡ and_prepared_lock m pod Claim claim → IsUnopened l own → IsUnopened (and_prepared_lock m pod Claim claim) own
 unopened_before m pod claim own is new = subst (λ (x : Local). IsUnopened x own) is new
@@ -230,7 +209,7 @@ module _ {observed : Bool} {pod : PodId} {claim : Handle} {a b c d : DirAt} (r :
   -- what the process knows under Claim, and without it
   module _ (held : WhereObservedKnew observed MayClaim a (λ s. Knows b (with_prepared_lock pod Claim claim s))) where
     has_claim : {s : Seen} → MayClaim s → Knows a s → HasClaim pod (with_prepared_lock pod Claim claim s)
-    has_claim {s} may k = record { claim = claim; base = s; may = may; fresh = new_number claim k unopened; is = refl }
+    has_claim {s} may k = record { claim = claim; base = s; may = may; fresh = fresh_of claim k unopened; is = refl }
 
     pub another_under : Follows observed a b → c.process ≡ b.process → Follows observed c d → IfErr r (λ e. WhereObservedKnew observed (HasClaim pod) b (λ s. ClaimBusyElsewhere pod e b c)) → (observed ≡ true → HadAlone pod Claim a.process a.trace d.trace) → IfErr r (λ e. WhereObservedKnew observed MayClaim a (λ s. BusyInTurn pod e a d))
     another_under ab bc cd x alone = by r x
@@ -247,7 +226,7 @@ module _ {observed : Bool} {pod : PodId} {claim : Handle} {a b c d : DirAt} (r :
     held_under x = by r fresh x
       where
         by : (r : Result Handle Setback) → IfOk r (λ own. IsUnopened b.local own) → IfOk r (λ own. WhereObservedKnew observed (HasClaim pod) b (λ s. Knows c (with_pod pod own s))) → IfOk r (λ own. WhereObservedKnew observed MayClaim a (λ s. Knows d (with_pod pod own s)))
-        by (Ok own) f g = λ t s may k. knows_as (claim_back_after pod claim s may (new_number claim k unopened) own (other_number a.local pod claim own (unopened_before a.local pod claim own w.local_is f)))
+        by (Ok own) f g = λ t s may k. knows_as (claim_back_after pod claim s may (fresh_of claim k unopened) own (other_number a.local pod claim own (unopened_before a.local pod claim own w.local_is f)))
             (knows_call t (g t (with_prepared_lock pod Claim claim s) (has_claim may k) (held t s may k)) refl refl z)
         by (Err e) f g = tt
 
@@ -256,4 +235,4 @@ module _ {observed : Bool} {pod : PodId} {claim : Handle} {a b c d : DirAt} (r :
       where
         by : (r : Result Handle Setback) → IfErr r (λ e. WhereObservedKnew observed (HasClaim pod) b (λ s. Knows c s)) → IfErr r (λ e. WhereObservedKnew observed MayClaim a (λ s. LookedInto s d))
         by (Ok own) g = tt
-        by (Err e) g = λ t s may k. looked_none (knows_as (claim_back pod claim s may (new_number claim k unopened)) (knows_call t (g t (with_prepared_lock pod Claim claim s) (has_claim may k) (held t s may k)) refl refl z))
+        by (Err e) g = λ t s may k. looked_none (knows_as (claim_back pod claim s may (fresh_of claim k unopened)) (knows_call t (g t (with_prepared_lock pod Claim claim s) (has_claim may k) (held t s may k)) refl refl z))

@@ -1,5 +1,5 @@
 -- What is read before a pod is taken, and what follows of it.
-use Rattle.std.proofs.Common.{◌≡◌, inl, inr, ◌+◌, ◌≤◌, ℕ, Bool, true, false, cond, IfOk, IfErr, Option, Some, None, is_some, Result, Ok, Err, List, [], ◌∷◌, ◌++◌, refl, sym, ap, subst, ◌∙◌, append_assoc, arith, codes}
+use Rattle.std.proofs.Common.{◌≡◌, inl, inr, ◌+◌, ◌≤◌, ℕ, Bool, true, false, cond, Option, Some, None, is_some, List, [], ◌∷◌, ◌++◌, refl, sym, ap, subst, ◌∙◌, append_assoc, arith, codes}
 use Rattle.dir_model.specs.declared.area.Area.{Area}
 use Rattle.dir_model.specs.declared.area.Area.TheVariants as area
 use Rattle.dir_model.specs.declared.area.Phase.{Phase}
@@ -28,6 +28,7 @@ use Rattle.dir_model.proofs.Moments.{at_grown, some_number}
 use Rattle.dir_rules.specs.declared.seen.Seen.{Seen}
 use Rattle.dir_rules.specs.Conforms.{Looked}
 use Rattle.dir_rules.proofs.Looks.{looked_more}
+use Rattle.dir_laws.proofs.Rose.{rose_later}
 use Rattle.dir_trait.specs.DirCalls.{DirAt, ExtendsBy, HeldBetween}
 use Rattle.dir_trait.specs.Knowledge.{Knows, LookedInto, OnlyLooks}
 use Rattle.lifecycle.specs.Executions.{IsConforming}
@@ -223,9 +224,6 @@ lacks_manifest {me} {a} {b} {c} pod read alone conforming =
 pub may_looked : {s t : Seen} → Looked s t → MayClaim s → MayClaim t
 may_looked {s} {t} l may = subst MayClaim (sym l.same) (record { began = may.began; apart = may.apart; seen_unowned_under_claim = may.seen_unowned_under_claim })
 
-rose_later : (a b c : ℕ) → a ≤ b → Rose b c → Rose a c
-rose_later a b c before rose = omega arith
-
 module _ {observed : Bool} {pod : PodId} {n : ℕ} {l : Local} {a b : DirAt} (w : WentClaiming observed n pod l a b) (still : observed ≡ true → MovedNothing a.process a.trace b.trace)
     (found : observed ≡ true → IsPhaseReading a.process a.trace b.trace pod (At phase.Prepared area.Prepared)) where
   follows : Follows observed a b
@@ -262,14 +260,6 @@ module _ {observed : Bool} {pod : PodId} {n : ℕ} {l : Local} {a b : DirAt} (w 
         record { known = then.known; looked = looked_more now.looked then.looked; knows = then.knows }
 
 -- the same of a result
-
-pub ok_more : {T E : Type 0} (P Q : T → Type 0) (r : Result T E) → ((x : T) → P x → Q x) → IfOk r P → IfOk r Q
-ok_more P Q (Ok x) f p = f x p
-ok_more P Q (Err e) f p = tt
-
-pub err_more : {T E : Type 0} (P Q : E → Type 0) (r : Result T E) → ((e : E) → P e → Q e) → IfErr r P → IfErr r Q
-err_more P Q (Ok x) f p = tt
-err_more P Q (Err e) f p = f e p
 
 -- the read refused the claim
 pub refused_first : {observed : Bool} {pod : PodId} {error : ClaimError} {a b : DirAt} → (observed ≡ true → MovedNothing a.process a.trace b.trace) → ClaimCause observed pod error a b → SetBack observed pod (setback.Refused error) a b

@@ -1,5 +1,6 @@
 -- What a process knows that looks at a pod's lock, takes one, moves the pod, and gives the lock up.
 use Rattle.std.proofs.Common.{◌≡◌, ℕ, Bool, true, false, not, ◌&&◌, ◌||◌, Option, Some, None, List, [], ◌∷◌, map, refl, ap, ◌∙◌}
+use Rattle.plain_laws.proofs.Lists.{none_of_filter}
 use Rattle.dir_model.specs.declared.area.Area.{Area}
 use Rattle.dir_model.specs.declared.area.Area.TheVariants as area
 use Rattle.dir_model.specs.declared.opening.Target.TheVariants as target
@@ -27,7 +28,6 @@ use Rattle.dir_rules.specs.Conforms.{seen_replied}
 use Rattle.dir_rules.proofs.Looks.{Fresh, Plain, closed_plain, newest_found, newest_locked, alone_newest}
 use Rattle.phase_read.specs.Read.{pod_spot}
 use Rattle.pod_locks.specs.Holding.{on_pod_lock, and_held, with_pod_lock, covers, MayLook, MayTakeLock, MayMove, with_look, KeepsHoldings, is_in_garbage}
-use Rattle.pod_locks.proofs.OwnOpenings.{none_fails}
 
 -- lists
 
@@ -175,7 +175,7 @@ module _ (pod : PodId) (from to : Area) (z : Seen) (may : MayMove pod from to z)
     intent = refl;
     holdings = uncovers_none (pod_spot pod from) z.standing.holdings may.alone;
     kept = ap (λ b. b && z.kept) may.allowed;
-    bare = none_fails is_in_garbage _ z.items may.bare;
+    bare = none_of_filter is_in_garbage _ z.items may.bare;
   }
 
   pub unmoved : (error : DirError) → seen_replied z (MoveFolder (pod_spot pod from) (pod_spot pod to)) (Refused error 0) ≡ z

@@ -7,9 +7,9 @@ use Rattle.dir_model.specs.declared.request.Reply.{Reply}
 use Rattle.dir_model.specs.declared.spot.Which.{Which}
 use Rattle.dir_model.specs.declared.spot.Which.TheVariants.{Own, Claim}
 use Rattle.dir_model.specs.Calls.{AtOwnStep}
-use Rattle.dir_model.specs.Causes.{Rose}
 use Rattle.dir_model.specs.State.{DirState}
 use Rattle.dir_model.proofs.Moments.{at_within}
+use Rattle.dir_laws.proofs.Rose.{rose_later, rose_still}
 use Rattle.dir_trait.specs.DirCalls.{DirAt, DirCall}
 use Rattle.pod_locks.specs.declared.claim_setback.Setback.{Setback}
 use Rattle.pod_locks.specs.Work.{Deed, Grew, MovedNothing, InOrder, is_ok_move}
@@ -25,12 +25,6 @@ pub record Follows (observed : Bool) (old new : DirAt) : Type 0 where
 
 pub nothing_follows : {observed : Bool} {a : DirAt} → Follows observed a a
 nothing_follows {observed} {a} = record { same = refl; faults = omega arith; grown = λ t. grown_none; still = λ t. still_none }
-
-rose_later : (a b c : ℕ) → a ≤ b → Rose b c → Rose a c
-rose_later a b c before rose = omega arith
-
-rose_still : (a b c : ℕ) → Rose a b → b ≤ c → Rose a c
-rose_still a b c rose after = omega arith
 
 -- a moment of a part
 pub at_part : {me other : ℕ} {a b c d : List Event} {P : DirState → Type 0} → Grew a b → other ≡ me → Grew c d → AtOwnStep other b c P → AtOwnStep me a d P

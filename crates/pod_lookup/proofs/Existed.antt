@@ -1,6 +1,7 @@
 -- A pod that a listing shows existed at some moment, and one that exists all the time exists at each own step.
 use Rattle.std.proofs.Common.{◌≡◌, ℕ, Bool, true, false, ◌||◌, bytes_eq, None, List, [], ◌∷◌, ◌++◌, refl, sym, ap, ◌∙◌, append_assoc, append-nil}
 use Rattle.std.specs.List.{AllByRecursion}
+use Rattle.plain_laws.proofs.Texts.{same_bytes}
 use Rattle.dir_model.specs.declared.area.Area.{Area}
 use Rattle.dir_model.specs.declared.event.Event.{Event}
 use Rattle.dir_model.specs.declared.request.Request.TheVariants.{ListArea}
@@ -12,7 +13,6 @@ use Rattle.dir_model.specs.State.{DirState, stands, empty_state}
 use Rattle.dir_model.specs.Trace.{state_after, states_next}
 use Rattle.dir_model.proofs.Chains.{states_next-append}
 use Rattle.dir_model.proofs.Lists.{and_both}
-use Rattle.dir_rules.proofs.Looks.{same_bytes}
 use Rattle.dir_laws.specs.Stretches.{StandsInArea}
 use Rattle.lifecycle.specs.declared.machine.PodState.{PodState}
 use Rattle.lifecycle.specs.declared.machine.PodState.TheVariants.{Absent, Gone}
@@ -86,7 +86,7 @@ shown_existed me old new name w conforming =
     }
 
 -- a pod that exists has a phase
-has_phase : (s : PodState) → exists s ≡ true → phase_of_state s ≡ None → ⊥
+pub has_phase : (s : PodState) → exists s ≡ true → phase_of_state s ≡ None → ⊥
 has_phase Absent e none = cc
 has_phase Gone e none = cc
 has_phase s e none = cc

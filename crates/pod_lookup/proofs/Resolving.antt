@@ -1,15 +1,15 @@
 -- What the choice among the pods that listings showed tells of the pods.
-use Rattle.std.proofs.Common.{◌≡◌, ℕ, Bool, true, false, cond, bytes_eq, take, length, Option, Some, None, option_map, is_some, List, [], ◌∷◌, filter, Result, Ok, Err, IfOk, IsOkAnd, refl, sym, ap, subst, ◌∙◌}
+use Rattle.std.proofs.Common.{◌≡◌, ℕ, Bool, true, false, cond, bytes_eq, take, length, Option, Some, None, option_map, is_some, List, filter, Result, Ok, Err, IfOk, IsOkAnd, refl, sym, ap, subst, ◌∙◌, take_all}
 use Rattle.std.specs.List.Sorted.{IsStrictlySortedBy}
 use Rattle.std.specs.Ordering.{nat_cmp}
 use Rattle.std.specs.Cmp.Lexicographic.{slice_cmp}
+use Rattle.plain_laws.proofs.Texts.{same_bytes, same_text}
 use Rattle.dir_model.specs.declared.pod.PodId.{PodId}
 use Rattle.dir_model.specs.Pods.{pod_text, pod_of_text, is_pod_text, bytes_read}
 use Rattle.dir_model.specs.Listings.{has_name}
 use Rattle.dir_model.specs.Trace.{state_after}
 use Rattle.dir_model.proofs.PodTexts.{passes_text}
 use Rattle.dir_rules.specs.Marks.{begins}
-use Rattle.dir_rules.proofs.Looks.{same_bytes}
 use Rattle.dir_trait.specs.DirCalls.{DirAt, ExtendsBy}
 use Rattle.phase_read.specs.declared.found.LookError.{LookError}
 use Rattle.phase_read.specs.declared.found.LookError.TheVariants.{NoPod, Ambiguous, DirFault, NoMemory}
@@ -17,7 +17,6 @@ use Rattle.pod_lookup.specs.Choice.{is_meant, the_only, choice, whole_or, IsLook
 use Rattle.pod_lookup.specs.Looks.{lists_stages}
 use Rattle.pod_lookup.specs.Pods.{is_pod_name, pod_names, pods_standing, FindsPodsBetween}
 use Rattle.pod_lookup.specs.Resolved.{IsNoneOf, Existed, IsShown, AreTheLeast, FindsTheOne, IsSequential}
-use Rattle.pod_lookup.proofs.InOrder.{same_name}
 use Rattle.pod_lookup.proofs.Names.{meant, IsMeant, choice_meant, none_meant, one_meant, several_meant, just_one}
 use Rattle.pod_lookup.proofs.Shown.{listings_tell_gone}
 use Rattle.pod_lookup.proofs.Existed.{shown_in_stages, shown_existed, never_gone}
@@ -101,15 +100,11 @@ least_two observed word old new pods (Err DirFault) f chosen = tt
 least_two observed word old new pods (Err NoMemory) f chosen = tt
 least_two observed word old new pods (Ok pod) f chosen = tt
 
-take_all : (xs : List ℕ) → take (length xs) xs ≡ xs
-take_all [] = refl
-take_all (x ∷ xs) = ap (λ l. x ∷ l) (take_all xs)
-
 -- a whole uuid begins that pod's name alone
 pub whole_begins : (word name : List ℕ) → length word ≡ 36 → is_pod_name name ≡ true → begins word name ≡ true → name ≡ word
 whole_begins word name long pod so =
     let same : length word ≡ length name = long ∙ sym (text_long (is_pod_text name) refl pod) in
-    sym (take_all name) ∙ (ap (λ n. take n name) (sym same) ∙ sym (same_name word (take (length word) name) so))
+    sym (take_all name) ∙ (ap (λ n. take n name) (sym same) ∙ sym (same_text word (take (length word) name) so))
   where
     text_long : (b : Bool) → is_pod_text name ≡ b → is_some (cond b (option_map (λ bytes. let p : PodId = record { bytes = bytes } in p) (bytes_read name)) None) ≡ true → length name ≡ 36
     text_long true text is = (passes_text name text).0

@@ -1,7 +1,9 @@
 -- The files of one app in a plan, and what they make.
-use Rattle.std.proofs.Common.{◌≡◌, ◌≤◌, ◌+◌, ℕ, Bool, true, false, not, ◌||◌, nat_le, bytes_eq, cond, codes, Result, Ok, Err, IfOk, List, [], ◌∷◌, ◌++◌, length, refl, sym, ap, subst, ◌∙◌, append_assoc, arith, length-append}
+use Rattle.std.proofs.Common.{◌≡◌, ◌≤◌, ◌+◌, ℕ, Bool, true, false, not, nat_le, bytes_eq, cond, codes, Result, Ok, Err, IfOk, List, [], ◌∷◌, ◌++◌, length, refl, sym, ap, subst, ◌∙◌, append_assoc, arith, length-append}
 use Rattle.std.specs.List.{list_any, list_all, AllByRecursion}
 use Rattle.std.proofs.lemmas.Bool.Decides.{nat_tests}
+use Rattle.std.proofs.lemmas.Bool.{or_left}
+use Rattle.plain_laws.proofs.Texts.{same_bytes}
 use Rattle.dir_model.specs.Paths.{is_empty, is_path, lies_below}
 use Rattle.dir_model.specs.Trees.{is_within, app_root}
 use Rattle.dir_model.proofs.Lists.{and_left, and_right, and_both, or_none, or_last, not_true, any_last_not}
@@ -12,6 +14,7 @@ use Rattle.ac_types.specs.Names.{IsAcName}
 use Rattle.path_map.specs.declared.entry.Entry.{Entry as TreeEntry}
 use Rattle.path_map.specs.declared.entry.Entry.TheVariants.{Dir, File, Link}
 use Rattle.path_map.specs.Paths.{IsAbsPath}
+use Rattle.dir_laws.proofs.Names.{IsAppName, app_name, plain_path, plain_behind, stage2_path, info_path}
 use Rattle.tree_digest.specs.declared.line.ListingLine.{ListingLine}
 use Rattle.tree_digest.specs.Listings.{listing_text, IsListing}
 use Rattle.folder_building.specs.declared.plan.PlanEntry.{PlanEntry}
@@ -19,7 +22,7 @@ use Rattle.folder_building.specs.declared.plan.Content.TheVariants.{Directory, G
 use Rattle.folder_building.specs.Plans.{planned_entries, may_follow_entries, is_plan, is_plan_after, is_in_plan, AreMade}
 use Rattle.folder_building.specs.Materialized.{materializes}
 use Rattle.folder_building.specs.TreePlans.{plan_entry_at, IsTreePrefix, CarriesOn, MakesTree}
-use Rattle.folder_building.proofs.Among.{made_both, tree_among}
+use Rattle.folder_building.proofs.Among.{made_both, tree_among, absolute}
 use Rattle.folder_building.proofs.FilePaths.{begins_with, parent_of, lies_there}
 use Rattle.folder_building.specs.ImagePlans.{given_file}
 use Rattle.pod_plan.specs.declared.pod_app.PodApp.{PodApp}
@@ -27,10 +30,8 @@ use Rattle.pod_plan.specs.AppParts.{info_entries, stage_entries, IsPlanned}
 use Rattle.pod_plan.specs.PodFiles.{info_directory, app_manifest_path, stage_directory, tree_file, is_path_among, is_app_place}
 use Rattle.pod_plan.specs.PodPlans.{root_entries, app_entries}
 use Rattle.pod_plan.specs.Pods.{files_of, HasApp}
-use Rattle.pod_plan.proofs.FileNames.{IsAppName, app_name, plain_path, plain_behind}
 use Rattle.pod_plan.proofs.Under.{not_below, not_at, not_within, not_below_itself, under_behind, front_not_under, belongs, same_app, info_belongs, manifest_belongs, stage_belongs, tree_belongs, root_belongs, below_root_belongs, not_under_root, not_same}
-use Rattle.pod_plan.proofs.FolderPlans.{directory_stays, directory_last, comes_next, IsIn, in_left, in_right, is_directory, AllPlanned, planned_both, planned_as, made_passes, none_made, same_path, has_given, has_directory}
-use Rattle.folder_building.proofs.Images.{absolute}
+use Rattle.pod_plan.proofs.FolderPlans.{directory_stays, directory_last, comes_next, IsIn, in_left, in_right, is_directory, AllPlanned, planned_both, planned_as, made_passes, none_made, has_given, has_directory}
 
 -- what the call answers
 module _ (images : List (List ℕ)) (app : PodApp) {T E : Type 0} (items : T → List PlanEntry) (r : Result T E) where
@@ -85,26 +86,8 @@ within_room a b p q = grind (arith, nat_tests)
 short_path : (front rest : List ℕ) → length front ≤ 300 → length rest ≤ 300 → nat_le (length (front ++ rest)) 8192 ≡ true
 short_path front rest p q = subst (λ (n : ℕ). nat_le n 8192 ≡ true) (sym (length-append front rest)) (within_room (length front) (length rest) p q)
 
-or_first : (b c : Bool) → b ≡ true → (b || c) ≡ true
-or_first b c h = rw h refl
-
 first_of : (path : List ℕ) (others : List (List ℕ)) → is_path_among (path ∷ others) path ≡ true
-first_of path others = or_first (bytes_eq path path) (is_path_among others path) (same_path path)
-
-pub info_path : is_path (codes "appsinfo") ≡ true
-info_path = plain_path (codes "appsinfo") refl refl refl
-
-pub stage1_path : is_path (codes "stage1") ≡ true
-stage1_path = plain_path (codes "stage1") refl refl refl
-
-pub rootfs_path : is_path (codes "stage1/rootfs") ≡ true
-rootfs_path = plain_behind (codes "stage1") (codes "rootfs") stage1_path refl refl refl refl
-
-pub opt_path : is_path (codes "stage1/rootfs/opt") ≡ true
-opt_path = plain_behind (codes "stage1/rootfs") (codes "opt") rootfs_path refl refl refl refl
-
-pub stage2_path : is_path (codes "stage1/rootfs/opt/stage2") ≡ true
-stage2_path = plain_behind (codes "stage1/rootfs/opt") (codes "stage2") opt_path refl refl refl refl
+first_of path others = or_left (bytes_eq path path) (is_path_among others path) (same_bytes path)
 
 module _ (images : List (List ℕ)) (app : PodApp) (known : IsPlanned images app) where
   abbrev Name : List ℕ
@@ -167,7 +150,7 @@ module _ (images : List (List ℕ)) (app : PodApp) (known : IsPlanned images app
       by p mine false theirs = refl
       by p mine true theirs =
           let same : other.name ≡ Name = same_app other.name Name p (app_name other.name is).no_slash named.no_slash theirs mine in
-          let clash : true ≡ false = sym (same_path Name) ∙ (ap (λ (n : List ℕ). bytes_eq n Name) (sym same) ∙ differ) in absurd cc
+          let clash : true ≡ false = sym (same_bytes Name) ∙ (ap (λ (n : List ℕ). bytes_eq n Name) (sym same) ∙ differ) in absurd cc
 
       apart : (b : Bool) (p : List ℕ) → belongs Name p ≡ true → not (belongs other.name p) ≡ true
       apart b p mine = by p mine (belongs other.name p) refl
@@ -301,7 +284,7 @@ module _ (images : List (List ℕ)) (app : PodApp) (known : IsPlanned images app
       files = app_manifest_path Name ∷ tree_file Name ∷ []
 
       place : (b : Bool) (path : List ℕ) → cond b (is_path_among (info_directory Name ∷ stage_directory Name ∷ Root ∷ []) path) (is_path_among (app_manifest_path Name ∷ tree_file Name ∷ []) path) ≡ true → is_app_place Name b path ≡ true
-      place b path h = or_first (cond b (is_path_among (info_directory Name ∷ stage_directory Name ∷ Root ∷ []) path) (is_path_among (app_manifest_path Name ∷ tree_file Name ∷ []) path)) (lies_below path Root) h
+      place b path h = or_left (cond b (is_path_among (info_directory Name ∷ stage_directory Name ∷ Root ∷ []) path) (is_path_among (app_manifest_path Name ∷ tree_file Name ∷ []) path)) (lies_below path Root) h
 
       front : AllPlanned (is_app_place Name) Front
       front =

@@ -1,5 +1,5 @@
 -- Where one of several has a fault, it is the first.
-use Rattle.std.proofs.Common.{◌≡◌, ℕ, ◌+◌, ◌<◌, List, take, drop, get_or, length, Some, None, Result, Ok, Err, IfErr, refl, sym, subst}
+use Rattle.std.proofs.Common.{◌≡◌, ℕ, ◌+◌, ◌<◌, List, take, drop, get_or, length, Some, None, sym, subst}
 use Rattle.ac_types.specs.declared.image_ref.ImageRef.{ImageRef}
 use Rattle.dep_match.specs.declared.dep_tree.DepTree.{DepTree}
 use Rattle.dep_match.specs.declared.stored.Stored.{Stored}
@@ -9,11 +9,6 @@ use Rattle.pod_plan.specs.Choices.{best_of, ArePicks, AreTrees, IsNoTree, IsPick
 use Rattle.pod_plan.specs.declared.choice_error.ChoiceError.{ChoiceError}
 use Rattle.pod_plan.specs.declared.choice_error.ChoiceError.TheVariants.{NoMatch, DepError, NoMemory}
 use Rattle.pod_plan.proofs.Mapped.{split_at, mapped_length, all_some, all_ok}
-
--- a refusal that is passed on is one of another kind
-pub refused_by : {A B E : Type 0} (P Q : E → Type 0) (r : Result A E) (other : Result B E) → ((e : E) → other ≡ Err e → r ≡ Err e) → ((e : E) → P e → Q e) → IfErr r P → IfErr other Q
-refused_by P Q r (Ok b) same f h = tt
-refused_by P Q r (Err e) same f h = f e (subst (λ x. IfErr x P) (same e refl) h)
 
 pub unmatched : (list : List Stored) (refs : List ImageRef) (i : ℕ) (wanted : ImageRef) (picks : List ℕ) (place : ℕ) → i < length refs → wanted ≡ get_or refs i wanted → place ≡ length picks
     → ArePicks list (take i refs) picks → (e : ChoiceError) → (e ≡ NoMatch place) × (best_of list wanted ≡ None) → IsPickRefusal list refs e

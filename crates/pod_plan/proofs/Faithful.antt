@@ -2,6 +2,7 @@
 use Rattle.std.proofs.Common.{◌≡◌, ◌<◌, ℕ, Bool, true, List, [], ◌∷◌, Option, Some, None, Ok, length, map, get_or, refl, sym, ap, subst, ◌∙◌}
 use Rattle.std.specs.List.{All, AllZip, AllByRecursion, slice_get, cons_option}
 use Rattle.std.proofs.lemmas.List.Elements.{All-nil, All-cons, All-head, All-tail, All-map}
+use Rattle.plain_laws.proofs.Lists.{head_of, tail_of}
 use Rattle.ac_types.specs.declared.image_ref.ImageRef.{ImageRef}
 use Rattle.path_map.specs.Entries.{Entries}
 use Rattle.tree_digest.specs.Listings.{entries_of, lines_of}
@@ -32,7 +33,7 @@ use Rattle.pod_plan.specs.declared.app_root.Root.{Root}
 use Rattle.pod_plan.specs.Roots.{IsRootAsRead, AreImageRoots}
 use Rattle.pod_plan.specs.Plans.{app_with_root, apps_with, apps_of, PlansChoice}
 use Rattle.pod_plan.specs.FaithfulPods.{StoreRead, IsRootOf, IsAppOf, read_between, PlansFaithfully}
-use Rattle.pod_plan.proofs.Zips.{zip_at, found_at, head_of, tail_of}
+use Rattle.pod_plan.proofs.Zips.{zip_at, found_at}
 use Rattle.pod_plan.proofs.Keys.{one_with_id}
 use Rattle.pod_plan.proofs.Ready.{picks_within, no_fault, apps_are}
 

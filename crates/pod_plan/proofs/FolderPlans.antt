@@ -1,13 +1,13 @@
 -- Plans in parts, and what they made, by the paths of their entries.
-use Rattle.std.proofs.Common.{◌≡◌, ℕ, Bool, true, false, not, ◌&&◌, ◌||◌, nat_le, bytes_eq, List, [], ◌∷◌, ◌++◌, length, filter, refl, sym, ap, subst, ◌∙◌, append_assoc, append-nil}
-use Rattle.std.specs.List.{list_any, list_all, flat_map, concat}
+use Rattle.std.proofs.Common.{◌≡◌, ℕ, Bool, true, false, not, ◌&&◌, ◌||◌, nat_le, bytes_eq, List, [], ◌∷◌, ◌++◌, length, refl, sym, ap, subst, ◌∙◌, append_assoc, append-nil}
+use Rattle.std.specs.List.{list_any, list_all}
 use Rattle.std.proofs.lemmas.Slice.Eq.{bytes_eq-Decides}
 use Rattle.std.proofs.lemmas.List.{map-append}
 use Rattle.std.proofs.lemmas.List.Folds.{list_any-append, list_all-append}
-use Rattle.std.proofs.lemmas.List.Elements.{filter-append}
+use Rattle.plain_laws.proofs.Texts.{same_bytes}
 use Rattle.dir_model.specs.Paths.{is_empty, is_path}
-use Rattle.dir_model.specs.Trees.{is_dir, bytes_of}
-use Rattle.dir_model.proofs.Lists.{and_left, and_right, and_both, not_true, or_none, or_last, any_of_map, any_push, any_last}
+use Rattle.dir_model.specs.Trees.{is_dir}
+use Rattle.dir_model.proofs.Lists.{and_left, and_right, and_both, not_true, or_none, or_last, any_push, any_last}
 use Rattle.dir_rules.specs.declared.seen.Entry.{Entry}
 use Rattle.dir_rules.specs.Marks.{parent, has_slash}
 use Rattle.dir_rules.specs.Rules.{has_path_among, has_dir_among, has_file_among, is_in_directory, is_new_path}
@@ -21,28 +21,19 @@ use Rattle.folder_building.proofs.Among.{made_both}
 use Rattle.folder_building.proofs.FilePaths.{parent_of}
 use Rattle.folder_building.specs.ImagePlans.{given_file}
 use Rattle.pod_plan.proofs.Under.{not_same}
-use Rattle.folder_building.proofs.ImageMade.{filter_none, there_among, filter_own}
-use Rattle.folder_building.proofs.Made.{pieces_bytes}
+use Rattle.folder_building.proofs.ImageMade.{there_among, bytes_own, bytes_among}
+use Rattle.folder_building.proofs.Carries.{path_outline}
 
 -- plans in parts
 
 pub more_before : (before : List PlanEntry) (e : PlanEntry) (es : List PlanEntry) → before ++ e ∷ es ≡ (before ++ e ∷ []) ++ es
 more_before before e es = sym (append_assoc before (e ∷ []) es)
 
-pub plan_both : (before xs ys : List PlanEntry) → is_plan_after before xs ≡ true → is_plan_after (before ++ xs) ys ≡ true → is_plan_after before (xs ++ ys) ≡ true
-plan_both before [] ys a b = subst (λ (l : List PlanEntry). is_plan_after l ys ≡ true) (append-nil before) b
-plan_both before (x ∷ xs) ys a b =
-    and_both (may_follow_entries before x) (is_plan_after (before ++ x ∷ []) (xs ++ ys)) (and_left (may_follow_entries before x) (is_plan_after (before ++ x ∷ []) xs) a)
-    (plan_both (before ++ x ∷ []) xs ys (and_right (may_follow_entries before x) (is_plan_after (before ++ x ∷ []) xs) a) (subst (λ (l : List PlanEntry). is_plan_after l ys ≡ true) (more_before before x xs) b))
-
 pub plan_back : (before xs ys : List PlanEntry) → is_plan_after before (xs ++ ys) ≡ true → is_plan_after (before ++ xs) ys ≡ true
 plan_back before [] ys h = subst (λ (l : List PlanEntry). is_plan_after l ys ≡ true) (sym (append-nil before)) h
 plan_back before (x ∷ xs) ys h =
     subst (λ (l : List PlanEntry). is_plan_after l ys ≡ true) (sym (more_before before x xs))
     (plan_back (before ++ x ∷ []) xs ys (and_right (may_follow_entries before x) (is_plan_after (before ++ x ∷ []) (xs ++ ys)) h))
-
-pub among_outline : (path : List ℕ) (plan : List PlanEntry) → has_path_among path (planned_entries plan) ≡ is_in_plan path plan
-among_outline path plan = any_of_map outline_of (λ e. bytes_eq e.path path) plan
 
 -- a directory that was made stays made
 pub directory_stays : (path : List ℕ) (xs ys : List PlanEntry) → has_dir_among path (planned_entries xs) ≡ true → has_dir_among path (planned_entries (xs ++ ys)) ≡ true
@@ -64,7 +55,7 @@ comes_next before d n content path none some short fresh there origin =
     (and_both (is_new_path here (planned_entries before)) (has_origin content)
     (and_both (nat_le (length here) 8192) (not (is_empty here) && (not (has_path_among here (planned_entries before)) && is_in_directory here (planned_entries before))) short
     (and_both (not (is_empty here)) (not (has_path_among here (planned_entries before)) && is_in_directory here (planned_entries before)) (ap not some)
-    (and_both (not (has_path_among here (planned_entries before))) (is_in_directory here (planned_entries before)) (ap not (among_outline here before ∙ fresh))
+    (and_both (not (has_path_among here (planned_entries before))) (is_in_directory here (planned_entries before)) (ap not (path_outline here before ∙ fresh))
     (or_last (is_empty (parent here)) (has_dir_among (parent here) (planned_entries before)) (subst (λ (p : List ℕ). has_dir_among p (planned_entries before) ≡ true) (sym (parent_of d n none)) there)))))
     origin)
 
@@ -74,7 +65,7 @@ fresh_path before e h =
     let new = and_left (is_new_path e.path (planned_entries before)) (has_origin e.content) (and_right (is_path e.path) (is_new_path e.path (planned_entries before) && has_origin e.content) h) in
     let some = and_right (nat_le (length e.path) 8192) (not (is_empty e.path) && (not (has_path_among e.path (planned_entries before)) && is_in_directory e.path (planned_entries before))) new in
     let apart = and_right (not (is_empty e.path)) (not (has_path_among e.path (planned_entries before)) && is_in_directory e.path (planned_entries before)) some in
-    sym (among_outline e.path before) ∙ not_true (has_path_among e.path (planned_entries before)) (and_left (not (has_path_among e.path (planned_entries before))) (is_in_directory e.path (planned_entries before)) apart)
+    sym (path_outline e.path before) ∙ not_true (has_path_among e.path (planned_entries before)) (and_left (not (has_path_among e.path (planned_entries before))) (is_in_directory e.path (planned_entries before)) apart)
 
 none_later : (path : List ℕ) (before ys : List PlanEntry) → is_in_plan path before ≡ true → is_plan_after before ys ≡ true → is_in_plan path ys ≡ false
 none_later path before [] there h = refl
@@ -160,18 +151,6 @@ none_planned path (e ∷ es) h = by (bytes_eq e.path path) h (none_planned path 
 made_elsewhere : (path : List ℕ) (plan : List PlanEntry) (entries : List Entry) → AreMade plan entries → is_in_plan path plan ≡ false → list_any (is_entry_at path) entries ≡ false
 made_elsewhere path plan entries m h = none_made (λ b p. bytes_eq p path) entries (made_passes (λ b p. not (bytes_eq p path)) plan entries m (none_planned path plan h))
 
-pub same_path : (path : List ℕ) → bytes_eq path path ≡ true
-same_path path = (bytes_eq-Decides path path).1 refl
-
-bytes_own : (path : List ℕ) (pieces : List (List ℕ)) → joined_file_pieces path (file_in_pieces path pieces) ≡ concat pieces
-bytes_own path pieces = rw (same_path path) (ap (flat_map (λ (e : Entry). bytes_of e.node)) (filter_own path pieces) ∙ pieces_bytes path pieces)
-
-bytes_among : (path : List ℕ) (xs ys zs : List Entry) → list_any (is_entry_at path) xs ≡ false → list_any (is_entry_at path) zs ≡ false → joined_file_pieces path (xs ++ (ys ++ zs)) ≡ joined_file_pieces path ys
-bytes_among path xs ys zs a b =
-    ap (flat_map (λ (e : Entry). bytes_of e.node))
-    (filter-append (is_entry_at path) xs (ys ++ zs) ∙ (ap (λ l. l ++ filter (is_entry_at path) (ys ++ zs)) (filter_none path xs a)
-    ∙ (filter-append (is_entry_at path) ys zs ∙ (ap (λ l. filter (is_entry_at path) ys ++ l) (filter_none path zs b) ∙ append-nil (filter (is_entry_at path) ys)))))
-
 -- a file with given bytes of a plan that was carried out
 pub has_given : (path bytes : List ℕ) (plan : List PlanEntry) (entries : List Entry) → is_plan plan ≡ true → IsIn (given_file path bytes) plan → AreMade plan entries → has_bytes path bytes entries ≡ true
 has_given path bytes plan entries whole i made =
@@ -179,7 +158,7 @@ has_given path bytes plan entries whole i made =
     let parted : is_plan_after [] (i.front ++ e ∷ i.back) ≡ true = subst (λ (l : List PlanEntry). is_plan_after [] l ≡ true) i.is whole in
     let behind : is_plan_after i.front (e ∷ i.back) ≡ true = plan_back [] i.front (e ∷ i.back) parted in
     let first : is_in_plan path i.front ≡ false = fresh_path i.front e (and_left (may_follow_entries i.front e) (is_plan_after (i.front ++ e ∷ []) i.back) behind) in
-    let there : is_in_plan path (i.front ++ e ∷ []) ≡ true = any_last (λ x. bytes_eq x.path path) i.front e (same_path path) in
+    let there : is_in_plan path (i.front ++ e ∷ []) ≡ true = any_last (λ x. bytes_eq x.path path) i.front e (same_bytes path) in
     let last : is_in_plan path i.back ≡ false = none_later path (i.front ++ e ∷ []) i.back there (and_right (may_follow_entries i.front e) (is_plan_after (i.front ++ e ∷ []) i.back) behind) in
     let m = made_both i.front (e ∷ i.back) entries (subst (λ (l : List PlanEntry). AreMade l entries) i.is made) in
     let f = m.later in
@@ -198,7 +177,7 @@ has_directory path plan entries i made =
     let f = m.later in
     let is : entries ≡ m.front ++ (directory_entry path ∷ f.rest) = m.is ∙ ap (λ l. m.front ++ l) (f.is ∙ ap (λ l. l ++ f.rest) f.first) in
     subst (λ (l : List Entry). has_dir_among path l ≡ true) (sym is)
-    (list_any-append (λ e. is_dir e.node && bytes_eq e.path path) m.front (directory_entry path ∷ f.rest) ∙ or_last (has_dir_among path m.front) (has_dir_among path (directory_entry path ∷ f.rest)) (rw (same_path path) refl))
+    (list_any-append (λ e. is_dir e.node && bytes_eq e.path path) m.front (directory_entry path ∷ f.rest) ∙ or_last (has_dir_among path m.front) (has_dir_among path (directory_entry path ∷ f.rest)) (rw (same_bytes path) refl))
 
 -- entries that were added one after the other
 pub two_more : (plan new newer : List PlanEntry) (a b : PlanEntry) → new ≡ plan ++ a ∷ [] → newer ≡ new ++ b ∷ [] → newer ≡ plan ++ a ∷ b ∷ []

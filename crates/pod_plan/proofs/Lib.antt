@@ -3,7 +3,6 @@ pub mod ChoiceFaults
 pub mod ChosenPods
 mod AppFiles
 mod Loops
-mod FileNames
 mod FolderPlans
 mod PodFolders
 mod Roots

@@ -5,6 +5,7 @@ use Rattle.std.proofs.lemmas.Bool.{eqb-true}
 use Rattle.std.proofs.lemmas.Slice.Eq.{bytes_eq-Decides}
 use Rattle.std.proofs.lemmas.List.Folds.{list_any-append}
 use Rattle.std.proofs.lemmas.List.Elements.{All-from_recursion}
+use Rattle.plain_laws.proofs.Texts.{same_bytes}
 use Rattle.dir_model.specs.declared.area.Area.TheVariants.{Prepare}
 use Rattle.dir_model.specs.declared.intent.Intent.{Intent}
 use Rattle.dir_model.specs.declared.tree.TreeNode.TheVariants.{Dir, Piece}
@@ -16,20 +17,22 @@ use Rattle.dir_rules.specs.declared.seen.Seen.{Seen}
 use Rattle.dir_rules.specs.Marks.{has_slash, begins, created_mark, status_directory, is_below_status, is_later_mark}
 use Rattle.dir_rules.specs.Rules.{has_dir_among, has_file_among, is_new_path, is_all_done}
 use Rattle.dir_rules.specs.Standing.{intends}
+use Rattle.dir_laws.proofs.Names.{plain_path, created_is_path, created_parent, info_path, stage1_path, rootfs_path, opt_path, stage2_path, rkt_path, status_path}
 use Rattle.folder_building.specs.declared.plan.PlanEntry.{PlanEntry}
 use Rattle.folder_building.specs.declared.plan.Content.TheVariants.{Directory}
 use Rattle.folder_building.specs.Plans.{is_file, planned_entries, may_follow_entries, is_plan, is_plan_after, is_in_plan, is_in_turn, are_in_turn, AreMade}
 use Rattle.folder_building.specs.TreePlans.{plan_entry_at}
 use Rattle.folder_building.specs.ImagePlans.{given_file}
+use Rattle.folder_building.proofs.ImageMade.{plan_both}
+use Rattle.folder_building.proofs.Carries.{path_outline}
 use Rattle.pod_plan.specs.declared.pod_app.PodApp.{PodApp}
 use Rattle.pod_plan.specs.AppParts.{IsPlanned}
 use Rattle.pod_plan.specs.PodFiles.{token_text, shared_directories, is_shared_place, is_app_place, is_pod_path}
 use Rattle.pod_plan.specs.PodPlans.{app_entries, pod_head_entries, pod_entries, ComesInTurn, MakesWhole}
 use Rattle.pod_plan.specs.Pods.{files_of, names_of, HasApp, MakesPod}
-use Rattle.pod_plan.proofs.FileNames.{plain_path, plain_behind, created_is_path, created_parent}
 use Rattle.pod_plan.proofs.Under.{belongs}
-use Rattle.pod_plan.proofs.FolderPlans.{plan_both, directory_stays, among_outline, IsIn, in_first, in_rest, in_left, in_right, is_directory, AllPlanned, planned_both, planned_as, made_passes, none_made, same_path, has_given, has_directory}
-use Rattle.pod_plan.proofs.AppFiles.{AllOutside, all_pass, others_outside, app_follows, has_app, all_in_place, info_path, stage1_path, rootfs_path, opt_path, stage2_path}
+use Rattle.pod_plan.proofs.FolderPlans.{directory_stays, IsIn, in_first, in_rest, in_left, in_right, is_directory, AllPlanned, planned_both, planned_as, made_passes, none_made, has_given, has_directory}
+use Rattle.pod_plan.proofs.AppFiles.{AllOutside, all_pass, others_outside, app_follows, has_app, all_in_place}
 
 abbrev directory_of : List ℕ → PlanEntry
 directory_of path = plan_entry_at path Directory
@@ -45,12 +48,6 @@ directories_follow before (p ∷ ps) are new =
     and_both (may_follow_entries before (directory_of p)) (is_plan_after (before ++ directory_of p ∷ []) (map directory_of ps))
     (and_both (is_path p) (is_new_path p (planned_entries before) && true) are.0 (and_both (is_new_path p (planned_entries before)) true (and_left (is_new_path p (planned_entries before)) (are_new (before ++ directory_of p ∷ []) ps) new) refl))
     (directories_follow (before ++ directory_of p ∷ []) ps are.1 (and_right (is_new_path p (planned_entries before)) (are_new (before ++ directory_of p ∷ []) ps) new))
-
-rkt_path : is_path (codes "stage1/rootfs/rkt") ≡ true
-rkt_path = plain_behind (codes "stage1/rootfs") (codes "rkt") rootfs_path refl refl refl refl
-
-status_path : is_path status_directory ≡ true
-status_path = plain_behind (codes "stage1/rootfs/rkt") (codes "status") rkt_path refl refl refl refl
 
 -- what comes before the apps
 module _ (now : ℕ) (token : List ℕ) where
@@ -106,7 +103,7 @@ module _ (images : List (List ℕ)) where
     where
       by : (x : Bool) → bytes_eq b a ≡ x → bytes_eq b a ≡ false
       by false is = is
-      by true is = let same : a ≡ b = sym ((bytes_eq-Decides b a).0 is) in let clash : true ≡ false = sym (same_path b) ∙ (ap (λ (n : List ℕ). bytes_eq n b) (sym same) ∙ h) in absurd cc
+      by true is = let same : a ≡ b = sym ((bytes_eq-Decides b a).0 is) in let clash : true ≡ false = sym (same_bytes b) ∙ (ap (λ (n : List ℕ). bytes_eq n b) (sym same) ∙ h) in absurd cc
 
   -- other apps' files lie outside an app's directories
   blocks_outside : (app : PodApp) → IsPlanned images app → (apps : List PodApp) → AreKnown apps → AreOthers app.name apps → AllOutside (belongs app.name) (blocks apps)
@@ -192,7 +189,7 @@ module _ (s : Seen) where
 
 same_moment : (now : ℕ) (intent : Option Intent) → intends (λ i. i.now == now) intent ≡ true → intends (λ i. bytes_eq (created_mark now) (created_mark i.now)) intent ≡ true
 same_moment now None h = cc
-same_moment now (Some i) h = subst (λ (n : ℕ). bytes_eq (created_mark now) (created_mark n) ≡ true) (sym (eqb-true i.now now h)) (same_path (created_mark now))
+same_moment now (Some i) h = subst (λ (n : ℕ). bytes_eq (created_mark now) (created_mark n) ≡ true) (sym (eqb-true i.now now h)) (same_bytes (created_mark now))
 
 -- no name without a slash that begins otherwise is a later mark
 not_later : (path : List ℕ) → cond (begins mark_prefix path) true (begins (codes "marked-") path) ≡ false → is_later_mark path ≡ false
@@ -253,7 +250,7 @@ module _ (now : ℕ) (token manifest : List ℕ) (images : List (List ℕ)) (app
   pod_next : may_follow_entries (First ++ Blocks) Pod ≡ true
   pod_next =
       and_both (is_path (codes "pod")) (is_new_path (codes "pod") (planned_entries (First ++ Blocks)) && true) (plain_path (codes "pod") refl refl refl)
-      (and_both (is_new_path (codes "pod") (planned_entries (First ++ Blocks))) true (rw (among_outline (codes "pod") (First ++ Blocks) ∙ no_other_pod) refl) refl)
+      (and_both (is_new_path (codes "pod") (planned_entries (First ++ Blocks))) true (rw (path_outline (codes "pod") (First ++ Blocks) ∙ no_other_pod) refl) refl)
 
   pub pod_is_plan : is_plan Whole ≡ true
   pod_is_plan =
@@ -284,7 +281,7 @@ module _ (now : ℕ) (token manifest : List ℕ) (images : List (List ℕ)) (app
   })
 
   first_in_place : (names : List (List ℕ)) → AllPlanned (is_pod_path now names) First
-  first_in_place names = rw (same_path (created_mark now)) refl
+  first_in_place names = rw (same_bytes (created_mark now)) refl
 
   pub makes_pod : MakesPod now token manifest (map files_of apps) Whole
   makes_pod entries made = record {

@@ -1,11 +1,11 @@
 -- What a choice has: an image and a root for each app, and a name for each that no other has.
 use Rattle.std.proofs.Common.{◌≡◌, ◌<◌, ℕ, suc, Bool, true, false, List, [], ◌∷◌, Option, Some, None, Ok, length, map, refl, sym, ap, subst, ◌∙◌}
 use Rattle.std.specs.Prelude.{bytes_eq, nat_lt, if◌then◌else◌}
-use Rattle.std.specs.List.{All, IsDistinct, position, cons_option}
+use Rattle.std.specs.List.{All, IsDistinct, cons_option}
 use Rattle.std.specs.Option.{option_or}
 use Rattle.std.proofs.lemmas.List.{length-map}
 use Rattle.std.proofs.lemmas.List.Elements.{All-nil, All-cons, All-head, All-tail}
-use Rattle.std.proofs.lemmas.List.Quantifiers.{position-Some}
+use Rattle.plain_laws.proofs.Lists.{head_of, tail_of, position_within}
 use Rattle.ac_types.specs.declared.image_ref.ImageRef.{ImageRef}
 use Rattle.manifests.specs.declared.runtime_app.RuntimeApp.{RuntimeApp}
 use Rattle.manifests.specs.PodData.{PodData, RuntimeAppData, runtime_app_data}
@@ -25,11 +25,7 @@ use Rattle.dir_trait.specs.DirCalls.{DirAt}
 use Rattle.pod_plan.specs.declared.app_root.Root.{Root}
 use Rattle.pod_plan.specs.Roots.{IsRootAsRead, AreImageRoots}
 use Rattle.pod_plan.specs.Plans.{apps_with, apps_of, IsChoiceReady}
-use Rattle.pod_plan.proofs.Zips.{zip_length, found_at, head_of, tail_of}
-
-position_within : {X : Type 0} (p : X → Bool) (xs : List X) (i : ℕ) → position p xs ≡ Some i → i < length xs
-position_within p [] i is = let no : ⊥ = cc in absurd no
-position_within p (x ∷ xs) i is = (position-Some p (x ∷ xs) i x is).0
+use Rattle.pod_plan.proofs.Zips.{zip_length, found_at}
 
 best_within : (list : List Stored) (wanted : ImageRef) (i : ℕ) → best_of list wanted ≡ Some i → i < length list
 best_within list wanted i is = position_within _ list i is

@@ -6,22 +6,6 @@ use Rattle.image_reading.specs.declared.error.StoreError.TheVariants.{Damaged, D
 use Rattle.image_reading.specs.Refusals.{IsReadRefusal}
 use Rattle.pod_plan.specs.PlanRefusals.{IsAnyPath, IsStoreLack}
 
-pub if_ok : {A E : Type 0} (P Q : A → Type 0) (r : Result A E) → ((a : A) → P a → Q a) → IfOk r P → IfOk r Q
-if_ok P Q (Ok a) f h = f a h
-if_ok P Q (Err e) f h = tt
-
-pub if_err : {A E : Type 0} (P Q : E → Type 0) (r : Result A E) → ((e : E) → P e → Q e) → IfErr r P → IfErr r Q
-if_err P Q (Ok a) f h = tt
-if_err P Q (Err e) f h = f e h
-
-pub ok_both : {A E : Type 0} (P Q R : A → Type 0) (r : Result A E) → ((a : A) → P a → Q a → R a) → IfOk r P → IfOk r Q → IfOk r R
-ok_both P Q R (Ok a) f p q = f a p q
-ok_both P Q R (Err e) f p q = tt
-
-pub ok_three : {A E : Type 0} (P Q R S : A → Type 0) (r : Result A E) → ((a : A) → P a → Q a → R a → S a) → IfOk r P → IfOk r Q → IfOk r R → IfOk r S
-ok_three P Q R S (Ok a) f p q h = f a p q h
-ok_three P Q R S (Err e) f p q h = tt
-
 -- an error that is known
 pub err_is : {A E : Type 0} (Q : E → Type 0) (r : Result A E) (x : E) → IsErrAnd r (λ e. e ≡ x) → Q x → IfErr r Q
 err_is Q (Ok a) x is h = tt
@@ -31,11 +15,6 @@ err_is Q (Err e) x is h = subst Q (sym is) h
 pub ok_same : {A E F : Type 0} (P : A → Type 0) (r : Result A E) (other : Result A F) → ((a : A) → other ≡ Ok a → r ≡ Ok a) → IfOk r P → IfOk other P
 ok_same P r (Ok a) same h = subst (λ x. IfOk x P) (same a refl) h
 ok_same P r (Err e) same h = tt
-
--- the same error in another answer
-pub passed_on : {A B E : Type 0} (P Q : E → Type 0) (r : Result A E) (other : Result B E) → ((e : E) → other ≡ Err e → r ≡ Err e) → ((e : E) → P e → Q e) → IfErr r P → IfErr other Q
-passed_on P Q r (Ok b) same f h = tt
-passed_on P Q r (Err e) same f h = f e (subst (λ x. IfErr x P) (same e refl) h)
 
 module _ (observed : Bool) where
   -- the same lack for another reason

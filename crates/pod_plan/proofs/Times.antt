@@ -4,6 +4,7 @@ use Rattle.std.specs.Prelude.{◌==◌, if◌then◌else◌, sum_by}
 use Rattle.std.proofs.lemmas.List.Sums.{sum_by-cons}
 use Rattle.std.proofs.lemmas.Bool.Decides.{nat_tests}
 use Rattle.path_map.specs.Entries.{Entries}
+use Rattle.dir_model.proofs.Lists.{same_self}
 use Rattle.pod_plan.specs.Roots.{count_in_list}
 
 pub times_here : (n : ℕ) (xs : List ℕ) → count_in_list n (n ∷ xs) ≡ 1 + count_in_list n xs
@@ -28,14 +29,11 @@ by_number P m n here there = by (m == n) refl
 abbrev pub with_own : (ℕ → Entries) → ℕ → Entries → ℕ → Entries
 with_own own next map n = if next == n then map else own n
 
-same_is : (n : ℕ) → (n == n) ≡ true
-same_is n = grind (arith, nat_tests)
-
 apart_is : (m n : ℕ) → (m ≡ n → ⊥) → (m == n) ≡ false
 apart_is m n apart = grind (arith, nat_tests, apart)
 
 pub own_here : (own : ℕ → Entries) (next : ℕ) (map : Entries) → with_own own next map next ≡ map
-own_here own next map = ap (λ (b : Bool). cond b map (own next)) (same_is next)
+own_here own next map = ap (λ (b : Bool). cond b map (own next)) (same_self next)
 
 pub own_other : (own : ℕ → Entries) (next : ℕ) (map : Entries) (n : ℕ) → (next ≡ n → ⊥) → with_own own next map n ≡ own n
 own_other own next map n apart = ap (λ (b : Bool). cond b map (own n)) (apart_is next n apart)

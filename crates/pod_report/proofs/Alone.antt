@@ -23,8 +23,9 @@ use Rattle.pod_lookup.proofs.Names.{named_are}
 use Rattle.pod_lookup.proofs.Shown.{conforms}
 use Rattle.pod_report.specs.declared.line.PodLine.{PodLine}
 use Rattle.pod_report.specs.Snapshot.{lined, IsSublist, TellsPods, LinesStanding}
-use Rattle.pod_report.proofs.Telling.{never_both, part_sorted}
+use Rattle.pod_report.proofs.Telling.{part_sorted}
 use Rattle.pod_lookup.proofs.Still.{stand_in}
+use Rattle.pod_lookup.proofs.Existed.{has_phase}
 
 pub any_with : {X : Type 0} (P : X → Type 0) (t : X → Bool) (xs : List X) → AllByRecursion P xs → list_any t xs ≡ true → (x : X) × P x × (t x ≡ true)
 any_with P t [] all h = cc
@@ -66,7 +67,7 @@ stands_on me old mid new first name begins conforming keeps there w =
     let same = keeps later w.rest (w.ends ∙ ap (λ h. h ++ w.rest) is) (place_in name a.0) in
     let here : stands (state_after X).namespace (place_in name a.0) ≡ true = ap (λ h. stands (state_after h).namespace (place_in name a.0)) is ∙ (same ∙ a.2) in
     let x = stands_exists name X (place_in name a.0) (conforms X new w.rest w.ends conforming) (and_both (is_stage a.0) (bytes_eq name name) a.1 ((bytes_eq-Decides name name).1 refl)) here in
-    never_both (pod_state name X) x.0 w.is
+    has_phase (pod_state name X) x.0 w.is
 
 pub lines_standing : (pods : List PodId) (lines : List PodLine) (old mid new : DirAt) (first last : List Event) → mid.trace ≡ old.trace ++ first → new.trace ≡ mid.trace ++ last → IsConforming new.trace → Rising (pod_names pods) → (NoFolderMoves old.trace mid.trace → pods ≡ pods_standing (state_after old.trace).namespace) → TellsPods pods lines mid new → LinesStanding old new lines
 lines_standing pods lines old mid new first last begins ends conforming rise standing tells keeps =

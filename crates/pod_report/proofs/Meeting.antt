@@ -23,9 +23,8 @@ use Rattle.lifecycle.proofs.Phases.{stands_exists}
 use Rattle.lifecycle.proofs.Stays.{stays_between}
 use Rattle.phase_read.specs.Read.{pod_spot}
 use Rattle.phase_read.specs.Exact.{AtOwnEvent, IsInPhase, IsNowhere}
-use Rattle.phase_read.proofs.Exact.{event_within}
+use Rattle.phase_read.proofs.Exact.{event_within, stage_of}
 use Rattle.lifecycle.proofs.Looking.{past, off_place, ended_at, gone_phase}
-use Rattle.pod_lookup.proofs.OneByOne.{stage_of}
 use Rattle.pod_lookup.proofs.Shown.{conforms, ages_on}
 use Rattle.pod_report.specs.declared.sight.Sight.{Sight}
 use Rattle.pod_report.specs.declared.sight.Sight.TheVariants.{Moved, Lacking, Manifest}

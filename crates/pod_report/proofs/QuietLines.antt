@@ -31,6 +31,7 @@ use Rattle.phase_read.specs.Exact.{AtOwnEvent, IsNowhere}
 use Rattle.phase_read.specs.Read.{pod_spot, stages}
 use Rattle.pod_lookup.proofs.InOrder.{head_named}
 use Rattle.pod_lookup.proofs.Shown.{conforms}
+use Rattle.pod_lookup.proofs.Existed.{has_phase}
 use Rattle.pod_report.specs.declared.line.PodLine.{PodLine}
 use Rattle.pod_report.specs.Before.{names_read, names_in_file, IsLineOfPod}
 use Rattle.pod_report.specs.Manifests.{PodHasManifest, PodLacksManifest, manifest_in_area}
@@ -39,7 +40,6 @@ use Rattle.pod_report.specs.Visits.{IsPhase}
 use Rattle.pod_report.proofs.Alone.{any_with, all_stages}
 use Rattle.pod_report.proofs.OnePlace.{place_of, one_area}
 use Rattle.pod_report.proofs.QuietSurvey.{is_calm, SameWorld, same_world}
-use Rattle.pod_report.proofs.Telling.{never_both}
 
 -- a file is in a folder that stands
 pub file_stands : (s : DirState) (inner : Inner) (bytes : List ℕ) → file_at s inner ≡ Some bytes → stands s.namespace inner.spot ≡ true
@@ -103,7 +103,7 @@ module _ {me : ℕ} {old new : List Event} (conforming : IsConforming new) (ext 
         let h : List Event = at.before ++ at.step ∷ [] in
         let w : SameWorld me before (state_after h) = world_at at.before at.step at.later at.rest at.begins at.ends in
         let x = stands_exists u h (pod_spot pod a) (conforms h new at.rest at.ends conforming) (named a stage) (stood h w) in
-        never_both (pod_state u h) x.0 at.holds
+        has_phase (pod_state u h) x.0 at.holds
 
     apps_before : (o : Option (List (List ℕ))) → AreAppsOf pod o me old new → o ≡ names_in_file (file_at before (manifest_in_area pod a))
     apps_before (Some names) at =

@@ -2,6 +2,7 @@
 use Rattle.std.proofs.Common.{◌≡◌, inl, inr, ◌<◌, ◌+◌, ℕ, Bool, true, bytes_eq, Option, Some, None, List, [], ◌∷◌, ◌++◌, take, length, get_or, refl, sym, ap, subst, ◌∙◌, append_assoc, append-nil}
 use Rattle.std.specs.List.{AllByRecursion}
 use Rattle.std.proofs.lemmas.List.{map-append, take_more}
+use Rattle.plain_laws.proofs.Texts.{same_bytes}
 use Rattle.manifests.specs.declared.pod_manifest.PodManifest.{PodManifest}
 use Rattle.dir_model.specs.declared.area.Area.{Area}
 use Rattle.dir_model.specs.declared.area.Area.TheVariants as area
@@ -13,7 +14,6 @@ use Rattle.dir_model.specs.Listings.{has_name}
 use Rattle.dir_model.specs.Pods.{pod_text}
 use Rattle.dir_model.proofs.Lists.{all_weaker, all_push, any_push, any_last}
 use Rattle.dir_model.proofs.Moments.{at_within}
-use Rattle.dir_rules.proofs.Looks.{same_bytes}
 use Rattle.dir_trait.specs.DirCalls.{DirAt}
 use Rattle.phase_read.specs.Read.{stages}
 use Rattle.phase_read.proofs.InTurn.{left_out_before}

@@ -1,6 +1,9 @@
 -- A status that is so of a state is the one that the state gives.
-use Rattle.std.proofs.Common.{◌≡◌, ℕ, Bool, true, false, ◌&&◌, ◌≤◌, bytes_eq, is_some, Option, Some, None, IsSomeAnd, List, [], Result, Ok, Err, refl, sym, ap, subst, ◌∙◌}
+use Rattle.std.proofs.Common.{◌≡◌, ℕ, true, false, ◌&&◌, ◌≤◌, bytes_eq, is_some, Option, Some, None, IsSomeAnd, List, [], Result, Ok, Err, refl, sym, ap, subst, ◌∙◌}
 use Rattle.std.specs.List.{AllByRecursion, list_any}
+use Rattle.plain_laws.proofs.Texts.{same_text}
+use Rattle.plain_laws.proofs.Numbers.{one_of_two}
+use Rattle.plain_laws.proofs.Booleans.{same_test}
 use Rattle.dir_model.specs.declared.area.Area.{Area}
 use Rattle.dir_model.specs.declared.event.Event.{Event}
 use Rattle.dir_model.specs.declared.item.Item.{Item}
@@ -17,7 +20,6 @@ use Rattle.dir_rules.specs.Seen.{created_among}
 use Rattle.lifecycle.specs.Executions.{IsConforming}
 use Rattle.phase_read.specs.declared.found.Found.{Found}
 use Rattle.phase_read.specs.Read.{pod_spot}
-use Rattle.pod_lookup.proofs.InOrder.{same_name}
 use Rattle.pod_report.specs.declared.ends.AppEndText.{AppEndText}
 use Rattle.pod_report.specs.declared.error.ReportError.{ReportError}
 use Rattle.pod_report.specs.declared.error.ReportError.TheVariants.{NoPod}
@@ -32,12 +34,7 @@ use Rattle.pod_report.proofs.QuietLines.{file_stands}
 use Rattle.pod_report.proofs.QuietStatus.{IsStatusOf}
 use Rattle.pod_report.proofs.SequentialEnds.{ends_are, end_is, end_told, names, name_shown, name_plain}
 use Rattle.pod_report.proofs.SequentialReads.{gone_is, there_is}
-use Rattle.pod_report.proofs.StatusMeeting.{same_number, item_named}
-
-pub same_test : (a b : Bool) → (a ≡ true → b ≡ true) → (b ≡ true → a ≡ true) → a ≡ b
-same_test true b f g = sym (f refl)
-same_test false true f g = g refl
-same_test false false f g = refl
+use Rattle.pod_report.proofs.StatusMeeting.{item_named}
 
 some_end : (o : Option AppEndText) → is_some o ≡ true → (e : AppEndText) × (o ≡ Some e)
 some_end (Some e) h = (e, refl)
@@ -47,7 +44,7 @@ some_end None h = cc
 end_of : (P : AppEndText → Type 0) (ends : List AppEndText) (name : List ℕ) → AllByRecursion P ends → has_name (ended_apps ends) name ≡ true → (e : AppEndText) × P e × (e.app ≡ name)
 end_of P ends name all h =
     let x = any_with P (λ (e : AppEndText). bytes_eq e.app name) ends all (sym (any_of_map (λ (e : AppEndText). e.app) (λ (n : List ℕ). bytes_eq n name) ends) ∙ h) in
-    (x.0, x.1, same_name x.0.app name x.2)
+    (x.0, x.1, same_text x.0.app name x.2)
 
 status_parts : (status : PodStatus) (created : Option ℕ) (ends : List AppEndText) → status.created ≡ created → status.ends ≡ ends → status ≡ record { phase = status.phase; created = created; ends = ends }
 status_parts status created ends c e =
@@ -109,7 +106,7 @@ module _ (h : List Event) (conforming : IsConforming h) (pod : PodId) (status : 
   none_later : (m : ℕ) → HasCreatedMark pod m s → IsSomeAnd (created_among marks) (λ c. m ≤ c)
   none_later m (name, is, w) =
       let place : w.area ≡ area = only_here w.area w.stage (ap (λ (o : Option ℕ). is_some o) w.there) in
-      let folder : w.folder ≡ K = same_number (folder_at s.namespace (pod_spot pod area)) w.folder K (subst (λ (b : Area). folder_at s.namespace (pod_spot pod b) ≡ Some w.folder) place w.there) k.1 in
+      let folder : w.folder ≡ K = one_of_two (folder_at s.namespace (pod_spot pod area)) w.folder K (subst (λ (b : Area). folder_at s.namespace (pod_spot pod b) ≡ Some w.folder) place w.there) k.1 in
       (among_greatest marks).most name m (subst (λ (n : ℕ). list_any (is_named name) (items_in n [] s.entries) ≡ true) folder w.named) is
 
   same_created : status.created ≡ created_in s pod area

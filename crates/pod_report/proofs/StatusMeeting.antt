@@ -4,6 +4,8 @@ use Rattle.std.specs.List.{list_any, AllByRecursion}
 use Rattle.std.specs.List.Sorted.{IsStrictlySortedBy}
 use Rattle.std.specs.Ordering.{nat_cmp}
 use Rattle.std.specs.Cmp.Lexicographic.{slice_cmp}
+use Rattle.plain_laws.proofs.Booleans.{clash}
+use Rattle.plain_laws.proofs.Numbers.{one_of_two}
 use Rattle.dir_model.specs.declared.area.Area.{Area}
 use Rattle.dir_model.specs.declared.area.Phase.{Phase}
 use Rattle.dir_model.specs.declared.event.Event.{Event}
@@ -31,12 +33,10 @@ use Rattle.dir_files.specs.Reads.{inner_at, bytes_in, file_at}
 use Rattle.dir_files.proofs.Folders.{not_own}
 use Rattle.gate_reading.proofs.Listed.{throughout, sometime}
 use Rattle.lifecycle.specs.Executions.{IsConforming}
-use Rattle.lifecycle.proofs.Handles.{clash}
 use Rattle.lifecycle.proofs.Stays.{stays_between}
 use Rattle.phase_read.specs.Read.{pod_spot}
 use Rattle.phase_read.specs.Exact.{AtOwnEvent, IsInPhase}
-use Rattle.phase_read.proofs.Exact.{event_within}
-use Rattle.pod_lookup.proofs.OneByOne.{stage_of}
+use Rattle.phase_read.proofs.Exact.{event_within, stage_of}
 use Rattle.pod_lookup.proofs.Shown.{conforms}
 use Rattle.pod_report.specs.declared.ends.AppEndText.{AppEndText}
 use Rattle.pod_report.specs.declared.status.PodStatus.{PodStatus}
@@ -81,9 +81,6 @@ to_step {me} {a} {b} {P} x = by_more (x.later ++ x.step ∷ []) (ap (λ h. h ++ 
 
 from_step : {me : ℕ} {a b : List Event} {P : DirState → Type 0} (x : AtOwnStep me a b P) → Grows (At x) b
 from_step x = by_more x.rest x.ends
-
-pub same_number : (o : Option ℕ) (k l : ℕ) → o ≡ Some k → o ≡ Some l → k ≡ l
-same_number o k l p q = let e : Some k ≡ Some l = sym p ∙ q in cc
 
 pub item_named : (xs : List Item) (item : Item) → has_item xs item ≡ true → list_any (is_named item.name) xs ≡ true
 item_named [] item h = cc
@@ -196,7 +193,7 @@ module _ (pod : PodId) (area : Area) (within : rank area ≤ 5) (phase : Phase) 
     at_Z u v split = and_on (by_more (v ++ last ∷ []) (d.stretch.ends ∙ (ap (λ l. (begun ++ l) ++ last ∷ []) split ∙ simp append_assoc))) to
 
     same_folder : i.folder ≡ K
-    same_folder = same_number (folder_at (state_after begun).namespace spot) i.folder K i.here (stayed begun X_begun (and_on (by_more (others ++ last ∷ []) (d.stretch.ends ∙ append_assoc begun others (last ∷ []))) to))
+    same_folder = one_of_two (folder_at (state_after begun).namespace spot) i.folder K i.here (stayed begun X_begun (and_on (by_more (others ++ last ∷ []) (d.stretch.ends ∙ append_assoc begun others (last ∷ []))) to))
 
     state_is : (u : List Event) → states_next (state_after begun) u ≡ state_after (begun ++ u)
     state_is u = sym (states_next-append empty_state begun u)
@@ -235,7 +232,7 @@ module _ (pod : PodId) (area : Area) (within : rank area ≤ 5) (phase : Phase) 
   mark_here h m x z has =
       let w = has.2 in
       let place : w.area ≡ area = here h x z w.area w.stage (ap (λ (o : Option ℕ). is_some o) w.there) in
-      let folder : w.folder ≡ K = same_number (folder_at (state_after h).namespace spot) w.folder K (subst (λ (b : Area). folder_at (state_after h).namespace (pod_spot pod b) ≡ Some w.folder) place w.there) (stayed h x z) in
+      let folder : w.folder ≡ K = one_of_two (folder_at (state_after h).namespace spot) w.folder K (subst (λ (b : Area). folder_at (state_after h).namespace (pod_spot pod b) ≡ Some w.folder) place w.there) (stayed h x z) in
       subst (λ (n : List ℕ). list_any (is_named n) (items_in K [] (state_after h).entries) ≡ true) (mark_tells has.0 m has.1).is
       (subst (λ (n : ℕ). list_any (is_named has.0) (items_in n [] (state_after h).entries) ≡ true) folder w.named)
 

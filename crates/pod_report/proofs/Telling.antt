@@ -7,6 +7,7 @@ use Rattle.std.specs.Cmp.Lexicographic.{slice_cmp}
 use Rattle.std.specs.declared.cmp.Ordering.TheVariants.{Less}
 use Rattle.std.proofs.lemmas.List.{map-append, take_more}
 use Rattle.std.proofs.lemmas.Slice.Eq.{bytes_eq-Decides}
+use Rattle.plain_laws.proofs.Booleans.{clash}
 use Rattle.dir_model.specs.declared.event.Event.{Event}
 use Rattle.dir_model.specs.declared.pod.PodId.{PodId}
 use Rattle.dir_model.specs.Pods.{pod_text}
@@ -17,15 +18,13 @@ use Rattle.dir_trait.specs.DirCalls.{DirAt}
 use Rattle.manifests.specs.declared.pod_manifest.PodManifest.{PodManifest}
 use Rattle.manifests.specs.declared.runtime_app.RuntimeApp.{RuntimeApp}
 use Rattle.manifests.specs.PodData.{RuntimeAppData, runtime_app_data, pod_data}
-use Rattle.lifecycle.specs.declared.machine.PodState.{PodState}
-use Rattle.lifecycle.specs.declared.machine.PodState.TheVariants.{Absent, Gone}
-use Rattle.lifecycle.specs.PodMachine.{pod_state, phase_of_state, exists}
+use Rattle.lifecycle.specs.PodMachine.{pod_state}
 use Rattle.lifecycle.specs.Readings.{WasPhase}
-use Rattle.lifecycle.proofs.Handles.{clash}
 use Rattle.phase_read.specs.Exact.{AtOwnEvent, IsNowhere}
 use Rattle.phase_read.proofs.Exact.{event_within}
 use Rattle.pod_lookup.specs.Pods.{pod_names, is_pod_name, MissesGone}
 use Rattle.pod_lookup.proofs.InOrder.{Rising, has_push}
+use Rattle.pod_lookup.proofs.Existed.{has_phase}
 use Rattle.pod_report.specs.declared.line.PodLine.{PodLine}
 use Rattle.pod_report.specs.declared.visit.Visit.{Visit}
 use Rattle.pod_report.specs.Manifests.{app_names}
@@ -152,12 +151,6 @@ module _ (pods : List PodId) (pod : PodId) (lines after : List PodLine) (old mid
       by name (inl h) off = gone_before name h off.0
       by name (inr h) off = clash (bytes_eq (pod_text pod.bytes) name) h off.1
 
--- a pod that exists has a phase
-pub never_both : (s : PodState) → exists s ≡ true → phase_of_state s ≡ None → ⊥
-never_both Absent e p = cc
-never_both Gone e p = cc
-never_both s e p = cc
-
 -- the pods were found, and then each told of: that is a snapshot
 pub snapshot : (pods : List PodId) (lines : List PodLine) (old mid new : DirAt) → mid.process ≡ old.process → (first last : List Event) → mid.trace ≡ old.trace ++ first → new.trace ≡ mid.trace ++ last → Rising (pod_names pods) → MissesGone old mid pods → TellsPods pods lines mid new → IsWeakSnapshot old.process old.trace new.trace lines
 snapshot pods lines old mid new same first last begins ends rise misses tells = record {
@@ -174,7 +167,7 @@ snapshot pods lines old mid new same first last begins ends rise misses tells = 
     by name is there true e = e
     by name is there false e =
         let w = nowhere name is e (has_name (pod_names pods) name) refl in
-        absurd (never_both (pod_state name (w.before ++ w.step ∷ [])) (there w.before w.step w.later w.rest w.begins w.ends w.own) w.is)
+        absurd (has_phase (pod_state name (w.before ++ w.step ∷ [])) (there w.before w.step w.later w.rest w.begins w.ends w.own) w.is)
 
 -- a line was pushed, or none
 pub line_added : (pod : PodId) (before after : List PodLine) (line : PodLine) (old new : DirAt) → after ≡ before ++ line ∷ [] → LineTells pod (Some line) old new → AddsPodLine pod before after old new

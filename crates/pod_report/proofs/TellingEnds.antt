@@ -5,6 +5,7 @@ use Rattle.std.specs.List.Sorted.{IsStrictlySortedBy}
 use Rattle.std.specs.Ordering.{nat_cmp}
 use Rattle.std.specs.Cmp.Lexicographic.{slice_cmp}
 use Rattle.std.proofs.lemmas.Slice.Eq.{bytes_eq-Decides}
+use Rattle.plain_laws.proofs.Booleans.{clash}
 use Rattle.dir_model.specs.declared.area.Area.{Area}
 use Rattle.dir_model.specs.declared.event.Event.{Event}
 use Rattle.dir_model.specs.declared.item.Item.{Item}
@@ -24,7 +25,6 @@ use Rattle.dir_trait.specs.DirCalls.{DirAt, ListCall}
 use Rattle.dir_files.specs.Listed.{ShowsDirectoryBetween}
 use Rattle.dir_files.specs.Reads.{inner_at, file_at, TellsFile, IsPiece}
 use Rattle.dir_files.proofs.Folders.{tells_absent}
-use Rattle.lifecycle.proofs.Handles.{clash}
 use Rattle.phase_read.specs.Read.{pod_spot}
 use Rattle.pod_lookup.proofs.InOrder.{has_push}
 use Rattle.pod_report.specs.declared.ends.AppEndText.{AppEndText}

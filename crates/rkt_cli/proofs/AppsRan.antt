@@ -24,9 +24,7 @@ use Rattle.rkt_cli.specs.Spawns.{AppsToldBetween}
 use Rattle.rkt_cli.proofs.Ends.{absurd_number, refusal_plain}
 use Rattle.rkt_cli.proofs.Grades.{unhurt_line}
 use Rattle.commands.specs.Wants.{Wants}
-
-abbrev telling : Told → Answer
-telling t = Ok t
+use Rattle.commands.proofs.Told.{telling}
 
 -- the text that was printed
 told_text : (told : Told) (text front : List ℕ) (ends : List AppEnd) → Ok text ≡ outcome_of (telling told) → told.text ≡ front ++ app_lines ends → text ≡ front ++ app_lines ends

@@ -43,6 +43,7 @@ use Rattle.rkt_cli.proofs.PodRemovals.{rm_none, rm_stray, rm_busy, rm_wrong, rm_
 use Rattle.rkt_cli.proofs.Removals.{removal_busy, removal_unnamed, removal_none, removal_stray, sweep_stray}
 use Rattle.rkt_cli.proofs.Reported.{report_seen, report_told}
 use Rattle.commands.specs.Wants.{Wants}
+use Rattle.commands.proofs.RunRefused.{same_refusal}
 
 -- the refusals that aren't of one command
 abbrev pub is_shared : Refusal → Bool
@@ -69,9 +70,6 @@ own_end NoMemory plain = let clash : true ≡ false = plain in cc
 own_end DirFault plain = let clash : true ≡ false = plain in cc
 own_end BundleFault plain = let clash : true ≡ false = plain in cc
 own_end r plain = refl
-
-same_refusal : (r q : Refusal) → ◌≡◌ {A = Answer} (Err r) (Err q) → r ≡ q
-same_refusal r q is = cc
 
 module _ (now : ℕ) (draw : Draw) (old new : Outside) where
   abbrev Fails : Task → Refusal → Type 0

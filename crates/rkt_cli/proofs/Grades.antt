@@ -1,5 +1,5 @@
 -- From the plain status of a run to its own, which is 16 where an app ended with another status than 0.
-use Rattle.std.proofs.Common.{◌≡◌, inl, inr, ℕ, ◌==◌, Bool, true, false, ◌||◌, Option, Some, None, refl, sym, ap, subst, ◌∙◌}
+use Rattle.std.proofs.Common.{◌≡◌, inl, inr, ℕ, ◌==◌, true, false, Option, Some, None, refl, sym, ap, subst, ◌∙◌}
 use Rattle.dir_model.specs.declared.intent.Draw.{Draw}
 use Rattle.dir_model.specs.declared.intent.Intent.{Intent}
 use Rattle.rkt_cli.specs.Tasks.{Task}
@@ -31,10 +31,6 @@ module _ (task : Task) (plain status : ℕ) where
   pub unhurt : IsStatusWithApps task plain status → runs_apps task ≡ false → status ≡ plain
   unhurt (inl same) none = same
   unhurt (inr x) none = let clash : true ≡ false = sym x.2 ∙ none in cc
-
-pub either_false : (a b : Bool) → (a || b) ≡ false → a ≡ false
-either_false false b h = refl
-either_false true b h = cc
 
 -- all is well with a command that starts no apps
 pub unhurt_line : (line : Task) (now : ℕ) (draw : Draw) (intent : Option Intent) (a b : Inside) (answer : Answer) → runs_apps line ≡ false → AppsToldBetween line now draw intent a b answer → is_well answer ≡ true

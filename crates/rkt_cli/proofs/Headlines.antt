@@ -1,11 +1,12 @@
 -- With which intent the process of a run begins.
-use Rattle.std.proofs.Common.{◌≡◌, inl, inr, ℕ, Bool, true, false, not, Option, Some, None, List, [], append-nil, refl, sym, ap, subst, ◌∙◌}
+use Rattle.std.proofs.Common.{◌≡◌, inl, inr, ℕ, true, false, Option, Some, None, List, [], append-nil, refl, sym, ap, subst, ◌∙◌}
 use Rattle.dir_model.specs.declared.event.Event.{Event}
 use Rattle.dir_model.specs.declared.intent.Draw.{Draw}
 use Rattle.dir_model.specs.declared.intent.Intent.{Intent}
 use Rattle.dir_model.specs.declared.request.Request.{Request}
 use Rattle.dir_model.specs.declared.request.Request.TheVariants.{Begin, Finish}
 use Rattle.dir_model.specs.Calls.{is_begin, is_finish}
+use Rattle.dir_model.proofs.Lists.{not_true}
 use Rattle.headline.specs.Keeping.{BeginsAs}
 use Rattle.headline.proofs.Begins.{call_begins, none_begins, begins_then}
 use Rattle.pod_lookup.specs.Looks.{lists_stages}
@@ -25,10 +26,6 @@ use Rattle.rkt_cli.proofs.Lawful.{asks_no_begin, lists_no_begin}
 use Rattle.rkt_cli.proofs.Sessions.{act_part, finish_part}
 use Rattle.rkt_cli.proofs.Vain.{last_part, look_part}
 
-off : (b : Bool) → not b ≡ true → b ≡ false
-off true h = cc
-off false h = refl
-
 said_same : {said : Option Intent} (a b : Intent) → said ≡ Some a → ◌≡◌ {A = Request} (Begin a) (Begin b) → said ≡ Some b
 said_same a b is same = is ∙ (let one : a ≡ b = cc in ap Some one)
 
@@ -41,7 +38,7 @@ no_step {intent} {me} {trace} = record { more = []; grown = sym (append-nil trac
 
 -- a look begins nothing
 looks_begin_none : (r : Request) → lists_stages r ≡ true → is_begin r ≡ false
-looks_begin_none r h = off (is_begin r) (lists_no_begin r h)
+looks_begin_none r h = not_true (is_begin r) (lists_no_begin r h)
 
 module _ (now : ℕ) (draw : Draw) (old new : Outside) (t : old.dir.observed ≡ true) where
   abbrev me : ℕ
@@ -55,7 +52,7 @@ module _ (now : ℕ) (draw : Draw) (old new : Outside) (t : old.dir.observed ≡
       let opening = s.begins t in
       let began = call_begins said me opening.begins (λ j same. said_same i j is same) in
       let looked = none_begins said me (λ r h. looks_begin_none r (look_lists (approach_in task) r h)) (look_extends (approach_in task) opening.looks) in
-      let acted = none_begins said me (λ r h. off (is_begin r) (asks_no_begin task now draw r h)) (act_part s t) in
+      let acted = none_begins said me (λ r h. not_true (is_begin r) (asks_no_begin task now draw r h)) (act_part s t) in
       let finished = none_begins said me finish_no_begin (finish_part s t is_finish refl) in
       begins_then said me began (begins_then said me looked (begins_then said me acted finished))
 

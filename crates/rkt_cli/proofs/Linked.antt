@@ -32,6 +32,7 @@ use Rattle.rkt_cli.specs.Tasks.{task_of, takes_links, pod_word_of}
 use Rattle.rkt_cli.proofs.Acting.{refused_status}
 use Rattle.rkt_cli.proofs.Causes.{refused_answer}
 use Rattle.rkt_cli.proofs.Ends.{absurd_number, from_command}
+use Rattle.rkt_cli.proofs.Lawful.{same_intents}
 
 -- ---- a command
 
@@ -66,9 +67,6 @@ links_served l draw address said count o answer old new a b is same_address same
     (x.0, answer_is x.0 answer (same ∙ x.1) well, subst (λ (z : List ℕ). ServesAt draw.key z count x.0 old new a b) same_address x.2)
 
 -- ---- its process
-
-same_intents : (i j : Intent) → ◌≡◌ {A = Option Intent} (Some i) (Some j) → i ≡ j
-same_intents i j is = cc
 
 module _ (observed : Bool) (l : Line) (now : ℕ) (draw : Draw) (intent : Intent) (a b m : DirAt) (said : intent_in l now draw ≡ Some intent) (begins : DirCall observed a (Begin intent) Done b)
     (comes : ComesToPod (pod_word_of l) (dir_seen observed b) (dir_seen observed m)) (t : observed ≡ true) where

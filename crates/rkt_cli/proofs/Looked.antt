@@ -1,9 +1,9 @@
 -- From an answer to a pod's word to how a process came to its pod.
-use Rattle.std.proofs.Common.{arith, ◌≡◌, ◌==◌, ℕ, Bool, true, false, cond, List, length, Some, Ok, Err, IsOk, IsErrOf, refl, ap, subst}
-use Rattle.std.proofs.lemmas.Bool.Decides.{nat_tests}
+use Rattle.std.proofs.Common.{◌≡◌, ◌==◌, ℕ, Bool, true, false, cond, List, length, Some, Ok, Err, IsOk, IsErrOf, refl, ap, subst}
 use Rattle.dir_model.specs.declared.pod.PodId.{PodId}
 use Rattle.dir_model.specs.Causes.{Rose}
 use Rattle.dir_model.specs.Pods.{pod_text}
+use Rattle.dir_model.proofs.PodTexts.{whole_back}
 use Rattle.dir_rules.specs.declared.seen.Seen.{Seen}
 use Rattle.dir_trait.specs.DirCalls.{DirAt}
 use Rattle.dir_trait.specs.Knowledge.{Knows}
@@ -17,9 +17,6 @@ use Rattle.command_outcomes.specs.Moments.{DirSeen, dir_seen}
 use Rattle.commands.specs.Opening.{directly, looking, Looks}
 use Rattle.rkt_cli.specs.Lookups.{ComesToPod, FindsMeant, MeansNone, lookup_refusal}
 use Rattle.command_outcomes.specs.declared.refusal.Refusal.{Refusal}
-
-equal_lengths : (n : ℕ) → (n == 36) ≡ true → n ≡ 36
-equal_lengths n is = grind (arith, nat_tests)
 
 module _ (observed : Bool) (word : List ℕ) (old new : DirAt) where
   abbrev before : DirSeen
@@ -42,7 +39,7 @@ module _ (observed : Bool) (word : List ℕ) (old new : DirAt) where
   }
     where
       looks : observed ≡ true → (b : Bool) → (length word == 36) ≡ b → Looks (cond b directly looking) old.process old.trace new.trace
-      looks t true is = ap (λ (d : DirAt). d.trace) (unseen (equal_lengths (length word) is))
+      looks t true is = ap (λ (d : DirAt). d.trace) (unseen (whole_back (length word) is))
       looks t false is = only.extends t
 
   -- to the pod
@@ -67,7 +64,7 @@ module _ (observed : Bool) (word : List ℕ) (old new : DirAt) where
 
   apart : (error : LookError) (b : Bool) → (length word == 36) ≡ b → (length word ≡ 36 → IsOk {T = PodId} {E = LookError} (Err error)) → cond b directly looking ≡ looking
   apart error false is whole = refl
-  apart error true is whole = let clash : false ≡ true = whole (equal_lengths (length word) is) in cc
+  apart error true is whole = let clash : false ≡ true = whole (whole_back (length word) is) in cc
 
   pub came_to_none : (error : LookError) (refusal : Refusal) → refusal ≡ lookup_refusal error → (IsErrOf {T = PodId} (Err error) lookup.DirFault → Rose old.faults new.faults) → (IsErrOf {T = PodId} (Err error) lookup.NoPod → observed ≡ true → IsNoneOf word old new) →
       IfAmbiguous (Err error) (λ a b. observed ≡ true → AreTheLeast word a b old new) → (length word ≡ 36 → IsOk {T = PodId} {E = LookError} (Err error)) → NamesMeant word (Err error) →

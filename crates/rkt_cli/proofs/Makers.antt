@@ -1,5 +1,6 @@
 -- What the commands hand over: pods that they made faithfully, and but for those that make pods nothing.
 use Rattle.std.proofs.Common.{◌≡◌, ◌⊎◌, inl, inr, ℕ, Bool, true, false, ◌&&◌, ◌||◌, List, [], Some, refl, sym, ap, subst, ◌∙◌}
+use Rattle.plain_laws.proofs.Booleans.{or_nothing}
 use Rattle.ac_types.specs.declared.store_key.StoreKey.{StoreKey}
 use Rattle.dir_model.specs.declared.area.Area.{Area}
 use Rattle.dir_model.specs.declared.area.Area.TheVariants.{Prepare, Prepared, Run, ExitedGarbage, Garbage, Images, Incoming, Removed}
@@ -33,7 +34,7 @@ use Rattle.pod_build.proofs.Handing.{HandsNothingOver, none_handed, nothing_hand
 use Rattle.pod_build.specs.FaithfulBuild.{IsFaithfulBuild, HandsOverFaithfully}
 use Rattle.pod_build.specs.Preparations.{Began, MakesFaithfully}
 use Rattle.commands.specs.ImageList.{lists_images}
-use Rattle.commands.proofs.LateTurns.{or_false, or_either}
+use Rattle.commands.proofs.LateTurns.{or_either}
 use Rattle.commands.specs.RunPrepared.{runs_prepared}
 use Rattle.rkt_cli.specs.Tasks.{Task}
 use Rattle.rkt_cli.specs.Tasks.{Prepare as PrepareLine, Run as RunLine}
@@ -76,16 +77,16 @@ pub lists_none : HandsNothingOver lists_images
 lists_none = spares lists_images (λ from to is. cc)
 
 pub imports_none : (spot : Spot) → HandsNothingOver (imports_at spot)
-imports_none spot = spares (imports_at spot) (λ from to is. not_to from to (ap is_handed_to (sym (in_area Images to.area (and_right (spot_eq from spot) (is_in Images to.area) (or_false _ is))))))
+imports_none spot = spares (imports_at spot) (λ from to is. not_to from to (ap is_handed_to (sym (in_area Images to.area (and_right (spot_eq from spot) (is_in Images to.area) (or_nothing _ is))))))
 
 pub image_removes_none : (key : StoreKey) (draw : PodId) → HandsNothingOver (removes_at key draw)
-image_removes_none key draw = spares (removes_at key draw) (λ from to is. not_from from to (ap (λ (s : Spot). is_in Prepare s.area) (one_location from (image_spot key) (and_left (spot_eq from (image_spot key)) (spot_eq to (away_spot draw)) (or_false _ is)))))
+image_removes_none key draw = spares (removes_at key draw) (λ from to is. not_from from to (ap (λ (s : Spot). is_in Prepare s.area) (one_location from (image_spot key) (and_left (spot_eq from (image_spot key)) (spot_eq to (away_spot draw)) (or_nothing _ is)))))
 
 pub image_sweeps_none : HandsNothingOver sweeps_store
 image_sweeps_none = spares sweeps_store (λ from to is. not_from from to (ap (is_in Prepare) (in_area from.area Incoming (and_left (is_in from.area Incoming) (is_in to.area Removed) is))))
 
 pub claims_none : (pod : PodId) → HandsNothingOver (runs_prepared pod)
-claims_none pod = spares (runs_prepared pod) (λ from to is. not_from from to (ap (λ (s : Spot). is_in Prepare s.area) (sym (one_location (in_prepared pod) from (and_left (spot_eq (in_prepared pod) from) (spot_eq (in_run pod) to) (or_false _ is))))))
+claims_none pod = spares (runs_prepared pod) (λ from to is. not_from from to (ap (λ (s : Spot). is_in Prepare s.area) (sym (one_location (in_prepared pod) from (and_left (spot_eq (in_prepared pod) from) (spot_eq (in_run pod) to) (or_nothing _ is))))))
 
 -- a pod that is removed goes to a garbage place
 led_to : (pod : PodId) (here there : Area) (from to : Spot) → is_handed_to there ≡ false → (spot_eq (pod_spot pod here) from && spot_eq (pod_spot pod there) to) ≡ true → is_pod_handover (MoveFolder from to) ≡ false

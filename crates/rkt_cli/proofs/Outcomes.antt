@@ -40,7 +40,7 @@ refusals_of line now draw (Some intent) old new o r (inl s) is = subst (λ (o : 
 refusals_of line now draw (Some intent) old new o r (inr n) is = subst (λ (o : CommandOutcome). IfErr o (λ r. may line r ≡ true)) (sym n.is ∙ is) refl
 refusals_of line now draw None old new o r p is = subst (λ (o : CommandOutcome). IfErr o (λ r. may line r ≡ true)) is p.ran.refusals
 
-abbrev printing : List ℕ → CommandOutcome
+abbrev pub printing : List ℕ → CommandOutcome
 printing text = Ok text
 
 abbrev pub WasAnswered : CommandOutcome → ℕ → Moment → Moment → Type 0

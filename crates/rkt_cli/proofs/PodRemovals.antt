@@ -1,5 +1,6 @@
 -- What `rm` and `gc` tell of the whole run.
 use Rattle.std.proofs.Common.{◌≡◌, ◌⊎◌, inl, inr, ℕ, Bool, true, false, List, Option, Some, None, Ok, Err, IsErrOf, IfErr, refl, sym, ap, subst, ◌∙◌}
+use Rattle.plain_laws.proofs.Booleans.{unused}
 use Rattle.dir_model.specs.declared.area.Phase.{Phase}
 use Rattle.dir_model.specs.declared.intent.Draw.{Draw}
 use Rattle.dir_model.specs.declared.intent.Intent.{Intent}
@@ -41,14 +42,11 @@ use Rattle.pod_gc.specs.declared.ages.Times.{Times}
 use Rattle.rkt_cli.specs.Tasks.{IsMeant}
 use Rattle.commands.specs.Strays.{ComesOfApp}
 use Rattle.commands.specs.Opening.{OnceFound}
+use Rattle.commands.proofs.ImageImports.{is_memory}
 use Rattle.command_outcomes.specs.Meanwhile.{Meanwhile}
 
 abbrev pub rm_intent : List ℕ → ℕ → Draw → Intent
 rm_intent word now draw = intent_for kind.Rm word now draw
-
-abbrev is_memory : Refusal → Bool
-is_memory NoMemory = true
-is_memory r = false
 
 -- a process that has just begun so may remove the pod, or sweep
 pub begun_removes : {word : List ℕ} {pod : PodId} (now : ℕ) (draw : Draw) → IsMeant word pod → MayRemovePod pod now (seen_at_begin (rm_intent word now draw))
@@ -63,9 +61,6 @@ unbegun r apart is = let same : r ≡ NoMemory = cc in let clash : true ≡ fals
 
 untold : (text : List ℕ) {X : Type 0} → ◌≡◌ {A = CommandOutcome} (Ok text) (Err NoMemory) → X
 untold text is = cc
-
-unused : {X : Type 0} → true ≡ false → X
-unused clash = cc
 
 -- `rm`: what was printed, and done
 pub rm_printed : (word : List ℕ) (pod : PodId) (now : ℕ) (draw : Draw) (intent : Option Intent) (old new : Outside) (text : List ℕ) → Performs (Rm word pod) now draw intent old new (Ok text) → text ≡ removed_pod_text pod

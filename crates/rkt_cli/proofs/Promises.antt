@@ -1,11 +1,13 @@
 -- From a run to what a caller is told of it.
-use Rattle.std.proofs.Common.{arith, ◌≤◌, ◌+◌, ◌≡◌, ◌⊎◌, inl, inr, ℕ, Bool, true, false, ◌||◌, ◌==◌, List, ◌++◌, Option, Some, None, Ok, Err, refl, sym, ap, subst, ◌∙◌}
+use Rattle.std.proofs.Common.{arith, ◌≤◌, ◌+◌, ◌≡◌, ◌⊎◌, inl, inr, ℕ, true, false, ◌||◌, ◌==◌, List, ◌++◌, Option, Some, None, Ok, Err, refl, sym, ap, subst, ◌∙◌}
+use Rattle.std.proofs.lemmas.Bool.{or_left, or_right}
 use Rattle.dir_model.specs.declared.intent.Draw.{Draw}
 use Rattle.dir_model.specs.declared.intent.Intent.{Intent}
 use Rattle.dir_model.specs.declared.request.Request.{Request}
 use Rattle.dir_model.specs.declared.request.Request.TheVariants.{Begin, Finish}
 use Rattle.dir_model.specs.Calls.{Extends, is_begin, is_finish}
 use Rattle.dir_model.proofs.Chains.{nothing_yet, step_extends}
+use Rattle.dir_model.proofs.Lists.{or_left_false}
 use Rattle.dir_trait.specs.Sinks.{WritesPart}
 use Rattle.dir_trait.proofs.Askings.{asks_nothing}
 use Rattle.command_outcomes.specs.declared.refusal.Refusal.TheVariants.{Usage, NoMemory}
@@ -26,7 +28,7 @@ use Rattle.rkt_cli.proofs.AppsRan.{run_prepared_printed, run_printed}
 use Rattle.rkt_cli.proofs.Causes.{cause_of}
 use Rattle.rkt_cli.proofs.DemoRan.{demo_text, does_demo}
 use Rattle.rkt_cli.proofs.Ends.{absurd_number, end_at, is_of_output, output_known, refusal_known, refusal_status, refusal_plain, from_end, from_command}
-use Rattle.rkt_cli.proofs.Grades.{plain_at, graded_known, graded_none, graded_same, either_false}
+use Rattle.rkt_cli.proofs.Grades.{plain_at, graded_known, graded_none, graded_same}
 use Rattle.rkt_cli.proofs.Imports.{import_printed}
 use Rattle.rkt_cli.proofs.Listed.{list_printed}
 use Rattle.rkt_cli.proofs.Outcomes.{refusals_of, does_validate, file_prints}
@@ -39,14 +41,6 @@ use Rattle.rkt_cli.proofs.Sessions.{all_parts}
 
 abbrev TaskPrints : Task → Draw → BundleSeen → List ℕ → Type 0
 TaskPrints task draw bundle text = (command_in task).prints draw bundle text
-
-or_left : (a b : Bool) → a ≡ true → (a || b) ≡ true
-or_left true b h = refl
-or_left false b h = cc
-
-or_right : (a b : Bool) → b ≡ true → (a || b) ≡ true
-or_right true b h = refl
-or_right false b h = h
 
 -- the text that was printed is one that the command prints
 prints_of : (line : Task) (now : ℕ) (draw : Draw) (intent : Option Intent) (old new : Outside) (text : List ℕ) → Performs line now draw intent old new (Ok text) → (a b : Inside) (answer : Answer) → Ok text ≡ outcome_of answer → AppsToldBetween line now draw intent a b answer → TaskPrints line draw old.bundle text
@@ -207,7 +201,7 @@ module _ {task : Task} {now : ℕ} {draw : Draw} {old new : Moment} {status : �
   wrote : (P : List ℕ → Type 0) → IsPlainOutput P run.plain old.out.bytes new.out.bytes → WritesItsText (runs_apps task) P status old.out.bytes new.out.bytes
   wrote P (inl x) = inl (graded_none task run.plain status run.is x.0, x.1, x.2, x.3)
   wrote P (inr (inl x)) = inr (inl (elim x.0 [ inl e ↦ inl (same_at 12 e refl) | inr e ↦ inr (same_at 14 e refl) ], x.1, x.2, x.3))
-  wrote P (inr (inr x)) = inr (inr (ap (λ (n : ℕ). (n == 0) || (n == 16)) (same_at run.plain refl (either_false (run.plain == 0) (run.plain == 16) x.0)) ∙ x.0, x.1))
+  wrote P (inr (inr x)) = inr (inr (ap (λ (n : ℕ). (n == 0) || (n == 16)) (same_at run.plain refl (or_left_false (run.plain == 0) (run.plain == 16) x.0)) ∙ x.0, x.1))
 
   -- a text of which this is so, if that is so of each that the task comes to
   pub output_as : (P : List ℕ → Type 0) → ((text : List ℕ) → Performs task now draw (intent_of task now draw) old.outside new.outside (Ok text) → P text) → old.out.observed ≡ true → WritesItsText (runs_apps task) P status old.out.bytes new.out.bytes

@@ -21,7 +21,7 @@ use Rattle.dir_model.proofs.Chains.{extends_wider}
 use Rattle.dir_model.proofs.Quiet.{is_harmless, end_quiet}
 use Rattle.dir_model.specs.Quiet.{SameNamespace}
 use Rattle.commands.specs.Opening.{directly}
-use Rattle.commands.proofs.Starts.{look_lists, lists_is_harmless}
+use Rattle.commands.proofs.Starts.{look_lists}
 use Rattle.rkt_cli.specs.Commands.{approach_in}
 use Rattle.dir_trait.specs.Bundles.{bytes_of_node}
 use Rattle.image_store.specs.Requests.{building_spot}
@@ -36,7 +36,7 @@ use Rattle.command_outcomes.specs.Moments.{BundleSeen, DirSeen, Outside, Moment,
 use Rattle.command_outcomes.specs.Ends.{is_own_end, IsUnchanged}
 use Rattle.commands.specs.CatManifest.{cat_manifest_report}
 use Rattle.commands.specs.PodList.{list_report}
-use Rattle.commands.proofs.ReportsKept.{inspects_change, lines_stable, manifest_stable, service_calm, service_changes, status_stable, surveys_change, visits_change}
+use Rattle.commands.proofs.ReportsKept.{inspects_change, lines_stable, manifest_stable, service_changes, status_stable, surveys_change, visits_change}
 use Rattle.pod_report.proofs.Going.{visits_survey}
 use Rattle.rkt_cli.proofs.DemoRan.{demo_own}
 use Rattle.rkt_cli.proofs.Reported.{report_leaves, report_quiet}
@@ -81,6 +81,8 @@ use Rattle.commands.specs.PrepareQuiet.{PreparesQuietly, is_making_spot}
 use Rattle.commands.specs.PrepareTable.{NothingRefuses, RefusesByState}
 use Rattle.commands.specs.References.{AreReferences}
 use Rattle.ac_types.specs.declared.image_ref.ImageRef.{ImageRef}
+use Rattle.pod_lookup.proofs.QuietLook.{lists_harmless}
+use Rattle.metadata.proofs.Calm.{looks_calm}
 use Rattle.rkt_cli.proofs.PodKept.{pod_stands}
 use Rattle.rkt_cli.proofs.PodRan.{prepare_intent, began, free_in_process, planned_in_process, prepare_faithful, prepare_refused}
 use Rattle.rkt_cli.proofs.Removals.{removal_done, removal_none, removal_stray, sweep_done, sweep_stray}
@@ -120,7 +122,7 @@ module _ (line : Task) (now : ℕ) (draw : Draw) (intent : Intent) (old new : Ou
   looked_same : SameNamespace old.dir.process (state_after old.dir.trace).namespace (state_after s.begun.dir.trace).namespace
   looked_same =
       let q = u.alone s.uses in
-      end_quiet (begin_part s t is_harmless refl (λ r h. lists_is_harmless r (look_lists (approach_in line) r h))) (quiet_begin s t q) (idle s t q)
+      end_quiet (begin_part s t is_harmless refl (λ r h. lists_harmless r (look_lists (approach_in line) r h))) (quiet_begin s t q) (idle s t q)
 
   quiet_between : Quiet s.begun.dir.process s.begun.dir.trace s.ended.dir.trace
   quiet_between = subst (λ (p : ℕ). Quiet p s.begun.dir.trace s.ended.dir.trace) (sym s.me) (quiet_act s t (u.alone s.uses))
@@ -143,7 +145,7 @@ module _ (line : Task) (now : ℕ) (draw : Draw) (intent : Intent) (old new : Ou
   unchanged : ((r : Request) → asks line now draw r ≡ true → is_harmless r ≡ true) → IsUnchanged (state_after old.dir.trace) (state_after new.dir.trace)
   unchanged harmless =
       let q = u.alone s.uses in
-      let same = end_quiet (all_parts s t is_harmless refl (λ r h. lists_is_harmless r (look_lists (approach_in line) r h)) harmless refl) q (idle s t q) in
+      let same = end_quiet (all_parts s t is_harmless refl (λ r h. lists_harmless r (look_lists (approach_in line) r h)) harmless refl) q (idle s t q) in
       record { folders = same.folders; owned = same.owned }
 
   tame_unchanged : approach_in line ≡ directly → ((r : Request) → asks line now draw r ≡ true → is_tame r ≡ true) → IsUnchanged (state_after old.dir.trace) (state_after new.dir.trace)
@@ -483,7 +485,7 @@ leaves_quietly (Run wants address) now draw intent old new o s u = beside (Run w
 leaves_quietly (Rm word pod) now draw intent old new o s u = beside (Rm word pod) now draw intent old new o s u (is_pod_spot pod) (rm_changes pod now)
 leaves_quietly (Gc grace expire) now draw intent old new o s u = beside (Gc grace expire) now draw intent old new o s u is_pods_place (gc_changes now)
 leaves_quietly (Metadata address count) now draw intent old new o s u = record {
-  same = report_leaves s u service_calm;
+  same = report_leaves s u looks_calm;
   beside = beside (Metadata address count) now draw intent old new o s u is_nowhere service_changes;
 }
 leaves_quietly (Demo count) now draw intent old new o s u = let clash : false ≡ true = s.uses in cc

@@ -21,6 +21,7 @@ use Rattle.dir_trait.specs.Effects.{OnlyAsks}
 use Rattle.lifecycle.specs.Executions.{IsConforming}
 use Rattle.lifecycle.proofs.Draws.{conforming_left}
 use Rattle.pod_lookup.specs.Looks.{lists_stages}
+use Rattle.pod_lookup.proofs.QuietLook.{lists_harmless}
 use Rattle.pod_report.specs.Requests.{HasNoPodOpen, OnlyAsksFor, inspects, surveys, visits}
 use Rattle.pod_report.proofs.QuietSurvey.{SameWorld, is_calm, same_world}
 use Rattle.command_outcomes.specs.declared.refusal.Refusal.{Refusal}
@@ -34,7 +35,7 @@ use Rattle.commands.specs.Status.{status_refusal, status_report}
 use Rattle.commands.specs.Opening.{OnceFound}
 use Rattle.commands.specs.Report.{Report, ReportSays}
 use Rattle.commands.proofs.ReportsKept.{IsStable, IsWider}
-use Rattle.commands.proofs.Starts.{look_extends, look_lists, lists_is_harmless}
+use Rattle.commands.proofs.Starts.{look_extends, look_lists}
 use Rattle.rkt_cli.specs.Commands.{approach_in, asks, may, uses_dir}
 use Rattle.rkt_cli.specs.Promises.{Undisturbed}
 use Rattle.rkt_cli.specs.Runs.{CommandRan, InProcess, Performs}
@@ -142,7 +143,7 @@ module _ {task : Task} {now : ℕ} {draw : Draw} {intent : Intent} {old new : Ou
   q = u.alone s.uses
 
   begun_names : SameNamespace me (state_after old.dir.trace).namespace (state_after s.begun.dir.trace).namespace
-  begun_names = end_quiet (begin_part s t is_harmless refl (λ r h. lists_is_harmless r (look_lists (approach_in task) r h))) (quiet_begin s t q) (idle s t q)
+  begun_names = end_quiet (begin_part s t is_harmless refl (λ r h. lists_harmless r (look_lists (approach_in task) r h))) (quiet_begin s t q) (idle s t q)
 
   owns_first : OwnsNothing me (state_after (s.begins t).first).namespace
   owns_first = subst (λ (x : DirState). OwnsNothing me x.namespace) (sym (state_first s t q)) (idle s t q)

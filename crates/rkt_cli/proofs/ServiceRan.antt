@@ -17,6 +17,7 @@ use Rattle.rkt_cli.specs.Commands.{may}
 use Rattle.rkt_cli.specs.Runs.{CommandRan, Performs}
 use Rattle.rkt_cli.proofs.Ran.{ran}
 use Rattle.rkt_cli.proofs.Reported.{worked}
+use Rattle.rkt_cli.proofs.Outcomes.{printing}
 
 service_own : (address : List ℕ) (count : ℕ) (r : Refusal) → service_refusals r ≡ true → may (Metadata address count) r ≡ true
 service_own address count LinkFault h = refl
@@ -45,9 +46,6 @@ pub service_printed : (address : List ℕ) (count : ℕ) (now : ℕ) (draw : Dra
 service_printed address count now draw None old new text p = p.ran.says
 service_printed address count now draw (Some intent) old new text (inl s) = s.ran.says
 service_printed address count now draw (Some intent) old new text (inr n) = let e = n.is in cc
-
-abbrev printing : List ℕ → CommandOutcome
-printing text = Ok text
 
 -- what it comes to by itself
 pub service_quiet : (address : List ℕ) (count : ℕ) (o : CommandOutcome) → PrintsNothing o → IfErr o (λ r. may (Metadata address count) r ≡ true) → is_own_end o ≡ true → (o ≡ Ok []) ⊎ (o ≡ Err LinkFault)

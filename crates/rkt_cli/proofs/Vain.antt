@@ -19,6 +19,7 @@ use Rattle.dir_trait.specs.Knowledge.{Knows}
 use Rattle.lifecycle.specs.Executions.{IsConforming}
 use Rattle.phase_read.specs.declared.found.LookError.{LookError}
 use Rattle.pod_lookup.specs.Choice.{sequential_resolve}
+use Rattle.pod_lookup.proofs.QuietLook.{lists_harmless}
 use Rattle.command_outcomes.specs.declared.refusal.Refusal.{Refusal}
 use Rattle.command_outcomes.specs.declared.refusal.Refusal.TheVariants.{NoMemory}
 use Rattle.command_outcomes.specs.Conforming.{seen_at_begin, dir_at_moment, KeepsConforming}
@@ -29,7 +30,7 @@ use Rattle.commands.specs.Opening.{looks_by, approach_of, Looks, opens}
 use Rattle.commands.proofs.Changes.{looks_change}
 use Rattle.commands.proofs.NextState.{leaves_beside}
 use Rattle.commands.proofs.OwnSteps.{in_process, whole_process}
-use Rattle.commands.proofs.Starts.{look_extends, look_lists, lists_is_harmless}
+use Rattle.commands.proofs.Starts.{look_extends, look_lists}
 use Rattle.rkt_cli.specs.declared.line.Line.{Line}
 use Rattle.rkt_cli.specs.Histories.{IsNewDraw, StaysLawful}
 use Rattle.rkt_cli.specs.Lookups.{LookedInVain, NeverReachedItsPod}
@@ -113,7 +114,7 @@ module _ {word : List ℕ} {intent : Intent} {old new : DirSeen} {refusal : Refu
     vain_leaves =
         let whole : Extends (in_process (is_look_at (λ spot. false))) me old.trace new.trace =
         whole_process (and_more (first_part opens refl) refl (extends_wider (λ r h. ap (λ b. b || is_begin r) (look_lists (approach_of word) r h)) look_part)) (nothing_yet {asks = is_look_at (λ spot. false)}) (last_part is_finish refl) in
-        let same = end_quiet (vain_extends is_harmless refl (λ r h. lists_is_harmless r (look_lists (approach_of word) r h)) refl) quiet vain_idle in
+        let same = end_quiet (vain_extends is_harmless refl (λ r h. lists_harmless r (look_lists (approach_of word) r h)) refl) quiet vain_idle in
         record {
           same = record { folders = same.folders; owned = same.owned };
           beside = leaves_beside is_nowhere (is_look_at (λ spot. false)) (looks_change (λ spot. false)) whole quiet;

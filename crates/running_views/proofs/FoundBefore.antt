@@ -1,20 +1,19 @@
 -- Where nobody else steps, the pod that is found for a token is one that the state before has.
-use Rattle.std.proofs.Common.{arith, ◌≡◌, inl, inr, ℕ, true, is_some, Option, Some, None, List, [], ◌∷◌, ◌++◌, length, refl, sym, ap, subst, ◌∙◌}
+use Rattle.std.proofs.Common.{arith, ◌≡◌, inl, inr, ℕ, true, Option, Some, None, List, [], ◌∷◌, ◌++◌, length, refl, sym, ap, subst, ◌∙◌}
 use Rattle.hex.specs.Hex.{encode_lower}
 use Rattle.ac_types.specs.Outcomes.{reads}
 use Rattle.manifests.specs.PodData.{PodData}
 use Rattle.manifests.specs.PodForm.{pod_manifest}
-use Rattle.dir_model.specs.declared.item.Inner.{Inner}
 use Rattle.dir_model.specs.declared.pod.PodId.{PodId}
-use Rattle.dir_model.specs.State.{DirState, folder_at, stands}
+use Rattle.dir_model.specs.State.{DirState}
 use Rattle.dir_model.specs.Trace.{state_after}
 use Rattle.dir_trait.specs.DirCalls.{DirAt}
-use Rattle.dir_files.specs.Reads.{bytes_in, file_at}
 use Rattle.image_reading.specs.Files.{most_of_manifest}
 use Rattle.pod_files.specs.Files.{IsManifestOf, IsNoManifest, ReadsNoPodManifest, most_of_token}
 use Rattle.pod_files.specs.Places.{pod_file, pod_manifest_name, token_name}
 use Rattle.pod_report.specs.Requests.{OnlyAsksFor}
 use Rattle.pod_report.proofs.Reading.{same_reading}
+use Rattle.pod_report.proofs.QuietLines.{file_stands}
 use Rattle.metadata_reply.specs.Views.{ViewData, HasReading}
 use Rattle.metadata.specs.Looks.{looks_in_run}
 use Rattle.metadata.specs.PodViews.{app_names, image_path, ReadsAppImages, LacksSomeImage, HasOtherDigits, HasNoView, IsViewOf, FindsPodByToken}
@@ -24,18 +23,10 @@ use Rattle.running_views.proofs.Limits.{short_image, whole_image, digits_length,
 use Rattle.running_views.proofs.QuietReads.{front_before, lacks_not}
 use Rattle.running_views.proofs.Running.{runs_before, stopped_before}
 
--- a file is in a folder that stands
-file_stands : (s : DirState) (inner : Inner) (bytes : List ℕ) → file_at s inner ≡ Some bytes → stands s.namespace inner.spot ≡ true
-file_stands s inner bytes is = by (folder_at s.namespace inner.spot) is
-  where
-    by : (o : Option ℕ) → bytes_in s.entries inner.path o ≡ Some bytes → is_some o ≡ true
-    by (Some folder) h = refl
-    by None h = cc
-
-some_same : (x y : List ℕ) → Some x ≡ Some y → x ≡ y
+pub some_same : (x y : List ℕ) → Some x ≡ Some y → x ≡ y
 some_same x y is = cc
 
-reads_same : (x y : PodData) → reads x ≡ reads y → x ≡ y
+pub reads_same : (x y : PodData) → reads x ≡ reads y → x ≡ y
 reads_same x y is = cc
 
 -- each of the apps has an image

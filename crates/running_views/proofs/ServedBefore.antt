@@ -14,9 +14,9 @@ use Rattle.pod_report.specs.Requests.{OnlyAsksFor}
 use Rattle.pod_report.proofs.QuietSurvey.{is_calm, SameWorld, same_world}
 use Rattle.metadata.specs.Looks.{looks_in_run}
 use Rattle.metadata.specs.Service.{Served, Owes, ServesOne, ServesThese}
+use Rattle.metadata.proofs.Calm.{looks_calm}
 use Rattle.running_views.specs.Laws.{ReadsUndisturbed}
 use Rattle.running_views.specs.Replies.{OwesIn, ServesOneIn, ServesIn}
-use Rattle.running_views.proofs.Calm.{looks_calm}
 use Rattle.running_views.proofs.Same.{same_told, serves_same}
 use Rattle.running_views.proofs.RepliedBefore.{reply_before}
 

@@ -1,5 +1,5 @@
 -- Why a run stopped, said of longer times too.
-use Rattle.std.proofs.Common.{arith, ◌≡◌, ◌≤◌, ℕ, Bool, true, false, List, [], ◌++◌, refl, sym, ap, subst, ◌∙◌, append_assoc, append-nil}
+use Rattle.std.proofs.Common.{◌≡◌, ◌≤◌, ℕ, Bool, true, false, List, [], ◌++◌, refl, sym, ap, subst, ◌∙◌, append_assoc, append-nil}
 use Rattle.dir_model.specs.declared.event.Event.{Event}
 use Rattle.dir_model.specs.declared.request.DirError.{DirError}
 use Rattle.dir_model.specs.declared.request.DirError.TheVariants as dir
@@ -9,6 +9,7 @@ use Rattle.dir_model.specs.declared.request.Reply.TheVariants.{Refused}
 use Rattle.dir_model.specs.Calls.{CallStep, PartialStep}
 use Rattle.dir_model.specs.Causes.{Rose}
 use Rattle.dir_model.specs.Replies.{is_fault}
+use Rattle.dir_laws.proofs.Rose.{rose_later, rose_still}
 use Rattle.dir_trait.specs.DirCalls.{DirAt}
 use Rattle.dir_trait.specs.Effects.{OnlyAsks}
 use Rattle.folder_building.specs.Work.{is_stray_building}
@@ -18,12 +19,6 @@ use Rattle.spawner.specs.Calls.{SpawnerAt}
 use Rattle.stage1.specs.declared.error.Fault.{Fault}
 use Rattle.stage1.specs.declared.error.Fault.TheVariants.{Spawn, Dir, Stray, NoMemory}
 use Rattle.stage1.specs.Refusals.{spawn_fault, change_fault, SpawnCause, WasStrayIn, NoteCause, RunCause}
-
-pub rose_after : (a b c : ℕ) → a ≤ b → Rose b c → Rose a c
-rose_after a b c ab bc = omega (arith, ab, bc)
-
-pub rose_before : (a b c : ℕ) → Rose a b → b ≤ c → Rose a c
-rose_before a b c ab bc = omega (arith, ab, bc)
 
 -- one call
 stray_now : (me : ℕ) (old new : List Event) (request : Request) (reply : Reply) → is_stray_building request reply ≡ true → CallStep me old request reply new → WasStrayIn me old new
@@ -53,12 +48,12 @@ stray_before me old mid new more grown w = record { before = w.before; after = w
 
 pub note_after : {observed : Bool} {asks : Request → Bool} (f : Fault) (a b c : DirAt) → OnlyAsks observed asks a b → NoteCause observed f b c → NoteCause observed f a c
 note_after Spawn a b c ab is = is
-note_after Dir a b c ab is = rose_after a.faults b.faults c.faults ab.faults is
+note_after Dir a b c ab is = rose_later a.faults b.faults c.faults ab.faults is
 note_after Stray a b c ab is = λ t. subst (λ (p : ℕ). WasStrayIn p a.trace c.trace) ab.same (stray_after b.process a.trace b.trace c.trace (ab.extends t).more (ab.extends t).grown (is t))
 note_after NoMemory a b c ab is = tt
 
 pub spawn_after : (f : Fault) (a b c : SpawnerAt) → a.faults ≤ b.faults → SpawnCause f b c → SpawnCause f a c
-spawn_after Spawn a b c ab is = rose_after a.faults b.faults c.faults ab is
+spawn_after Spawn a b c ab is = rose_later a.faults b.faults c.faults ab is
 spawn_after Dir a b c ab is = is
 spawn_after Stray a b c ab is = is
 spawn_after NoMemory a b c ab is = tt
@@ -77,13 +72,13 @@ by_spawn observed Stray d d' s s' is = absurd is
 by_spawn observed NoMemory d d' s s' is = tt
 
 pub run_after : {observed : Bool} {asks : Request → Bool} (f : Fault) (a b c : DirAt) (x y z : SpawnerAt) → OnlyAsks observed asks a b → x.faults ≤ y.faults → RunCause observed f b c y z → RunCause observed f a c x z
-run_after Spawn a b c x y z ab xy is = rose_after x.faults y.faults z.faults xy is
-run_after Dir a b c x y z ab xy is = rose_after a.faults b.faults c.faults ab.faults is
+run_after Spawn a b c x y z ab xy is = rose_later x.faults y.faults z.faults xy is
+run_after Dir a b c x y z ab xy is = rose_later a.faults b.faults c.faults ab.faults is
 run_after Stray a b c x y z ab xy is = λ t. subst (λ (p : ℕ). WasStrayIn p a.trace c.trace) ab.same (stray_after b.process a.trace b.trace c.trace (ab.extends t).more (ab.extends t).grown (is t))
 run_after NoMemory a b c x y z ab xy is = tt
 
 pub run_before : {observed : Bool} {asks : Request → Bool} (f : Fault) (a b c : DirAt) (x y z : SpawnerAt) → RunCause observed f a b x y → OnlyAsks observed asks b c → y.faults ≤ z.faults → RunCause observed f a c x z
-run_before Spawn a b c x y z is bc yz = rose_before x.faults y.faults z.faults is yz
-run_before Dir a b c x y z is bc yz = rose_before a.faults b.faults c.faults is bc.faults
+run_before Spawn a b c x y z is bc yz = rose_still x.faults y.faults z.faults is yz
+run_before Dir a b c x y z is bc yz = rose_still a.faults b.faults c.faults is bc.faults
 run_before Stray a b c x y z is bc yz = λ t. stray_before a.process a.trace b.trace c.trace (bc.extends t).more (bc.extends t).grown (is t)
 run_before NoMemory a b c x y z is bc yz = tt

@@ -12,6 +12,7 @@ use Rattle.dir_rules.specs.Conforms.{seen_replied}
 use Rattle.dir_rules.specs.LockRules.{may_close}
 use Rattle.dir_rules.specs.Rules.{allows}
 use Rattle.dir_rules.specs.Standing.{standing_replied}
+use Rattle.dir_laws.proofs.Rose.{rose_still}
 use Rattle.dir_trait.proofs.Knowing.{knows_call}
 use Rattle.dir_trait.specs.DirCalls.{DirAt, DirCall, ExtendsBy}
 use Rattle.spawner.specs.Calls.{SpawnerAt}
@@ -20,7 +21,7 @@ use Rattle.stage1.proofs.Later.{load_later}
 use Rattle.stage1.specs.declared.error.RunError.{RunError}
 use Rattle.stage1.specs.declared.error.RunError.TheVariants.{NoManifest, Damaged, NoProgram, SpawnFault, DirFault, Stray, NoMemory}
 use Rattle.stage1.specs.Runs.{reads_or_closes, RunRefusedFor, IsRefusedRun}
-use Rattle.stage1.proofs.Causes.{rose_before, stray_before}
+use Rattle.stage1.proofs.Causes.{stray_before}
 use Rattle.stage1.proofs.Starting.{any_later}
 use Rattle.stage1.specs.Keeping.{RunnerKeepsRules, KeepsToEnd}
 
@@ -30,7 +31,7 @@ module _ {seen : Bool} {asks : Request → Bool} (a b c : DirAt) (pod : PodId) (
   cause_later (Damaged path) s s' is = λ t. load_later b c (more t) a same pod (load.Damaged path) (is t)
   cause_later (NoProgram app word) s s' is = λ t. load_later b c (more t) a same pod (load.NoProgram app word) (is t)
   cause_later SpawnFault s s' is = is
-  cause_later DirFault s s' is = rose_before a.faults b.faults c.faults is faults
+  cause_later DirFault s s' is = rose_still a.faults b.faults c.faults is faults
   cause_later Stray s s' is = λ t. stray_before a.process a.trace b.trace c.trace (more t).more (more t).grown (is t)
   cause_later NoMemory s s' is = tt
 

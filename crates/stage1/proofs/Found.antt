@@ -3,6 +3,7 @@ use Rattle.std.proofs.Common.{◌≡◌, ◌<◌, ◌+◌, inl, inr, ℕ, List, 
 use Rattle.std.proofs.lemmas.List.{take_more, drop_more, take-append-drop}
 use Rattle.manifests.specs.declared.runtime_app.RuntimeApp.{RuntimeApp}
 use Rattle.std.specs.List.{AllByRecursion}
+use Rattle.plain_laws.proofs.Lists.{next_item}
 use Rattle.ac_types.specs.Names.{IsAcName}
 use Rattle.dir_model.specs.declared.pod.PodId.{PodId}
 use Rattle.stage1.specs.declared.root.Root.{Root}
@@ -36,9 +37,6 @@ pub next_left : {A : Type 0} (xs : List A) (i : ℕ) (x : A) (left : List A) →
 next_left xs i x left h is =
     let at = drop_more xs i x h in
     cc
-
-next_item : {A : Type 0} (xs : List A) (i : ℕ) (x : A) → i < length xs → x ≡ get_or xs i x → drop i xs ≡ x ∷ drop (i + 1) xs
-next_item xs i x h is = drop_more xs i x h ∙ ap (λ y. y ∷ drop (i + 1) xs) (sym is)
 
 module _ (pod : PodId) (address token : List ℕ) (apps : List RuntimeApp) (roots : List Root) (i : ℕ) (app : RuntimeApp) (root : Root) (left : List Root) (h : i < length apps) (h' : i < length roots) (is : app ≡ get_or apps i app) (rest : drop i roots ≡ root ∷ left) (starts : List AppStart) (are : AreStarts pod address token (take i apps) (take i roots) starts) where
   pub start_next : (after : List AppStart) → AddsStart pod address token app root starts after → AreStarts pod address token (take (i + 1) apps) (take (i + 1) roots) after

@@ -7,6 +7,7 @@ use Rattle.dir_model.specs.Causes.{Rose}
 use Rattle.dir_model.specs.Local.{IsActive}
 use Rattle.dir_model.specs.Pods.{pod_text}
 use Rattle.dir_model.proofs.Lists.{all_weaker}
+use Rattle.dir_laws.proofs.Rose.{rose_later}
 use Rattle.dir_trait.specs.DirCalls.{DirAt, ExtendsBy}
 use Rattle.dir_trait.specs.Effects.{OnlyAsks}
 use Rattle.folder_building.proofs.Working.{worked_more, worked_wider, in_first, in_second}
@@ -29,7 +30,7 @@ use Rattle.stage1.specs.Beginnings.{IsInRun, AreAt, RunsEach}
 use Rattle.stage1.specs.Refusals.{load_refusal, WasStrayIn}
 use Rattle.stage1.specs.Runs.{runs_pod, StopCause, RunRefusedFor, is_early, IsRefusedRun}
 use Rattle.stage1.proofs.Asked.{asks_none}
-use Rattle.stage1.proofs.Causes.{rose_after, stray_after}
+use Rattle.stage1.proofs.Causes.{stray_after}
 use Rattle.stage1.proofs.Starting.{loads, only_reads}
 use Rattle.stage1.proofs.Whole.{cut_nothing}
 
@@ -60,7 +61,7 @@ stop_wider pod NoManifest d mid new s s' o is = absurd is
 stop_wider pod (Damaged path) d mid new s s' o is = absurd is
 stop_wider pod (NoProgram app word) d mid new s s' o is = absurd is
 stop_wider pod SpawnFault d mid new s s' o is = is
-stop_wider pod DirFault d mid new s s' o is = rose_after d.faults mid.faults new.faults o.faults is
+stop_wider pod DirFault d mid new s s' o is = rose_later d.faults mid.faults new.faults o.faults is
 stop_wider pod Stray d mid new s s' o is = λ t. subst (λ (p : ℕ). WasStrayIn p d.trace new.trace) o.same (stray_after mid.process d.trace mid.trace new.trace (o.extends t).more (o.extends t).grown (is t))
 stop_wider pod NoMemory d mid new s s' o is = tt
 

@@ -2,6 +2,7 @@
 use Rattle.std.proofs.Common.{arith, ◌≡◌, ◌≤◌, ℕ, ◌+◌, Bool, true, false, not, ◌&&◌, ◌||◌, cond, List, [], ◌∷◌, ◌++◌, length, length-append, nat_lt, refl, sym, ap, subst, ◌∙◌}
 use Rattle.std.specs.List.{list_any}
 use Rattle.std.proofs.lemmas.Bool.Decides.{nat_tests}
+use Rattle.std.proofs.lemmas.Bool.{or_left}
 use Rattle.ac_types.specs.Names.{IsAcName}
 use Rattle.dir_model.specs.declared.area.Area.{Area}
 use Rattle.dir_model.specs.declared.area.Area.TheVariants.{Run}
@@ -21,15 +22,15 @@ use Rattle.dir_rules.specs.Marks.{has_slash, status_directory, is_started_mark, 
 use Rattle.dir_rules.specs.Rules.{allows, runs, deletes, has_note, spares_deleted_pod, may_note, may_mark, may_make_file_in, may_append_in, may_sync_in}
 use Rattle.dir_rules.specs.Seen.{inner_eq, learned}
 use Rattle.dir_rules.specs.Standing.{is_in, standing_replied}
+use Rattle.dir_laws.proofs.Names.{app_name, no_slashes}
+use Rattle.dir_laws.proofs.Spots.{inner_self}
 use Rattle.dir_trait.specs.DirCalls.{DirAt, DirCall}
 use Rattle.dir_trait.proofs.Knowing.{knows_call}
-use Rattle.pod_files.proofs.Names.{app_name, no_slashes}
 use Rattle.spawner.specs.declared.call.RootPlace.{RootPlace}
 use Rattle.spawner.specs.Conditions.{start_mark}
 use Rattle.stage1.specs.Notes.{IsRootInRun, mark_inner, status_inner, status_path}
 use Rattle.stage1.specs.Keeping.{appends, CallsDirectory, once, note_count, MayNote, Noted, NotesAtMost, mark_times, status_times}
 use Rattle.stage1.proofs.Appends.{call_few}
-use Rattle.stage1.proofs.Noted.{inner_self}
 
 -- nothing was asked; one after the other; a bound more
 pub keeps_none : {times : Inner → ℕ} {d : DirAt} → NotesAtMost times d d
@@ -119,10 +120,6 @@ made_file s inner i p = omega arith
 has_file : (s : Seen) (inner : Inner) → inner.spot.area ≡ Run → has_note (seen_replied s (MakeFileIn inner) Done) inner ≡ true
 has_file s inner area = ap (λ (a : Area). list_any (inner_eq inner) (cond (is_in a Run) (inner ∷ s.notes) s.notes)) area ∙ ap (λ (b : Bool). b || list_any (inner_eq inner) s.notes) (inner_self inner)
 
--- what the rules let it ask for
-or_first : (a b : Bool) → a ≡ true → (a || b) ≡ true
-or_first a b h = ap (λ (x : Bool). x || b) h
-
 module _ (s : Seen) (inner : Inner) (area : inner.spot.area ≡ Run) (mine : runs s inner.spot.name ≡ true) (spared : deletes s inner.spot.name ≡ false) where
   spared_there : spares_deleted_pod s inner ≡ true
   spared_there = subst (λ (a : Area). not (is_stage a && deletes s inner.spot.name) ≡ true) (sym area) (ap not spared)
@@ -130,7 +127,7 @@ module _ (s : Seen) (inner : Inner) (area : inner.spot.area ≡ Run) (mine : run
   may_file : (is_started_mark inner.path || is_status_file inner.path) ≡ true → has_note s inner ≡ false → allows s (MakeFileIn inner) ≡ true
   may_file form none = and_both (may_make_file_in s inner inner.spot.area) (spares_deleted_pod s inner)
       (subst (λ (a : Area). may_make_file_in s inner a ≡ true) (sym area)
-      (or_first (may_note s inner) (may_mark s inner) (and_both (runs s inner.spot.name) ((is_started_mark inner.path || is_status_file inner.path) && not (has_note s inner)) mine (and_both (is_started_mark inner.path || is_status_file inner.path) (not (has_note s inner)) form (ap not none)))))
+      (or_left (may_note s inner) (may_mark s inner) (and_both (runs s inner.spot.name) ((is_started_mark inner.path || is_status_file inner.path) && not (has_note s inner)) mine (and_both (is_started_mark inner.path || is_status_file inner.path) (not (has_note s inner)) form (ap not none)))))
       spared_there
 
   may_append : (piece : List ℕ) → is_status_file inner.path ≡ true → has_note s inner ≡ true → allows s (AppendIn inner piece) ≡ true
@@ -274,7 +271,7 @@ is_status app is =
 
 module _ (root : RootPlace) (placed : IsRootInRun root) where
   mark_of : (is_started_mark (start_mark root.app) || is_status_file (start_mark root.app)) ≡ true
-  mark_of = or_first (is_started_mark (start_mark root.app)) (is_status_file (start_mark root.app)) (is_mark root.app placed.named)
+  mark_of = or_left (is_started_mark (start_mark root.app)) (is_status_file (start_mark root.app)) (is_mark root.app placed.named)
 
   status_of : is_status_file (status_path root.app) ≡ true
   status_of = is_status root.app placed.named

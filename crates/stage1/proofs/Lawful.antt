@@ -28,15 +28,15 @@ use Rattle.dir_rules.specs.Standing.{is_in, intends, began_as, is_remover, holds
 use Rattle.dir_rules.specs.declared.standing.Standing.{Standing}
 use Rattle.dir_rules.proofs.Tied.{meanwhile_unseen, seen_after-append}
 use Rattle.dir_model.specs.Pods.{pod_text}
+use Rattle.dir_laws.proofs.Living.{lived_first}
 use Rattle.lifecycle.specs.Executions.{IsConforming}
 use Rattle.lifecycle.proofs.Draws.{conforming_left}
-use Rattle.lifecycle.proofs.Handles.{clash}
 use Rattle.folder_contents.proofs.Spots.{one_location}
 use Rattle.impossible_replies.proofs.Alongside.{Steps, steps}
 use Rattle.impossible_replies.proofs.Brought.{no_starter}
 use Rattle.impossible_replies.proofs.Calls.{never_lost_own, runs_its}
 use Rattle.impossible_replies.proofs.Citing.{is_lost, too_late}
-use Rattle.impossible_replies.proofs.Earlier.{lives_earlier, intent_kept}
+use Rattle.impossible_replies.proofs.Earlier.{intent_kept}
 use Rattle.impossible_replies.proofs.Movers.{starts, moved_as}
 use Rattle.impossible_replies.proofs.Runners.{last_run}
 use Rattle.dir_trait.specs.DirCalls.{DirAt, ExtendsBy}
@@ -168,7 +168,7 @@ module _ (pod : PodId) (own : Handle) (old new : DirAt) (running : RunsPod pod o
           x = steps h e (subst IsConforming took.grown after_conforms) k.0 k.1.0
 
           living : lives (state_after old.trace).namespace me ≡ true
-          living = lives_earlier me (state_after old.trace) (w.earlier ++ others)
+          living = lived_first me (state_after old.trace) (w.earlier ++ others)
               (all_left (λ y. (is_foreign me y || not (is_begin y.request)) ≡ true) (w.earlier ++ others) (e ∷ w.later)
               (subst (λ (l : List Event). AllByRecursion (λ y. (is_foreign me y || not (is_begin y.request)) ≡ true) l) parts quiet))
               (subst (λ (s : DirState). lives s.namespace me ≡ true) (ap state_after grown ∙ states_next-append empty_state old.trace (w.earlier ++ others)) x.living)

@@ -1,6 +1,7 @@
 -- What comes of a run: each app's status, or why it stopped.
 use Rattle.std.proofs.Common.{◌≡◌, ◌<◌, ◌+◌, ℕ, Bool, List, [], ◌∷◌, ◌++◌, length, take, get_or, refl, sym, ap, subst, ◌∙◌}
 use Rattle.std.proofs.lemmas.List.{take_more, length-map}
+use Rattle.plain_laws.proofs.Lists.{take_next}
 use Rattle.dir_trait.specs.DirCalls.{DirAt}
 use Rattle.spawner.specs.Calls.{SpawnerAt}
 use Rattle.stage1.specs.declared.start.AppStart.{AppStart}
@@ -12,7 +13,6 @@ use Rattle.stage1.specs.declared.error.RunError.TheVariants as run
 use Rattle.stage1.specs.Refusals.{fault_refusal, RunCause}
 use Rattle.stage1.specs.Sequences.{app_status_of}
 use Rattle.stage1.specs.Runs.{HaveRun, end_of, AreEnds, StopCause}
-use Rattle.stage1.proofs.Pairs.{take_next}
 
 ends_push : (starts : List AppStart) (statuses : List ℕ) (ends : List AppEnd) (app : AppStart) (status : ℕ) → AreEnds starts statuses ends → AreEnds (starts ++ app ∷ []) (statuses ++ status ∷ []) (ends ++ end_of app status ∷ [])
 ends_push (a ∷ starts) (n ∷ statuses) (e ∷ ends) app status are = (are.0, ends_push starts statuses ends app status are.1)

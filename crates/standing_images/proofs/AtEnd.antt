@@ -21,10 +21,10 @@ use Rattle.gate_reading.specs.Files.{is_outside_stage1}
 use Rattle.gate_reading.proofs.OwnSteps.{knows_to, stays_after}
 use Rattle.gate_reading.proofs.GoingOn.{lived_at_first, has_gate}
 use Rattle.gate_reading.proofs.PlainPaths.{plain_own}
+use Rattle.gate_reading.proofs.StoredFiles.{same_file}
 use Rattle.image_reading.specs.Places.{image_inner, image_spot}
 use Rattle.image_reading.specs.Files.{ReadsFile}
 use Rattle.standing_images.proofs.LastSteps.{LastOwn}
-use Rattle.standing_images.proofs.SameFiles.{same_file}
 use Rattle.standing_images.proofs.Pieces.{all_told, is_front}
 
 module _ {asks : Request → Bool} {s : Seen} {old new : DirAt} (g : GoesOnUnderLock asks s old new) (l : LastOwn old.process g.extends.more) where

@@ -6,6 +6,7 @@ use Rattle.ac_types.specs.declared.image_id.ImageId.{ImageId}
 use Rattle.ac_types.specs.Ids.{id_text}
 use Rattle.dep_match.specs.declared.stored.Stored.{Stored}
 use Rattle.manifests.specs.declared.image_manifest.ImageManifest.{ImageManifest}
+use Rattle.manifest_laws.proofs.Heads.{manifest_so}
 use Rattle.dir_model.specs.declared.area.Area.TheVariants.{Images}
 use Rattle.dir_model.specs.declared.event.Event.{Event}
 use Rattle.dir_model.specs.declared.request.Request.{Request}
@@ -28,6 +29,8 @@ use Rattle.gate_reading.specs.Files.{is_outside_stage1}
 use Rattle.gate_reading.specs.Listings.{has_direct}
 use Rattle.gate_reading.proofs.Listed.{throughout, sometime}
 use Rattle.gate_reading.proofs.PlainPaths.{plain_own}
+use Rattle.gate_reading.proofs.AreaNames.{image_named}
+use Rattle.gate_reading.proofs.StoredFiles.{same_file}
 use Rattle.image_reading.specs.Within.{Within}
 use Rattle.image_reading.specs.Places.{image_spot, image_inner, manifest_name, id_name, IsImageAbsent, IsPresent}
 use Rattle.image_reading.specs.Files.{IsImageManifestOf, IsIdOf, ReadsFile, ReadsImageManifest, ReadsId, ShowsImportMarks, most_of_manifest, most_of_id}
@@ -35,13 +38,11 @@ use Rattle.image_reading.specs.Images.{ReadsImage}
 use Rattle.image_reading.specs.Store.{ReadsStore}
 use Rattle.image_reading.proofs.Values.{id_front}
 use Rattle.standing_images.specs.Images.{SameImages, ImagesStay, HasFile, StandsWithItsFiles, KeysRise, AreStore}
-use Rattle.standing_images.proofs.AreaNames.{place, image_named}
+use Rattle.standing_images.proofs.AreaNames.{place}
 use Rattle.standing_images.proofs.Keys.{key_among, keys_rise}
 use Rattle.standing_images.proofs.Moments.{has_mark, is_newest}
 use Rattle.standing_images.proofs.Pieces.{all_told, is_front}
-use Rattle.standing_images.proofs.SameFiles.{same_file}
 use Rattle.standing_images.proofs.Shown.{shows_names}
-use Rattle.standing_images.proofs.Stores.{manifest_so}
 
 module _ (me : ℕ) (old new : List Event) (stay : ImagesStay old new) where
   abbrev s : DirState

@@ -3,6 +3,7 @@ use Rattle.std.proofs.Common.{◌≡◌, ◌⊎◌, inl, inr, ◌<◌, arith, �
 use Rattle.std.specs.Prelude.{Contains}
 use Rattle.std.specs.List.{cons_option}
 use Rattle.std.proofs.lemmas.List.Elements.{Contains-append_right, Contains-append_cases}
+use Rattle.plain_laws.proofs.Texts.{none_below}
 use Rattle.ac_types.specs.declared.store_key.StoreKey.{StoreKey}
 use Rattle.ac_types.specs.Ids.{AreBytes, id_text, id_read}
 use Rattle.ac_types.proofs.IdTexts.{read_are}
@@ -30,7 +31,7 @@ use Rattle.standing_images.proofs.Keys.{text_back, key_among, keys_rise}
 use Rattle.standing_images.proofs.Members.{contains_none, contains_first, contains_cases}
 use Rattle.standing_images.proofs.Moments.{none_shown}
 use Rattle.standing_images.proofs.OneDamage.{store_whole}
-use Rattle.standing_images.proofs.OneStore.{later_above, none_below, rest_rise}
+use Rattle.standing_images.proofs.OneStore.{later_above, rest_rise}
 
 -- a key that is read of a name has 32 bytes
 key_bytes : (name : List ℕ) (key : StoreKey) → key_of_name name ≡ Some key → AreBytes 32 key.bytes

@@ -5,11 +5,11 @@ use Rattle.std.specs.List.{AllByRecursion, cons_option}
 use Rattle.std.specs.List.Sorted.{IsStrictlySortedBy}
 use Rattle.std.specs.Ordering.{nat_cmp}
 use Rattle.std.specs.Cmp.Lexicographic.{slice_cmp}
+use Rattle.plain_laws.proofs.Texts.{same_text}
 use Rattle.ac_types.specs.declared.store_key.StoreKey.{StoreKey}
 use Rattle.ac_types.specs.Ids.{AreBytes, id_text, id_read}
 use Rattle.ac_types.proofs.IdTexts.{read_text, text_read}
 use Rattle.dir_model.specs.Listings.{has_name}
-use Rattle.lifecycle.proofs.Places.{name_same}
 use Rattle.image_reading.specs.Places.{some_key, key_of_name, keys_among}
 use Rattle.standing_images.specs.Images.{KeysRise}
 use Rattle.standing_images.proofs.Members.{contains_first, contains_more}
@@ -35,9 +35,9 @@ named_key (n ∷ ns) name key named there = by (bytes_eq n name) refl there (key
   where
     by : (b : Bool) → bytes_eq n name ≡ b → (b || has_name ns name) ≡ true → (o : Option StoreKey) → key_of_name n ≡ o
         → (has_name ns name ≡ true → Contains (keys_among ns) key) → Contains (cons_option o (keys_among ns)) key
-    by true same t None m go = let no : None ≡ Some key = sym m ∙ (ap key_of_name (name_same n name same) ∙ named) in absurd (cc)
+    by true same t None m go = let no : None ≡ Some key = sym m ∙ (ap key_of_name (same_text n name same) ∙ named) in absurd (cc)
     by true same t (Some k) m go =
-        let one : Some k ≡ Some key = sym m ∙ (ap key_of_name (name_same n name same) ∙ named) in
+        let one : Some k ≡ Some key = sym m ∙ (ap key_of_name (same_text n name same) ∙ named) in
         let e : k ≡ key = cc in
         subst (λ (x : StoreKey). Contains (x ∷ keys_among ns) key) (sym e) (contains_first key (keys_among ns))
     by false other t None m go = go t

@@ -1,14 +1,14 @@
 -- At one state one list of images is the store, by what is seen of them.
-use Rattle.std.proofs.Common.{arith, ◌≡◌, ◌⊎◌, inl, inr, ◌<◌, ◌≤◌, ℕ, Less, Greater, Some, List, [], ◌∷◌, map, length, take, refl, sym, ap, subst, ◌∙◌}
+use Rattle.std.proofs.Common.{arith, ◌≡◌, ◌⊎◌, inl, inr, ◌<◌, ◌≤◌, ℕ, Less, Some, List, [], ◌∷◌, map, length, take, refl, sym, ap, subst, ◌∙◌}
 use Rattle.std.specs.Prelude.{Contains, slice_index}
 use Rattle.std.specs.List.{AllByRecursion}
 use Rattle.std.specs.List.Sorted.{IsStrictlySortedBy}
-use Rattle.std.specs.Ordering.{nat_cmp, ordering_reverse}
+use Rattle.std.specs.Ordering.{nat_cmp}
 use Rattle.std.specs.Cmp.Lexicographic.{slice_cmp}
 use Rattle.std.proofs.lemmas.Bool.{cases_lt}
-use Rattle.std.proofs.lemmas.Cmp.{nat_list_cmp_total}
 use Rattle.std.proofs.lemmas.Grind.{common_steps}
 use Rattle.std.proofs.lemmas.List.{append_cancel_right, get_or-take, get_or_past}
+use Rattle.plain_laws.proofs.Texts.{none_below}
 use Rattle.ac_types.specs.declared.image_id.ImageId.{ImageId}
 use Rattle.ac_types.specs.declared.store_key.StoreKey.{StoreKey}
 use Rattle.ac_types.specs.Ids.{AreBytes, id_text, id_read}
@@ -67,9 +67,6 @@ module _ (s : DirState) (a b : Stored) (x : StandsWithItsFiles a s) (y : StandsW
   same_data = rw (same, same_id, same_manifest, same_moment) refl
 
 -- lists of keys that rise
-
-pub none_below : (a b : List ℕ) → slice_cmp nat_cmp a b ≡ Less → slice_cmp nat_cmp b a ≡ Less → ⊥
-none_below a b x y = let e : Less ≡ Greater = sym x ∙ (nat_list_cmp_total.antisymm a b ∙ ap ordering_reverse y) in cc
 
 above : (P : List ℕ → Type 0) (ks : List StoreKey) (k : StoreKey) → AllByRecursion P (map (λ (key : StoreKey). id_text key.bytes) ks) →
     Contains ks k → P (id_text k.bytes)

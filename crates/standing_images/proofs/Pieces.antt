@@ -1,11 +1,11 @@
 -- Pieces of one file, and the file that they are.
 use Rattle.std.proofs.Common.{arith, ◌≡◌, ◌⊎◌, inl, inr, ◌<◌, ◌≤◌, ℕ, Option, Some, None, List, [], ◌∷◌, ◌++◌, length, take, append_assoc, append-nil, refl, sym, ap, subst, ◌∙◌}
+use Rattle.plain_laws.proofs.Fronts.{taken_past, next_first, short_whole}
 use Rattle.dir_model.specs.declared.event.Event.{Event}
 use Rattle.dir_model.specs.declared.item.Inner.{Inner}
 use Rattle.dir_model.specs.Calls.{AtOwnStep}
 use Rattle.dir_model.proofs.Moments.{at_grown, at_within}
 use Rattle.dir_files.specs.Reads.{TellsFile, IsPiece, Piece, joined_pieces, AreTold, IsShort}
-use Rattle.standing_images.proofs.Fronts.{taken_past, next_first, short_whole}
 
 -- each is a piece of this file, where the earlier ones end
 abbrev pub ArePieces : Option (List ℕ) → List Piece → Type 0

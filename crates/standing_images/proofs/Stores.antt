@@ -1,17 +1,12 @@
 -- What was read of the store under the gate stood there together.
-use Rattle.std.proofs.Common.{arith, ◌≡◌, ℕ, Bool, true, false, nat_le, is_some, List, [], ◌∷◌, ◌++◌, take, length, append_assoc, codes, refl, sym, ap, subst, ◌∙◌, ◌+◌}
+use Rattle.std.proofs.Common.{arith, ◌≡◌, ℕ, Bool, true, is_some, List, [], ◌∷◌, ◌++◌, append_assoc, refl, sym, ap, subst, ◌∙◌}
 use Rattle.std.specs.Prelude.{Contains}
-use Rattle.std.proofs.lemmas.Bool.Decides.{nat_tests}
-use Rattle.std.proofs.lemmas.Grind.{common_steps}
 use Rattle.ac_types.specs.declared.store_key.StoreKey.{StoreKey}
 use Rattle.ac_types.specs.declared.image_id.ImageId.{ImageId}
-use Rattle.ac_types.specs.declared.fault.FaultKind.TheVariants.{TooLong}
 use Rattle.ac_types.specs.Ids.{id_text}
-use Rattle.ac_types.specs.Outcomes.{fails}
 use Rattle.dep_match.specs.declared.stored.Stored.{Stored}
 use Rattle.manifests.specs.declared.image_manifest.ImageManifest.{ImageManifest}
-use Rattle.manifests.specs.ImageForm.{image_manifest}
-use Rattle.manifest_parts.specs.DocumentForm.{document}
+use Rattle.manifest_laws.proofs.Heads.{manifest_so}
 use Rattle.dir_model.specs.declared.area.Area.TheVariants.{Images}
 use Rattle.dir_model.specs.declared.event.Event.{Event}
 use Rattle.dir_model.specs.declared.request.Request.{Request}
@@ -44,24 +39,6 @@ use Rattle.standing_images.proofs.AtEnd.{end, whole, file_front}
 use Rattle.standing_images.proofs.Listed.{lead, start, ends_own, items_last, names_whole}
 use Rattle.standing_images.proofs.Moments.{has_mark, is_newest}
 use Rattle.standing_images.proofs.Keys.{key_among, keys_rise}
-
--- a manifest isn't longer than the bytes that are read
-take_short : (n : ℕ) (bytes : List ℕ) → nat_le (length bytes) n ≡ true → take (n + 1) bytes ≡ bytes
-take_short n bytes short = grind (arith, nat_tests, common_steps)
-
-take_long : (n : ℕ) (bytes : List ℕ) → nat_le (length bytes) n ≡ false → nat_le (length (take (n + 1) bytes)) n ≡ false
-take_long n bytes long = grind (arith, nat_tests, common_steps)
-
-too_long : (bytes : List ℕ) → nat_le (length bytes) 1048576 ≡ false → image_manifest bytes ≡ fails (codes "$") TooLong
-unfolding image_manifest document
-too_long bytes long = rw long
-
-pub manifest_so : (bytes : List ℕ) → image_manifest (take 1048577 bytes) ≡ image_manifest bytes
-manifest_so bytes = by (nat_le (length bytes) 1048576) refl
-  where
-    by : (short : Bool) → nat_le (length bytes) 1048576 ≡ short → image_manifest (take 1048577 bytes) ≡ image_manifest bytes
-    by true short = ap image_manifest (take_short 1048576 bytes short)
-    by false long = too_long (take 1048577 bytes) (take_long 1048576 bytes long) ∙ sym (too_long bytes long)
 
 module _ {asks : Request → Bool} {s : Seen} {old new : DirAt} (g : GoesOnUnderLock asks s old new) (l : LastOwn old.process g.extends.more) where
   manifest_stands : (key : StoreKey) (manifest : ImageManifest) → ReadsImageManifest key manifest old new →

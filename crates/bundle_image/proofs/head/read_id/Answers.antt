@@ -1,7 +1,8 @@
 use Rattle.std.proofs.Common.{inr, ◌≡◌, take, codes, sym, subst, IsSomeAnd, ℕ, List}
+use Rattle.plain_laws.proofs.Results.{if_ok, if_err}
 use Rattle.bundle_image.specs.Heads.{bundle_file_at}
 use Rattle.bundle_image.proofs.Heads.{id_read, id_failed}
-use Rattle.bundle_image.proofs.Results.{if_ok, if_err, of_ok, of_err}
+use Rattle.bundle_image.proofs.Results.{of_ok, of_err}
 use Rattle.bundle_image.proofs.head.read_id.Goals as goal
 
 pub returns-in-Ok-clause-ok : goal.returns-in-Ok-clause-ok

@@ -1,10 +1,10 @@
 use Rattle.std.proofs.Common.{inl, inr, ◌≡◌, ◌⊎◌, codes, sym, subst, ⊎_elim}
+use Rattle.plain_laws.proofs.Results.{if_ok, if_err, never}
 use Rattle.bundle_image.specs.Heads.{bundle_file_at, IsManifestFault}
 use Rattle.bundle_image.specs.Refusals.{IsBundleFailure}
 use Rattle.bundle_image.specs.declared.refusal.BundleRefusal.TheVariants.{BundleFault, NoMemory}
 use Rattle.bundle_image.specs.declared.refusal.BundleRefusal.{BundleRefusal}
 use Rattle.bundle_image.proofs.Heads.{manifest_read, manifest_failed, no_fault}
-use Rattle.bundle_image.proofs.Results.{if_ok, if_err, never}
 use Rattle.bundle_image.proofs.head.read_manifest.Goals as goal
 
 pub returns-in-Ok-clause-cause : goal.returns-in-Ok-clause-cause

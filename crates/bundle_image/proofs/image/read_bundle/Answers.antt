@@ -1,10 +1,11 @@
 use Rattle.std.proofs.Common.{inr, ◌⊎◌, codes, subst}
+use Rattle.plain_laws.proofs.Results.{if_err}
 use Rattle.dir_trait.specs.Bundles.{BundleTree}
 use Rattle.bundle_image.specs.Refusals.{IsBundleFailure}
 use Rattle.bundle_image.specs.Images.{FailsBehind}
 use Rattle.bundle_image.specs.Heads.{bundle_file_at}
 use Rattle.bundle_image.proofs.Heads.{has_manifest}
-use Rattle.bundle_image.proofs.Results.{if_err, or_right}
+use Rattle.bundle_image.proofs.Results.{or_right}
 use Rattle.bundle_image.proofs.image.read_bundle.Goals as goal
 
 pub returns-in-Ok-clause-fault : goal.returns-in-Ok-clause-fault

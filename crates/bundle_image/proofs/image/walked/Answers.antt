@@ -1,4 +1,5 @@
 use Rattle.std.proofs.Common.{rules, inl, ◌≡◌, codes, sym, subst}
+use Rattle.plain_laws.proofs.Results.{if_ok, if_err}
 use Rattle.dir_trait.specs.Bundles.{child_path, directory_prefix}
 use Rattle.bundle_image.specs.declared.refusal.BundleRefusal.{BundleRefusal}
 use Rattle.bundle_image.specs.declared.refusal.BundleRefusal.TheVariants.{NoMemory}
@@ -8,7 +9,6 @@ use Rattle.bundle_image.specs.Walks.{subtree_below, IsWalked}
 use Rattle.bundle_image.specs.Work.{EndsWalk}
 use Rattle.bundle_image.proofs.Look.{walked_same}
 use Rattle.bundle_image.proofs.Reading.{reads_wider}
-use Rattle.bundle_image.proofs.Results.{if_ok, if_err}
 use Rattle.bundle_image.proofs.image.walked.Goals as goal
 
 outside : (r : BundleRefusal) → r ≡ NoMemory → IsBundleFailure r

@@ -1,6 +1,6 @@
 use Rattle.std.proofs.Common.{inl, ◌≡◌, ◌++◌, Some, sym, subst}
+use Rattle.plain_laws.proofs.Results.{if_err}
 use Rattle.dir_trait.specs.Bundles.{BundleTree, kind_at}
-use Rattle.bundle_image.proofs.Results.{if_err}
 use Rattle.bundle_image.proofs.walk.turn.Goals as goal
 
 pub returns-in-Ok-clause-fault : goal.returns-in-Ok-clause-fault

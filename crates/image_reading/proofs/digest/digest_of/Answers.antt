@@ -1,10 +1,10 @@
 use Rattle.std.proofs.Common.{rules, ◌≡◌, true, ap, ◌∙◌, ℕ, List}
+use Rattle.plain_laws.proofs.Results.{err_same, err_both}
 use Rattle.tree_digest.specs.Digests.{image_digest}
 use Rattle.image_reading.specs.Places.{stored_path, manifest_name, id_name, tree_name}
 use Rattle.image_reading.specs.Refusals.{IsReadRefusal, IsDamaged}
 use Rattle.image_reading.specs.Files.{ReadsNoImageManifest, LacksId, LacksTree}
 use Rattle.image_reading.specs.Images.{LacksDigest}
-use Rattle.image_reading.proofs.Results.{err_same, err_both}
 use Rattle.image_reading.proofs.Asking.{image_more}
 use Rattle.image_reading.proofs.Widths.{file_after, file_before}
 use Rattle.image_reading.proofs.Images.{lacks_first, lacks_second, lacks_third, id_lack_after, tree_lack_after}

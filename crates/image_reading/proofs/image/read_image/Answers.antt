@@ -1,9 +1,9 @@
 use Rattle.std.proofs.Common.{rules, ◌≡◌, true}
+use Rattle.plain_laws.proofs.Results.{err_same, err_both}
 use Rattle.image_reading.specs.Places.{stored_path, manifest_name, id_name, mark_name}
 use Rattle.image_reading.specs.Refusals.{IsReadRefusal, IsDamaged}
 use Rattle.image_reading.specs.Files.{ReadsNoImageManifest, LacksId, LacksMoment}
 use Rattle.image_reading.specs.Images.{LacksImage}
-use Rattle.image_reading.proofs.Results.{err_same, err_both}
 use Rattle.image_reading.proofs.Asking.{image_more}
 use Rattle.image_reading.proofs.Widths.{file_after, file_before, marks_after}
 use Rattle.image_reading.proofs.Images.{manifest_kept, lacks_first, lacks_second, lacks_third, id_lack_after, moment_lack_after}

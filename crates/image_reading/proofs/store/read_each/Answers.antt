@@ -1,9 +1,9 @@
 use Rattle.std.proofs.Common.{rules, ◌≡◌, ◌+◌, ◌∷◌, ◌++◌, [], true, take, drop, refl, ap, sym, ◌∙◌}
 use Rattle.std.proofs.lemmas.List.{take_more, drop_more, take-append-drop}
+use Rattle.plain_laws.proofs.Results.{if_err, err_same}
 use Rattle.image_reading.specs.Places.{key_of_name}
 use Rattle.image_reading.specs.Refusals.{IsDamaged}
 use Rattle.image_reading.specs.Store.{LacksNamed, LacksFirst}
-use Rattle.image_reading.proofs.Results.{if_err, err_same}
 use Rattle.image_reading.proofs.Asking.{images_none, images_more}
 use Rattle.image_reading.proofs.Stores.{are_start, are_added, lacks_next}
 use Rattle.image_reading.proofs.store.read_each.Goals as goal

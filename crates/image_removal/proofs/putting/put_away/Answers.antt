@@ -1,10 +1,11 @@
 use Rattle.std.proofs.Common.{◌≡◌, ◌∙◌, Ok, Err, ap, sym, subst}
+use Rattle.dir_trait.proofs.Calls.{with_spots}
 use Rattle.image_reading.specs.declared.error.StoreError.{StoreError}
 use Rattle.image_removal.specs.Requests.{incoming_spot, removed_spot}
 use Rattle.image_removal.specs.Causes.{RemovalWorkCause}
 use Rattle.image_removal.proofs.Causes.{sweep_cause}
 use Rattle.image_removal.proofs.Knowing.{swept_stays}
-use Rattle.image_removal.proofs.Ends.{worked_move, with_spots}
+use Rattle.image_removal.proofs.Ends.{worked_move}
 use Rattle.image_reading.specs.declared.error.StoreError.TheVariants.{Stray}
 use Rattle.image_removal.proofs.LawfulSweeps.{put_away_never}
 use Rattle.image_removal.proofs.putting.put_away.Goals as goal

@@ -1,4 +1,5 @@
 use Rattle.std.proofs.Common.{◌≡◌, true, Err, ap, sym, subst, arith, ◌∙◌}
+use Rattle.plain_laws.proofs.Results.{if_ok, if_err}
 use Rattle.dir_model.specs.declared.area.Area.TheVariants.{Images}
 use Rattle.dir_model.specs.declared.request.Reply.TheVariants.{Done}
 use Rattle.dir_model.specs.Calls.{CallStep}
@@ -7,15 +8,15 @@ use Rattle.dir_rules.specs.declared.seen.Seen.{Seen}
 use Rattle.dir_trait.specs.Knowledge.{Knows}
 use Rattle.dir_files.specs.AreaLocks.{is_free_of}
 use Rattle.dir_files.proofs.Locking.{number_is_new}
-use Rattle.folder_building.proofs.Copying.{ok_more, err_more}
 use Rattle.folder_building.proofs.Working.{worked_wider}
+use Rattle.folder_building.proofs.Following.{GivesBack}
 use Rattle.image_reading.specs.declared.error.StoreError.{StoreError}
 use Rattle.image_removal.specs.Requests.{puts_away}
 use Rattle.image_removal.specs.Calls.{WasCalled}
 use Rattle.image_removal.specs.Causes.{MoveCause, ImageRemovalCause, RemovalBusyElsewhere}
 use Rattle.image_removal.proofs.Times.{called_self, called_after, called_before}
 use Rattle.image_removal.proofs.Causes.{lock_removing, lock_elsewhere, move_never_busy, move_removing}
-use Rattle.image_removal.proofs.Locked.{Takes, GivesBack, closes_taken, worked_refused, worked_under, may_lock_images, puts_now, back_bare, same_bare}
+use Rattle.image_removal.proofs.Locked.{Takes, closes_taken, worked_refused, worked_under, may_lock_images, puts_now, back_bare, same_bare}
 use Rattle.image_removal.proofs.Ends.{images_remove, moves_remove}
 use Rattle.folder_removal.proofs.Keeping.{kept_more}
 use Rattle.image_removal.proofs.Keeping.{kept_taking, kept_moving, kept_closing}
@@ -51,7 +52,7 @@ returns-in-Ok-clause-cause g c =
     let mid = D.shown c.lock_area.new.dir in
     let late = D.shown c.put_image_away-result.new.dir in
     let new = D.shown c.unlock_area.new.dir in
-    err_more (λ e. MoveCause D.observed c.args.key c.args.draw e mid late) (λ e. ImageRemovalCause D.observed c.args.key c.args.draw e old new) c.put_image_away-result.result
+    if_err (λ e. MoveCause D.observed c.args.key c.args.draw e mid late) (λ e. ImageRemovalCause D.observed c.args.key c.args.draw e old new) c.put_image_away-result.result
     (λ e m. move_removing c.args.key c.args.draw e c.lock_area.ensures.same c.lock_area.ensures.faults c.lock_area.ensures.extends c.put_image_away-result.ensures.worked.same
     (omega (arith, c.unlock_area.ensures.faultless)) (λ t. extends_wider (closes_taken Images c.in-Ok.gate) (c.unlock_area.ensures.extends t)) m)
     c.put_image_away-result.ensures.cause
@@ -63,7 +64,7 @@ returns-in-Ok-clause-by_other_process g c =
     let mid = D.shown c.lock_area.new.dir in
     let late = D.shown c.put_image_away-result.new.dir in
     let new = D.shown c.unlock_area.new.dir in
-    err_more (λ e. MoveCause D.observed c.args.key c.args.draw e mid late)
+    if_err (λ e. MoveCause D.observed c.args.key c.args.draw e mid late)
     (λ e. D.observed ≡ true → (s : Seen) → Knows old s → is_free_of Images s ≡ true → RemovalBusyElsewhere e old new) c.put_image_away-result.result
     (λ e m t s k free. move_never_busy old new e m.kind) c.put_image_away-result.ensures.cause
 
@@ -74,7 +75,7 @@ returns-in-Ok-clause-moved g c =
     let mid = D.shown c.lock_area.new.dir in
     let late = D.shown c.put_image_away-result.new.dir in
     let new = D.shown c.unlock_area.new.dir in
-    ok_more (λ done. D.observed ≡ true → CallStep mid.process mid.trace (puts_away c.args.key c.args.draw) Done late.trace)
+    if_ok (λ done. D.observed ≡ true → CallStep mid.process mid.trace (puts_away c.args.key c.args.draw) Done late.trace)
     (λ done. D.observed ≡ true → WasCalled (puts_away c.args.key c.args.draw) Done old.process old.trace new.trace) c.put_image_away-result.result
     (λ done step t. called_after (c.lock_area.ensures.extends t) c.lock_area.ensures.same (called_before (called_self (step t)) (c.unlock_area.ensures.extends t)))
     c.put_image_away-result.ensures.moved

@@ -1,8 +1,8 @@
 use Rattle.std.proofs.Common.{◌≡◌, true, IfOk, IfErr, sym, subst}
+use Rattle.plain_laws.proofs.Results.{if_ok, any_ok, any_err}
 use Rattle.dir_model.specs.declared.request.Request.TheVariants.{MoveFolder}
 use Rattle.dir_model.specs.declared.request.Reply.TheVariants.{Done}
 use Rattle.dir_model.specs.Calls.{CallStep}
-use Rattle.folder_building.proofs.Copying.{ok_more}
 use Rattle.image_removal.specs.declared.pass.Pass.{Pass}
 use Rattle.image_removal.specs.declared.pass.Pass.TheVariants.{PutAway}
 use Rattle.image_removal.specs.Requests.{incoming_spot, removed_spot}
@@ -11,7 +11,6 @@ use Rattle.image_removal.specs.Calls.{WasCalled}
 use Rattle.image_removal.specs.Work.{HoldsArea, KeepsStandingAndRules, StaysBare, Stays}
 use Rattle.image_removal.proofs.Times.{called_self}
 use Rattle.image_removal.proofs.Knowing.{stays_conform}
-use Rattle.image_removal.proofs.Ends.{ok_any, err_any}
 use Rattle.folder_removal.specs.Removal.{KeepsFolders}
 use Rattle.image_reading.specs.declared.error.StoreError.TheVariants.{Stray}
 use Rattle.image_removal.specs.Sweeps.{WasListed}
@@ -26,7 +25,7 @@ returns-in-PutAway-clause-done g c =
     let old = D.shown c.args.dir.now in
     let new = D.shown c.put_away.new.dir in
     subst (λ (p : Pass). IfOk c.put_away.result (λ done. D.observed ≡ true → WasCalled (pass_request_of p c.args.name) Done old.process old.trace new.trace)) (sym c.in-PutAway.is)
-    (ok_more (λ done. D.observed ≡ true → CallStep old.process old.trace (MoveFolder (incoming_spot c.args.name) (removed_spot c.args.name)) Done new.trace)
+    (if_ok (λ done. D.observed ≡ true → CallStep old.process old.trace (MoveFolder (incoming_spot c.args.name) (removed_spot c.args.name)) Done new.trace)
     (λ done. D.observed ≡ true → WasCalled (pass_request_of PutAway c.args.name) Done old.process old.trace new.trace) c.put_away.result (λ done step t. called_self (step t)) c.put_away.ensures.moved)
 
 pub returns-in-PutAway-clause-stays : goal.returns-in-PutAway-clause-stays
@@ -35,7 +34,7 @@ returns-in-PutAway-clause-stays g c =
     let old = D.shown c.args.dir.now in
     let new = D.shown c.put_away.new.dir in
     subst (λ (p : Pass). IfOk c.put_away.result (λ done. D.observed ≡ true → Stays (HoldsArea (area_of_pass p)) StaysBare old new)) (sym c.in-PutAway.is)
-    (ok_any (D.observed ≡ true → Stays (HoldsArea (area_of_pass PutAway)) StaysBare old new) c.put_away.result c.put_away.ensures.stays)
+    (any_ok (D.observed ≡ true → Stays (HoldsArea (area_of_pass PutAway)) StaysBare old new) c.put_away.result c.put_away.ensures.stays)
 
 pub returns-in-PutAway-clause-left : goal.returns-in-PutAway-clause-left
 returns-in-PutAway-clause-left g c =
@@ -43,7 +42,7 @@ returns-in-PutAway-clause-left g c =
     let old = D.shown c.args.dir.now in
     let new = D.shown c.put_away.new.dir in
     subst (λ (p : Pass). IfErr c.put_away.result (λ e. D.observed ≡ true → Stays (HoldsArea (area_of_pass p)) KeepsStandingAndRules old new)) (sym c.in-PutAway.is)
-    (err_any (D.observed ≡ true → Stays (HoldsArea (area_of_pass PutAway)) KeepsStandingAndRules old new) c.put_away.result (λ t. stays_conform (c.put_away.ensures.stays t)))
+    (any_err (D.observed ≡ true → Stays (HoldsArea (area_of_pass PutAway)) KeepsStandingAndRules old new) c.put_away.result (λ t. stays_conform (c.put_away.ensures.stays t)))
 
 pub returns-in-Delete-clause-worked : goal.returns-in-Delete-clause-worked
 returns-in-Delete-clause-worked g c =

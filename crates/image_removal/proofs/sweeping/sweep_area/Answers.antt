@@ -1,4 +1,5 @@
 use Rattle.std.proofs.Common.{false, ◌≡◌, [], ◌∷◌, ◌++◌, true, Some, inl, inr, Err, ap, refl, sym, subst}
+use Rattle.plain_laws.proofs.Results.{if_ok, if_err, any_ok, any_err}
 use Rattle.dir_model.specs.declared.area.Area.{Area}
 use Rattle.dir_model.specs.declared.spot.Mode.TheVariants.{Exclusive}
 use Rattle.dir_model.specs.Calls.{Extends}
@@ -8,16 +9,15 @@ use Rattle.dir_trait.specs.Knowledge.{Knows}
 use Rattle.dir_files.specs.declared.lock_error.LockError.TheVariants as lock
 use Rattle.dir_files.specs.AreaLocks.{is_taking_area, with_gate, is_free_of, MayLock, IsBusy, IsBusyElsewhere, IsFreeElsewhere}
 use Rattle.dir_files.proofs.Locking.{number_is_new}
-use Rattle.folder_building.proofs.Copying.{ok_more, err_more}
+use Rattle.folder_building.proofs.Following.{GivesBack, follows_back}
 use Rattle.image_removal.specs.declared.pass.SweepLine.TheVariants.{BusyGate}
 use Rattle.image_removal.specs.Passes.{area_of_pass}
 use Rattle.image_removal.specs.Causes.{RemovalWorkCause}
 use Rattle.image_removal.specs.Sweeps.{AddsSweepLines, SweepsUnder, PassEndsEarly, SweepsBetween, TriesBetween, PassedBetween, TriedBetween, BusyNow, BusyApart}
 use Rattle.image_removal.specs.Work.{HoldsArea, MayPassStore, KeepsStandingAndRules, StaysBare, Stays}
 use Rattle.image_removal.proofs.Times.{work_after, work_before}
-use Rattle.image_removal.proofs.Locked.{Takes, GivesBack, follows_take, follows_back, worked_refused, worked_under, may_lock_pass, holds_now, back_bare, back_conforms, same_bare, same_conforms}
+use Rattle.image_removal.proofs.Locked.{Takes, follows_take, worked_refused, worked_under, may_lock_pass, holds_now, back_bare, back_conforms, same_bare, same_conforms}
 use Rattle.image_removal.proofs.Names.{takes_sweep}
-use Rattle.image_removal.proofs.Ends.{ok_any, err_any}
 use Rattle.image_removal.proofs.Passing.{under_lock, line_cause}
 use Rattle.image_removal.specs.Ended.{EndsStoreListing, EndsStoreListingBetween, EndsStorePassBetween}
 use Rattle.image_reading.specs.declared.error.StoreError.TheVariants.{Stray}
@@ -63,7 +63,7 @@ returns-in-Ok-clause-cause g c =
       local = c.unlock_area.ensures.local;
       extends = c.unlock_area.ensures.extends;
     } in
-    err_more (λ e. RemovalWorkCause D.observed e mid late) (λ e. RemovalWorkCause D.observed e old new) c.sweep_listed-result.result
+    if_err (λ e. RemovalWorkCause D.observed e mid late) (λ e. RemovalWorkCause D.observed e old new) c.sweep_listed-result.result
     (λ e w. work_after (follows_take s) (work_before w (follows_back b))) c.sweep_listed-result.ensures.cause
 
 pub returns-in-Ok-clause-passed : goal.returns-in-Ok-clause-passed
@@ -77,7 +77,7 @@ returns-in-Ok-clause-passed g c =
     let new = D.shown c.unlock_area.new.dir in
     let before = c.args.lines.now.items in
     let after = c.sweep_listed-result.new.lines.items in
-    ok_more (λ done. D.observed ≡ true → AddsSweepLines (SweepsBetween pass mid late) before after) (λ done. D.observed ≡ true → AddsSweepLines (PassedBetween BusyNow pass old new) before after)
+    if_ok (λ done. D.observed ≡ true → AddsSweepLines (SweepsBetween pass mid late) before after) (λ done. D.observed ≡ true → AddsSweepLines (PassedBetween BusyNow pass old new) before after)
     c.sweep_listed-result.result
     (λ done adds t.
     let x = adds t in (
@@ -100,7 +100,7 @@ returns-in-Ok-clause-by_other_process g c =
     let new = D.shown c.unlock_area.new.dir in
     let before = c.args.lines.now.items in
     let after = c.sweep_listed-result.new.lines.items in
-    ok_more (λ done. D.observed ≡ true → AddsSweepLines (SweepsBetween pass mid late) before after)
+    if_ok (λ done. D.observed ≡ true → AddsSweepLines (SweepsBetween pass mid late) before after)
     (λ done. D.observed ≡ true → (s : Seen) → Knows old s → is_free_of (area_of_pass pass) s ≡ true → AddsSweepLines (PassedBetween (BusyApart old.process) pass old new) before after)
     c.sweep_listed-result.result
     (λ done adds t s k free.
@@ -122,7 +122,7 @@ returns-in-Ok-clause-tried g c =
     let mid = D.shown c.lock_area.new.dir in
     let late = D.shown c.sweep_listed-result.new.dir in
     let new = D.shown c.unlock_area.new.dir in
-    err_more (λ e. D.observed ≡ true → TriesBetween pass mid late) (λ e. D.observed ≡ true → TriedBetween pass old new) c.sweep_listed-result.result
+    if_err (λ e. D.observed ≡ true → TriesBetween pass mid late) (λ e. D.observed ≡ true → TriedBetween pass old new) c.sweep_listed-result.result
     (λ e tries t. inr (under_lock (area_of_pass pass) h (PassEndsEarly pass) old mid late new c.lock_area.ensures.same c.sweep_listed-result.ensures.worked.same
     (subst (λ (a : Area). Extends (is_taking_area a Exclusive) old.process old.trace mid.trace) c.area.ensures (c.lock_area.ensures.extends t))
     (subst (λ (a : Area). HeldBetween old mid (IsFreeElsewhere old.process a Exclusive)) c.area.ensures (c.in-Ok.ensures.free t)) (tries t) (c.unlock_area.ensures.extends t)))
@@ -138,7 +138,7 @@ returns-in-Ok-clause-stays g c =
     let mid = D.shown c.lock_area.new.dir in
     let late = D.shown c.sweep_listed-result.new.dir in
     let new = D.shown c.unlock_area.new.dir in
-    ok_more (λ done. D.observed ≡ true → Stays (HoldsArea area) StaysBare mid late) (λ done. D.observed ≡ true → Stays (MayPassStore area) StaysBare old new) c.sweep_listed-result.result
+    if_ok (λ done. D.observed ≡ true → Stays (HoldsArea area) StaysBare mid late) (λ done. D.observed ≡ true → Stays (MayPassStore area) StaysBare old new) c.sweep_listed-result.result
     (λ done stays t s k may.
     let taken = subst (λ (a : Area). Knows mid (with_gate s h a (Some Exclusive))) c.area.ensures
     (c.in-Ok.ensures.taken t s k (subst (λ (a : Area). MayLock s a Exclusive) (sym c.area.ensures) (may_lock_pass pass may))) in
@@ -155,7 +155,7 @@ returns-in-Ok-clause-left g c =
     let mid = D.shown c.lock_area.new.dir in
     let late = D.shown c.sweep_listed-result.new.dir in
     let new = D.shown c.unlock_area.new.dir in
-    err_more (λ e. D.observed ≡ true → Stays (HoldsArea area) KeepsStandingAndRules mid late) (λ e. D.observed ≡ true → Stays (MayPassStore area) KeepsStandingAndRules old new) c.sweep_listed-result.result
+    if_err (λ e. D.observed ≡ true → Stays (HoldsArea area) KeepsStandingAndRules mid late) (λ e. D.observed ≡ true → Stays (MayPassStore area) KeepsStandingAndRules old new) c.sweep_listed-result.result
     (λ e left t s k may.
     let taken = subst (λ (a : Area). Knows mid (with_gate s h a (Some Exclusive))) c.area.ensures
     (c.in-Ok.ensures.taken t s k (subst (λ (a : Area). MayLock s a Exclusive) (sym c.area.ensures) (may_lock_pass pass may))) in
@@ -180,7 +180,7 @@ returns-in-Err-clause-passed g c =
     let new = D.shown c.lock_area.new.dir in
     let before = c.args.lines.now.items in
     let after = c.busy_line.new.lines.items in
-    ok_more (λ done. (c.in-Err.error ≡ lock.Busy) × (after ≡ before ++ BusyGate (area_of_pass pass) ∷ []))
+    if_ok (λ done. (c.in-Err.error ≡ lock.Busy) × (after ≡ before ++ BusyGate (area_of_pass pass) ∷ []))
     (λ done. D.observed ≡ true → AddsSweepLines (PassedBetween BusyNow pass old new) before after) c.busy_line.result
     (λ done b t. (
       BusyGate (area_of_pass pass) ∷ [],
@@ -201,7 +201,7 @@ returns-in-Err-clause-by_other_process g c =
     let new = D.shown c.lock_area.new.dir in
     let before = c.args.lines.now.items in
     let after = c.busy_line.new.lines.items in
-    ok_more (λ done. (c.in-Err.error ≡ lock.Busy) × (after ≡ before ++ BusyGate (area_of_pass pass) ∷ []))
+    if_ok (λ done. (c.in-Err.error ≡ lock.Busy) × (after ≡ before ++ BusyGate (area_of_pass pass) ∷ []))
     (λ done. D.observed ≡ true → (s : Seen) → Knows old s → is_free_of (area_of_pass pass) s ≡ true → AddsSweepLines (PassedBetween (BusyApart old.process) pass old new) before after)
     c.busy_line.result
     (λ done b t s k free. (
@@ -221,21 +221,21 @@ returns-in-Err-clause-tried g c =
     let D = g.D.Dir in
     let old = D.shown c.args.dir.now in
     let new = D.shown c.lock_area.new.dir in
-    err_any (D.observed ≡ true → TriedBetween c.args.pass old new) c.busy_line.result
+    any_err (D.observed ≡ true → TriedBetween c.args.pass old new) c.busy_line.result
     (λ t. inl (subst (λ (a : Area). Extends (is_taking_area a Exclusive) old.process old.trace new.trace) c.area.ensures (c.lock_area.ensures.extends t)))
 
 pub returns-in-Err-clause-stays : goal.returns-in-Err-clause-stays
 returns-in-Err-clause-stays g c =
     let D = g.D.Dir in
     let pass = c.args.pass in
-    ok_any (D.observed ≡ true → Stays (MayPassStore (area_of_pass pass)) StaysBare (D.shown c.args.dir.now) (D.shown c.lock_area.new.dir)) c.busy_line.result
+    any_ok (D.observed ≡ true → Stays (MayPassStore (area_of_pass pass)) StaysBare (D.shown c.args.dir.now) (D.shown c.lock_area.new.dir)) c.busy_line.result
     (λ t s k may. same_bare may.bare (c.in-Err.ensures.left t s k (subst (λ (a : Area). MayLock s a Exclusive) (sym c.area.ensures) (may_lock_pass pass may))))
 
 pub returns-in-Err-clause-left : goal.returns-in-Err-clause-left
 returns-in-Err-clause-left g c =
     let D = g.D.Dir in
     let pass = c.args.pass in
-    err_any (D.observed ≡ true → Stays (MayPassStore (area_of_pass pass)) KeepsStandingAndRules (D.shown c.args.dir.now) (D.shown c.lock_area.new.dir)) c.busy_line.result
+    any_err (D.observed ≡ true → Stays (MayPassStore (area_of_pass pass)) KeepsStandingAndRules (D.shown c.args.dir.now) (D.shown c.lock_area.new.dir)) c.busy_line.result
     (λ t s k may. same_conforms (c.in-Err.ensures.left t s k (subst (λ (a : Area). MayLock s a Exclusive) (sym c.area.ensures) (may_lock_pass pass may))))
 
 pub returns-in-Ok-clause-ended : goal.returns-in-Ok-clause-ended
@@ -247,7 +247,7 @@ returns-in-Ok-clause-ended g c =
     let mid = D.shown c.lock_area.new.dir in
     let late = D.shown c.sweep_listed-result.new.dir in
     let new = D.shown c.unlock_area.new.dir in
-    err_more (λ e. D.observed ≡ true → EndsStoreListingBetween pass mid late) (λ e. D.observed ≡ true → EndsStorePassBetween pass old new) c.sweep_listed-result.result
+    if_err (λ e. D.observed ≡ true → EndsStoreListingBetween pass mid late) (λ e. D.observed ≡ true → EndsStorePassBetween pass old new) c.sweep_listed-result.result
     (λ e ends t. inl (under_lock (area_of_pass pass) h (EndsStoreListing pass) old mid late new c.lock_area.ensures.same c.sweep_listed-result.ensures.worked.same
     (subst (λ (a : Area). Extends (is_taking_area a Exclusive) old.process old.trace mid.trace) c.area.ensures (c.lock_area.ensures.extends t))
     (subst (λ (a : Area). HeldBetween old mid (IsFreeElsewhere old.process a Exclusive)) c.area.ensures (c.in-Ok.ensures.free t)) (ends t) (c.unlock_area.ensures.extends t)))
@@ -258,7 +258,7 @@ returns-in-Err-clause-ended g c =
     let D = g.D.Dir in
     let old = D.shown c.args.dir.now in
     let new = D.shown c.lock_area.new.dir in
-    err_any (D.observed ≡ true → EndsStorePassBetween c.args.pass old new) c.busy_line.result
+    any_err (D.observed ≡ true → EndsStorePassBetween c.args.pass old new) c.busy_line.result
     (λ t. inr (subst (λ (a : Area). Extends (is_taking_area a Exclusive) old.process old.trace new.trace) c.area.ensures (c.lock_area.ensures.extends t)))
 
 pub returns-in-Ok-clause-lawful : goal.returns-in-Ok-clause-lawful

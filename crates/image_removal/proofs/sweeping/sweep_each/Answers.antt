@@ -1,13 +1,12 @@
 use Rattle.std.proofs.Common.{rules, ◌≡◌, ◌+◌, ◌∷◌, ◌++◌, [], ℕ, List, true, take, drop, take-append-drop, ap, sym, subst, ◌∙◌, append_assoc}
 use Rattle.std.proofs.lemmas.List.{take_more}
-use Rattle.folder_building.proofs.Copying.{err_more}
 use Rattle.folder_building.proofs.Working.{worked_none, worked_more, worked_wider}
-use Rattle.image_reading.proofs.Results.{err_same}
+use Rattle.folder_building.proofs.Following.{follows_work}
 use Rattle.image_removal.specs.Passes.{area_of_pass, deals_with_folders}
 use Rattle.image_removal.specs.Causes.{RemovalWorkCause}
 use Rattle.image_removal.specs.Sweeps.{AddsLines}
 use Rattle.image_removal.specs.Work.{HoldsArea, KeepsStandingAndRules, Stays}
-use Rattle.image_removal.proofs.Times.{follows_work, work_after}
+use Rattle.image_removal.proofs.Times.{work_after}
 use Rattle.image_removal.proofs.Knowing.{stays_none, stays_more, stays_then}
 use Rattle.image_removal.proofs.Names.{some_among, adds_none, adds_more}
 use Rattle.dir_model.proofs.Chains.{nothing_yet, and_more, extends_wider}
@@ -17,6 +16,7 @@ use Rattle.image_removal.proofs.Names.{some_left, some_right}
 use Rattle.std.specs.List.Sorted.{IsStrictlySortedBy}
 use Rattle.std.specs.Ordering.{nat_cmp}
 use Rattle.std.specs.Cmp.Lexicographic.{slice_cmp}
+use Rattle.plain_laws.proofs.Results.{if_err, err_same}
 use Rattle.dir_model.specs.Listings.{has_name}
 use Rattle.image_removal.specs.Sweeps.{WasListed}
 use Rattle.image_removal.proofs.Knowing.{holds_still}
@@ -66,7 +66,7 @@ returns-in_err-sweep_next-clause-cause g c =
     let mid = D.shown c.names.dir in
     let new = D.shown c.sweep_next.new.dir in
     err_same (λ e. RemovalWorkCause D.observed e old new) c.sweep_next.result c.from_residual.result (λ e h. search (rules, h, c.from_residual.ensures, c.in_err-sweep_next.is))
-    (err_more (λ e. RemovalWorkCause D.observed e mid new) (λ e. RemovalWorkCause D.observed e old new) c.sweep_next.result (λ e w. work_after (follows_work c.names.invariant.worked) w)
+    (if_err (λ e. RemovalWorkCause D.observed e mid new) (λ e. RemovalWorkCause D.observed e old new) c.sweep_next.result (λ e w. work_after (follows_work c.names.invariant.worked) w)
     c.sweep_next.ensures.cause)
 
 pub returns-in_err-sweep_next-clause-left : goal.returns-in_err-sweep_next-clause-left
@@ -78,7 +78,7 @@ returns-in_err-sweep_next-clause-left g c =
     let new = D.shown c.sweep_next.new.dir in
     err_same (λ e. D.observed ≡ true → Stays (HoldsArea area) KeepsStandingAndRules old new) c.sweep_next.result c.from_residual.result
     (λ e h. search (rules, h, c.from_residual.ensures, c.in_err-sweep_next.is))
-    (err_more (λ e. D.observed ≡ true → Stays (HoldsArea area) KeepsStandingAndRules mid new) (λ e. D.observed ≡ true → Stays (HoldsArea area) KeepsStandingAndRules old new) c.sweep_next.result
+    (if_err (λ e. D.observed ≡ true → Stays (HoldsArea area) KeepsStandingAndRules mid new) (λ e. D.observed ≡ true → Stays (HoldsArea area) KeepsStandingAndRules old new) c.sweep_next.result
     (λ e left t. stays_then (c.names.invariant.stays t) (left t)) c.sweep_next.ensures.left)
 
 pub returns-in_err-sweep_next-clause-ended : goal.returns-in_err-sweep_next-clause-ended
@@ -96,7 +96,7 @@ returns-in_err-sweep_next-clause-ended g c =
     let whole : (take i names ++ name ∷ []) ++ drop (i + 1) names ≡ names = ap (λ (l : List (List ℕ)). l ++ drop (i + 1) names) (sym more) ∙ take-append-drop (i + 1) names in
     err_same (λ e. D.observed ≡ true → EndsAmongFoldersBetween pass names old new) c.sweep_next.result c.from_residual.result
     (λ e h. search (rules, h, c.from_residual.ensures, c.in_err-sweep_next.is))
-    (err_more (λ e. D.observed ≡ true → EndsAtBetween pass name mid new) (λ e. D.observed ≡ true → EndsAmongFoldersBetween pass names old new) c.sweep_next.result
+    (if_err (λ e. D.observed ≡ true → EndsAtBetween pass name mid new) (λ e. D.observed ≡ true → EndsAmongFoldersBetween pass names old new) c.sweep_next.result
     (λ e ends t. record {
       earlier = take i names;
       name = name;

@@ -1,23 +1,23 @@
 use Rattle.std.proofs.Common.{◌∙◌, ◌≡◌, ℕ, List, true, inl, inr, Ok, Err, ap, sym, subst}
+use Rattle.plain_laws.proofs.Results.{if_ok, if_err, any_err}
 use Rattle.dir_model.specs.declared.area.Area.{Area}
 use Rattle.dir_model.specs.declared.request.Request.TheVariants.{ListArea}
 use Rattle.dir_model.specs.declared.request.Reply.TheVariants.{Names, Refused}
 use Rattle.dir_trait.specs.DirCalls.{ListCall}
 use Rattle.dir_trait.specs.Effects.{OnlyAsks}
 use Rattle.dir_files.specs.Listed.{ShowsAreaBetween}
-use Rattle.folder_building.proofs.Copying.{ok_more, err_more}
 use Rattle.folder_building.proofs.Working.{worked_more, worked_wider}
+use Rattle.folder_building.proofs.Following.{follows_work}
 use Rattle.image_reading.specs.declared.error.StoreError.{StoreError}
 use Rattle.image_removal.specs.Passes.{area_of_pass, deals_with_folders}
 use Rattle.image_removal.specs.Causes.{RemovalWorkCause}
 use Rattle.image_removal.specs.Sweeps.{AddsSweepLines, AddsLines, SweepsBetween, TriesBetween}
 use Rattle.image_removal.specs.Work.{HoldsArea, KeepsStandingAndRules, StaysBare, Stays}
-use Rattle.image_removal.proofs.Times.{follows_work, work_after}
+use Rattle.image_removal.proofs.Times.{work_after}
 use Rattle.image_removal.proofs.Causes.{listing_cause}
 use Rattle.image_removal.proofs.Knowing.{stays_more, stays_then, stays_conform}
 use Rattle.image_removal.proofs.Listings.{list_stays, only_lists, worked_list}
 use Rattle.image_removal.proofs.Names.{lists_sweep, some_sweep}
-use Rattle.image_removal.proofs.Ends.{err_any}
 use Rattle.image_removal.proofs.Passing.{works_at_shown, adds_swept}
 use Rattle.image_removal.specs.Ended.{EndsAmongFolders, EndsAmongFoldersBetween, EndsStoreListingBetween}
 use Rattle.image_reading.specs.declared.error.StoreError.TheVariants.{Stray}
@@ -45,7 +45,7 @@ returns-in-Ok-clause-cause g c =
     let old = D.shown c.args.dir.now in
     let mid = D.shown c.names_of.new.dir in
     let new = D.shown c.sweep_each.new.dir in
-    err_more (λ e. RemovalWorkCause D.observed e mid new) (λ e. RemovalWorkCause D.observed e old new) c.sweep_each.result
+    if_err (λ e. RemovalWorkCause D.observed e mid new) (λ e. RemovalWorkCause D.observed e old new) c.sweep_each.result
     (λ e w. work_after (follows_work (worked_list c.area.result (Ok names) c.in-Ok.ensures.called)) w) c.sweep_each.ensures.cause
 
 pub returns-in-Ok-clause-swept : goal.returns-in-Ok-clause-swept
@@ -61,7 +61,7 @@ returns-in-Ok-clause-swept g c =
     let after = c.sweep_each.new.lines.items in
     let listing = subst (λ (a : Area). ListCall D.observed old (ListArea a) (Names names) mid) c.area.ensures c.in-Ok.ensures.called in
     let works = subst (λ (ns : List (List ℕ)). OnlyAsks D.observed (deals_with_folders pass ns) mid new) c.as_slice.ensures c.sweep_each.ensures.worked in
-    ok_more (λ done. AddsLines D.observed pass shown before after mid new) (λ done. D.observed ≡ true → AddsSweepLines (SweepsBetween pass old new) before after) c.sweep_each.result
+    if_ok (λ done. AddsLines D.observed pass shown before after mid new) (λ done. D.observed ≡ true → AddsSweepLines (SweepsBetween pass old new) before after) c.sweep_each.result
     (λ done adds t. adds_swept pass names old mid new t listing (subst (λ (a : Area). ShowsAreaBetween old mid a names) c.area.ensures (c.in-Ok.ensures.shows t)) works c.in-Ok.ensures.ordered before after
     (subst (λ (ns : List (List ℕ)). AddsLines D.observed pass ns before after mid new) c.as_slice.ensures adds)) c.sweep_each.ensures.swept
 
@@ -75,7 +75,7 @@ returns-in-Ok-clause-tried g c =
     let new = D.shown c.sweep_each.new.dir in
     let listing = subst (λ (a : Area). ListCall D.observed old (ListArea a) (Names names) mid) c.area.ensures c.in-Ok.ensures.called in
     let works = subst (λ (ns : List (List ℕ)). OnlyAsks D.observed (deals_with_folders pass ns) mid new) c.as_slice.ensures c.sweep_each.ensures.worked in
-    err_any (D.observed ≡ true → TriesBetween pass old new) c.sweep_each.result
+    any_err (D.observed ≡ true → TriesBetween pass old new) c.sweep_each.result
     (λ t. inr (names, works_at_shown pass names old mid new t listing (subst (λ (a : Area). ShowsAreaBetween old mid a names) c.area.ensures (c.in-Ok.ensures.shows t)) works))
 
 pub returns-in-Ok-clause-stays : goal.returns-in-Ok-clause-stays
@@ -87,7 +87,7 @@ returns-in-Ok-clause-stays g c =
     let mid = D.shown c.names_of.new.dir in
     let new = D.shown c.sweep_each.new.dir in
     let listing = subst (λ (a : Area). ListCall D.observed old (ListArea a) (Names names) mid) c.area.ensures c.in-Ok.ensures.called in
-    ok_more (λ done. D.observed ≡ true → Stays (HoldsArea (area_of_pass pass)) StaysBare mid new) (λ done. D.observed ≡ true → Stays (HoldsArea (area_of_pass pass)) StaysBare old new)
+    if_ok (λ done. D.observed ≡ true → Stays (HoldsArea (area_of_pass pass)) StaysBare mid new) (λ done. D.observed ≡ true → Stays (HoldsArea (area_of_pass pass)) StaysBare old new)
     c.sweep_each.result
     (λ done stays t. stays_more (list_stays pass (Ok names) t listing) (stays t)) c.sweep_each.ensures.stays
 
@@ -100,7 +100,7 @@ returns-in-Ok-clause-left g c =
     let mid = D.shown c.names_of.new.dir in
     let new = D.shown c.sweep_each.new.dir in
     let listing = subst (λ (a : Area). ListCall D.observed old (ListArea a) (Names names) mid) c.area.ensures c.in-Ok.ensures.called in
-    err_more (λ e. D.observed ≡ true → Stays (HoldsArea (area_of_pass pass)) KeepsStandingAndRules mid new) (λ e. D.observed ≡ true → Stays (HoldsArea (area_of_pass pass)) KeepsStandingAndRules old new)
+    if_err (λ e. D.observed ≡ true → Stays (HoldsArea (area_of_pass pass)) KeepsStandingAndRules mid new) (λ e. D.observed ≡ true → Stays (HoldsArea (area_of_pass pass)) KeepsStandingAndRules old new)
     c.sweep_each.result
     (λ e left t. stays_then (list_stays pass (Ok names) t listing) (left t)) c.sweep_each.ensures.left
 
@@ -138,7 +138,7 @@ returns-in-Ok-clause-ended g c =
     let new = D.shown c.sweep_each.new.dir in
     let listing = subst (λ (a : Area). ListCall D.observed old (ListArea a) (Names names) mid) c.area.ensures c.in-Ok.ensures.called in
     let shown = λ (t : D.observed ≡ true). subst (λ (a : Area). ShowsAreaBetween old mid a names) c.area.ensures (c.in-Ok.ensures.shows t) in
-    err_more (λ e. D.observed ≡ true → EndsAmongFoldersBetween pass c.as_slice.result.now mid new) (λ e. D.observed ≡ true → EndsStoreListingBetween pass old new) c.sweep_each.result
+    if_err (λ e. D.observed ≡ true → EndsAmongFoldersBetween pass c.as_slice.result.now mid new) (λ e. D.observed ≡ true → EndsStoreListingBetween pass old new) c.sweep_each.result
     (λ e ends t. inl (record {
       names = names;
       listed = mid.trace;

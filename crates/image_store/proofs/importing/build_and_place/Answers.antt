@@ -1,17 +1,17 @@
 use Rattle.std.proofs.Common.{◌≡◌, true, Ok, false, rules, subst}
+use Rattle.plain_laws.proofs.Results.{if_err, err_same}
 use Rattle.ac_types.specs.declared.store_key.StoreKey.{StoreKey}
-use Rattle.folder_building.proofs.Copying.{err_more}
-use Rattle.image_reading.proofs.Results.{err_same}
 use Rattle.image_reading.specs.Places.{image_spot}
 use Rattle.image_store.specs.Refusals.{is_import_work_refusal}
 use Rattle.image_store.specs.Work.{WhereImportFilled, IsImagePlaced}
 use Rattle.image_store.specs.Causes.{bundle_source_at, BuildCause, PlaceCause, ImportCause}
 use Rattle.image_store.specs.Imports.{key_of_image}
-use Rattle.image_store.proofs.Widths.{follows_work, cause_after}
+use Rattle.image_store.proofs.Widths.{cause_after}
 use Rattle.image_store.proofs.Refusals.{build_import, place_import}
 use Rattle.image_store.proofs.Placings.{same_key}
 use Rattle.image_store.proofs.Outcomes.{placed_leaves}
 use Rattle.folder_building.proofs.Working.{worked_more, worked_wider}
+use Rattle.folder_building.proofs.Following.{follows_work}
 use Rattle.image_store.specs.Requests.{building_spot}
 use Rattle.image_store.specs.Moves.{Moves}
 use Rattle.image_store.proofs.Fillings.{makes_import}
@@ -26,7 +26,7 @@ returns-in_err-build-clause-cause g c =
     let new = D.shown c.build.new.dir in
     let image = c.args.image.now in
     err_same (λ e. ImportCause is_import_work_refusal D.observed source (key_of_image image) c.args.digest.now image.listing e old new) c.build.result c.from_residual.result (λ e h. search (rules, h, c.from_residual.ensures, c.in_err-build.is))
-    (err_more (λ e. BuildCause D.observed source image.listing e old new) (λ e. ImportCause is_import_work_refusal D.observed source (key_of_image image) c.args.digest.now image.listing e old new) c.build.result (λ e x. build_import e x) c.build.ensures.cause)
+    (if_err (λ e. BuildCause D.observed source image.listing e old new) (λ e. ImportCause is_import_work_refusal D.observed source (key_of_image image) c.args.digest.now image.listing e old new) c.build.result (λ e x. build_import e x) c.build.ensures.cause)
 
 pub returns-clause-cause : goal.returns-clause-cause
 returns-clause-cause g c =
@@ -36,7 +36,7 @@ returns-clause-cause g c =
     let mid = D.shown c.build.new.dir in
     let new = D.shown c.place.new.dir in
     let image = c.args.image.now in
-    err_more (λ e. PlaceCause D.observed c.of.result c.args.digest.now e mid new) (λ e. ImportCause is_import_work_refusal D.observed source (key_of_image image) c.args.digest.now image.listing e old new) c.place.result
+    if_err (λ e. PlaceCause D.observed c.of.result c.args.digest.now e mid new) (λ e. ImportCause is_import_work_refusal D.observed source (key_of_image image) c.args.digest.now image.listing e old new) c.place.result
     (λ e x. cause_after (follows_work c.build.ensures.worked) (place_import e (subst (λ (k : StoreKey). PlaceCause D.observed k c.args.digest.now e mid new) (same_key c.of.result image c.of.ensures) x))) c.place.ensures.cause
 
 pub returns-clause-leaves : goal.returns-clause-leaves

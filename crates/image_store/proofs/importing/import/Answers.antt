@@ -1,8 +1,7 @@
 use Rattle.std.proofs.Common.{◌≡◌, true, inr, rules, refl, sym, subst, ◌∙◌}
-use Rattle.folder_building.proofs.Copying.{err_more}
+use Rattle.plain_laws.proofs.Results.{if_err, err_same}
 use Rattle.image_reading.specs.declared.error.StoreError.{StoreError}
 use Rattle.image_reading.specs.declared.error.StoreError.TheVariants.{Stray}
-use Rattle.image_reading.proofs.Results.{err_same}
 use Rattle.image_store.specs.Refusals.{is_import_refusal}
 use Rattle.image_store.specs.Causes.{bundle_source_at, is_late, FoundInTurn, ImportCause}
 use Rattle.image_store.specs.Imports.{key_of_image, digest_of, IsImportRefused, RefusalComesInTurn}
@@ -23,7 +22,7 @@ returns-in_err-there-in-Ok-clause-refused g c =
     let new = D.shown c.import_image.new.dir in
     let image = c.in-Ok.image in
     err_same (λ e. IsImportRefused D.observed first e old new) c.import_image.result c.from_residual.result (λ e h. search (rules, h, c.from_residual.ensures, c.in_err-there-in-Ok.is))
-    (err_more (λ e. ImportCause is_import_refusal D.observed read (key_of_image image) (digest_of image) image.listing e old new) (λ e. IsImportRefused D.observed first e old new) c.import_image.result
+    (if_err (λ e. ImportCause is_import_refusal D.observed read (key_of_image image) (digest_of image) image.listing e old new) (λ e. IsImportRefused D.observed first e old new) c.import_image.result
     (λ e x. inr (image, c.in-Ok.ensures.ok, cause_before_reads c.read_bundle.ensures.reads.same x)) c.import_image.ensures.cause)
 
 pub returns-in_err-there-in-Ok-clause-turn : goal.returns-in_err-there-in-Ok-clause-turn
@@ -37,7 +36,7 @@ returns-in_err-there-in-Ok-clause-turn g c =
     let new = D.shown c.import_image.new.dir in
     let image = c.in-Ok.image in
     err_same (λ e. RefusalComesInTurn D.observed first e old new) c.import_image.result c.from_residual.result (λ e h. search (rules, h, c.from_residual.ensures, c.in_err-there-in-Ok.is))
-    (err_more (λ e. FoundInTurn D.observed read (key_of_image image) image.listing e old new) (λ e. RefusalComesInTurn D.observed first e old new) c.import_image.result
+    (if_err (λ e. FoundInTurn D.observed read (key_of_image image) image.listing e old new) (λ e. RefusalComesInTurn D.observed first e old new) c.import_image.result
     (λ e x. record { late = λ late. (image, c.in-Ok.ensures.ok, x.late late); damaged = λ path is. (image, c.in-Ok.ensures.ok, turn_before_reads c.read_bundle.ensures.reads.same (x.damaged path is)) }) c.import_image.ensures.turn)
 
 pub returns-in-Err-clause-turn : goal.returns-in-Err-clause-turn

@@ -1,17 +1,17 @@
 use Rattle.std.proofs.Common.{◌≡◌, true, false, None, Ok, ap, rules, subst}
+use Rattle.plain_laws.proofs.Results.{if_err, err_same, err_both}
 use Rattle.ac_types.specs.declared.store_key.StoreKey.{StoreKey}
 use Rattle.dir_model.specs.declared.area.Area.TheVariants.{Incoming}
 use Rattle.dir_trait.specs.DirCalls.{HeldBetween}
-use Rattle.folder_building.proofs.Copying.{err_more}
 use Rattle.folder_building.proofs.Working.{worked_more}
+use Rattle.folder_building.proofs.Following.{follows_work}
 use Rattle.image_reading.specs.Places.{IsImageAbsent}
-use Rattle.image_reading.proofs.Results.{err_same, err_both}
 use Rattle.image_store.specs.Refusals.{is_import_lock_refusal, is_import_refusal}
 use Rattle.image_store.specs.Requests.{building_spot}
 use Rattle.image_store.specs.Work.{seen_importing, ImportsUnderImages, WhereImporting}
 use Rattle.image_store.specs.Causes.{bundle_source_at, ImportBusyElsewhere, WasThere, HadIncoming, FoundInTurn, LookCause, ImportCause}
 use Rattle.image_store.specs.Imports.{key_of_image}
-use Rattle.image_store.proofs.Widths.{follows_work, held_before, told_after, cause_after}
+use Rattle.image_store.proofs.Widths.{held_before, told_after, cause_after}
 use Rattle.image_store.proofs.Refusals.{late_in_turn, look_importing, look_in_turn}
 use Rattle.image_store.proofs.Placings.{worked_reads, may_read_there, same_key}
 use Rattle.image_store.proofs.Outcomes.{elsewhere_after, leaves_after}
@@ -29,7 +29,7 @@ returns-in_err-is_there-clause-cause g c =
     let new = D.shown c.is_there.new.dir in
     let image = c.args.image.now in
     err_same (λ e. ImportCause is_import_refusal D.observed source (key_of_image image) c.args.digest.now image.listing e old new) c.is_there.result c.from_residual.result (λ e h. search (rules, h, c.from_residual.ensures, c.in_err-is_there.is))
-    (err_more (λ e. LookCause D.observed c.of.result c.args.digest.now e old new) (λ e. ImportCause is_import_refusal D.observed source (key_of_image image) c.args.digest.now image.listing e old new) c.is_there.result
+    (if_err (λ e. LookCause D.observed c.of.result c.args.digest.now e old new) (λ e. ImportCause is_import_refusal D.observed source (key_of_image image) c.args.digest.now image.listing e old new) c.is_there.result
     (λ e x. look_importing e (subst (λ (k : StoreKey). LookCause D.observed k c.args.digest.now e old new) (same_key c.of.result image c.of.ensures) x)) c.is_there.ensures.cause)
 
 pub returns-in_err-is_there-clause-turn : goal.returns-in_err-is_there-clause-turn
@@ -40,7 +40,7 @@ returns-in_err-is_there-clause-turn g c =
     let new = D.shown c.is_there.new.dir in
     let image = c.args.image.now in
     err_same (λ e. FoundInTurn D.observed source (key_of_image image) image.listing e old new) c.is_there.result c.from_residual.result (λ e h. search (rules, h, c.from_residual.ensures, c.in_err-is_there.is))
-    (err_more (λ e. LookCause D.observed c.of.result c.args.digest.now e old new) (λ e. FoundInTurn D.observed source (key_of_image image) image.listing e old new) c.is_there.result
+    (if_err (λ e. LookCause D.observed c.of.result c.args.digest.now e old new) (λ e. FoundInTurn D.observed source (key_of_image image) image.listing e old new) c.is_there.result
     (λ e x. look_in_turn e (subst (λ (k : StoreKey). LookCause D.observed k c.args.digest.now e old new) (same_key c.of.result image c.of.ensures) x)) c.is_there.ensures.cause)
 
 pub returns-else-branch-clause-turn : goal.returns-else-branch-clause-turn
@@ -78,7 +78,7 @@ returns-else-branch-clause-cause g c =
     let mid = D.shown c.is_there.new.dir in
     let new = D.shown c.import_new.new.dir in
     let image = c.args.image.now in
-    err_more (λ e. ImportCause is_import_refusal D.observed source (key_of_image image) c.args.digest.now image.listing e mid new)
+    if_err (λ e. ImportCause is_import_refusal D.observed source (key_of_image image) c.args.digest.now image.listing e mid new)
     (λ e. ImportCause is_import_refusal D.observed source (key_of_image image) c.args.digest.now image.listing e old new) c.import_new.result
     (λ e x. cause_after (follows_work (worked_reads (building_spot c.args.draw) c.of.result c.is_there.ensures.only)) x) c.import_new.ensures.cause
 
@@ -88,7 +88,7 @@ returns-else-branch-clause-by_other_process g c =
     let old = D.shown c.args.dir.now in
     let mid = D.shown c.is_there.new.dir in
     let new = D.shown c.import_new.new.dir in
-    err_more (λ e. D.observed ≡ true → WhereImporting c.args.draw ImportsUnderImages false None mid (λ intent hs. ImportBusyElsewhere e mid new))
+    if_err (λ e. D.observed ≡ true → WhereImporting c.args.draw ImportsUnderImages false None mid (λ intent hs. ImportBusyElsewhere e mid new))
     (λ e. D.observed ≡ true → WhereImporting c.args.draw ImportsUnderImages false None old (λ intent hs. ImportBusyElsewhere e old new)) c.import_new.result
     (λ e x t intent hs imports under k. elsewhere_after old mid new t (follows_work (worked_reads (building_spot c.args.draw) c.of.result c.is_there.ensures.only))
     (x t intent hs imports under (c.is_there.ensures.only.known t (seen_importing intent hs false None) (may_read_there intent hs false None under.images) k))) c.import_new.ensures.by_other_process

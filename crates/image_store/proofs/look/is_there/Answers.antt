@@ -1,5 +1,5 @@
 use Rattle.std.proofs.Common.{◌≡◌, ◌≢◌, ap, Err, List, ℕ, subst}
-use Rattle.folder_building.proofs.Copying.{err_more}
+use Rattle.plain_laws.proofs.Results.{if_err}
 use Rattle.image_reading.specs.declared.error.StoreError.TheVariants.{IdConflict}
 use Rattle.image_reading.specs.Images.{ReadsDigest}
 use Rattle.image_reading.proofs.Widths.{within_self}
@@ -16,7 +16,7 @@ returns-in-Ok-Some-clause-there g c is t =
 pub returns-in-Ok-Some-clause-cause : goal.returns-in-Ok-Some-clause-cause
 returns-in-Ok-Some-clause-cause g c =
     let D = g.D.Dir in
-    err_more (λ e. (e ≡ IdConflict c.args.key c.in-Ok-Some.stored c.args.digest.now) × (c.in-Ok-Some.stored ≢ c.args.digest.now))
+    if_err (λ e. (e ≡ IdConflict c.args.key c.in-Ok-Some.stored c.args.digest.now) × (c.in-Ok-Some.stored ≢ c.args.digest.now))
     (λ e. LookCause D.observed c.args.key c.args.digest.now e (D.shown c.args.dir.now) (D.shown c.stored_digest.new.dir)) c.is_same.result
     (λ e x. other_cause c.args.key c.in-Ok-Some.stored c.args.digest.now e x.0 x.1 (rw c.in-Ok-Some.field-0-is at c.in-Ok-Some.ensures.there)) c.is_same.ensures.other
 

@@ -1,10 +1,11 @@
 use Rattle.std.proofs.Common.{◌≡◌, true, Some, Ok, Err, IfErr, Result, Bool, ap, sym, subst, ◌∙◌}
 use Rattle.dir_trait.specs.Knowledge.{Knows}
+use Rattle.dir_trait.proofs.Calls.{with_spots}
 use Rattle.image_reading.specs.declared.error.StoreError.{StoreError}
 use Rattle.image_store.specs.Requests.{building_spot}
 use Rattle.image_store.specs.Work.{seen_importing, holding, WhereImportFilled, Unbrought}
 use Rattle.image_store.specs.Causes.{ChangeCause}
-use Rattle.image_store.proofs.Changes.{with_spots, worked_move, placed_by, move_cause, move_taken, move_left}
+use Rattle.image_store.proofs.Changes.{worked_move, placed_by, move_cause, move_taken, move_left}
 use Rattle.image_store.specs.Moves.{Moves}
 use Rattle.image_store.proofs.Moving.{moved_done, answered_not}
 use Rattle.image_store.proofs.placing.bring.Goals as goal

@@ -1,11 +1,11 @@
 use Rattle.std.proofs.Common.{◌≡◌, true, Some, Ok, ℕ, ap, subst}
+use Rattle.plain_laws.proofs.Results.{if_err}
 use Rattle.dir_trait.specs.Knowledge.{Knows}
-use Rattle.folder_building.proofs.Copying.{err_more}
 use Rattle.folder_building.proofs.Working.{worked_more}
+use Rattle.folder_building.proofs.Following.{follows_work}
 use Rattle.image_store.specs.Requests.{building_spot}
 use Rattle.image_store.specs.Work.{seen_importing, holding, WhereImportFilled}
 use Rattle.image_store.specs.Causes.{CompareCause, PlaceCause}
-use Rattle.image_store.proofs.Widths.{follows_work}
 use Rattle.image_store.proofs.Refusals.{compare_placing}
 use Rattle.image_store.proofs.Placings.{worked_reads, may_read_there, unbrought_any}
 use Rattle.image_store.specs.Moves.{MovedNoImage}
@@ -21,7 +21,7 @@ returns-in-Ok-true-clause-cause g c =
     let old = D.shown c.args.dir.now in
     let mid = D.shown c.bring.new.dir in
     let new = D.shown c.compare.new.dir in
-    err_more (λ e. CompareCause D.observed c.args.key c.args.digest.now e mid new) (λ e. PlaceCause D.observed c.args.key c.args.digest.now e old new) c.compare.result
+    if_err (λ e. CompareCause D.observed c.args.key c.args.digest.now e mid new) (λ e. PlaceCause D.observed c.args.key c.args.digest.now e old new) c.compare.result
     (λ e x. compare_placing (follows_work c.bring.ensures.worked) (c.in-Ok-true.ensures.taken (ap Ok c.in-Ok-true.field-0-test)) c.compare.ensures.only.extends x) c.compare.ensures.cause
 
 pub returns-in-Ok-true-clause-left : goal.returns-in-Ok-true-clause-left

@@ -1,6 +1,6 @@
 use Rattle.std.proofs.Common.{◌≡◌, ◌∙◌, true, option_map, List, ℕ, subst}
+use Rattle.plain_laws.proofs.Results.{if_ok}
 use Rattle.hex.specs.Hex.{encode_lower}
-use Rattle.image_reading.proofs.Results.{if_ok}
 use Rattle.metadata_reply.specs.Views.{view_data}
 use Rattle.pod_report.proofs.Asking.{asks_more}
 use Rattle.metadata.specs.Finding.{TellsAll}

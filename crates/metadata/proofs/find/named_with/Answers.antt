@@ -1,6 +1,6 @@
 use Rattle.std.proofs.Common.{◌≡◌, rules, true, option_map, Some, None}
+use Rattle.plain_laws.proofs.Results.{if_ok}
 use Rattle.dir_model.specs.Pods.{pod_of_text}
-use Rattle.image_reading.proofs.Results.{if_ok}
 use Rattle.metadata_reply.specs.Views.{view_data}
 use Rattle.pod_report.proofs.Asking.{asks_none}
 use Rattle.metadata.specs.PodViews.{TellsPod, TellsNamed}

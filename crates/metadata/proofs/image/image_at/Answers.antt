@@ -1,5 +1,5 @@
 use Rattle.std.proofs.Common.{◌≡◌, inl, true}
-use Rattle.image_reading.proofs.Results.{if_ok}
+use Rattle.plain_laws.proofs.Results.{if_ok}
 use Rattle.metadata.specs.Images.{IsImageFromBytes, TellsImage, IfReads}
 use Rattle.metadata.proofs.Images.{image_form, tells_image, image_reads}
 use Rattle.metadata.proofs.image.image_at.Goals as goal

@@ -4,13 +4,14 @@ use Rattle.dir_model.specs.declared.request.Reply.TheVariants.{Refused}
 use Rattle.dir_model.specs.declared.spot.Spot.{Spot}
 use Rattle.dir_model.specs.Replies.{may_refuse}
 use Rattle.dir_model.proofs.Lists.{and_both}
-use Rattle.folder_building.proofs.Working.{at_spot}
 use Rattle.pod_build.specs.declared.make_error.MakeError.TheVariants.{Stray}
 use Rattle.pod_build.specs.MakingRequests.{pod_at, is_move_to_prepare}
 use Rattle.dir_model.specs.declared.request.Request.TheVariants.{MoveFolder}
+use Rattle.dir_model.proofs.Spots.{spot_self}
+use Rattle.dir_trait.proofs.Calls.{with_spots}
 use Rattle.pod_build.specs.declared.make_error.MakeError.{MakeError}
 use Rattle.pod_build.specs.MakingCauses.{MakingWorkCause}
-use Rattle.pod_build.proofs.Calls.{in_area, with_spots, worked_leave, change_cause, shows_call, taken_move}
+use Rattle.pod_build.proofs.Calls.{in_area, worked_leave, change_cause, shows_call, taken_move}
 use Rattle.pod_build.proofs.Times.{answered_self}
 use Rattle.pod_build.proofs.Knowing.{knows_left, knows_unleft}
 use Rattle.pod_build.proofs.embryo.leave_embryo.Goals as goal
@@ -35,7 +36,7 @@ pub returns-in-Err-clause-left : goal.returns-in-Err-clause-left
 returns-in-Err-clause-left g c t = knows_unleft {draw = c.args.draw} t c.in-Err.error (with_spots (in_area c.args.draw c.pod_at-from.ensures c.area_before.ensures) c.pod_at-to.ensures c.in-Err.ensures.called)
 
 pub returns-in-Ok-clause-brings : goal.returns-in-Ok-clause-brings
-returns-in-Ok-clause-brings g c t = answered_self (is_move_to_prepare c.args.draw) (and_both _ _ (at_spot (pod_at Embryo c.args.draw)) (at_spot (pod_at Prepare c.args.draw))) ((with_spots (in_area c.args.draw c.pod_at-from.ensures c.area_before.ensures) c.pod_at-to.ensures c.in-Ok.ensures.called).step t)
+returns-in-Ok-clause-brings g c t = answered_self (is_move_to_prepare c.args.draw) (and_both _ _ (spot_self (pod_at Embryo c.args.draw)) (spot_self (pod_at Prepare c.args.draw))) ((with_spots (in_area c.args.draw c.pod_at-from.ensures c.area_before.ensures) c.pod_at-to.ensures c.in-Ok.ensures.called).step t)
 
 pub returns-in-Err-clause-stray : goal.returns-in-Err-clause-stray
 returns-in-Err-clause-stray g c h t =

@@ -1,4 +1,5 @@
 use Rattle.std.proofs.Common.{◌≡◌, true, not, inl, inr, Err, Some, List, [], ◌∷◌, refl, sym, ap, subst, arith, ◌∙◌}
+use Rattle.plain_laws.proofs.Results.{if_ok, if_err, ok_both}
 use Rattle.dir_model.specs.declared.area.Area.TheVariants.{Images}
 use Rattle.dir_model.specs.declared.spot.Mode.TheVariants.{Shared}
 use Rattle.dir_model.specs.declared.opening.Target.TheVariants.{Gate}
@@ -9,18 +10,18 @@ use Rattle.dir_trait.specs.Knowledge.{Knows}
 use Rattle.lifecycle.specs.Executions.{IsConforming}
 use Rattle.dir_files.specs.AreaLocks.{is_taking_area, closes, on_gate}
 use Rattle.dir_files.proofs.Locking.{number_is_new}
-use Rattle.folder_building.proofs.Copying.{ok_any, ok_more, err_more}
+use Rattle.folder_building.proofs.Copying.{ok_any}
+use Rattle.folder_building.proofs.Following.{Follows}
 use Rattle.pod_build.specs.Progress.{seen_making, nothing_made}
 use Rattle.pod_build.specs.Work.{WhereMakingPod, HasMakerFolder}
 use Rattle.pod_build.proofs.Knowing.{has_nothing}
-use Rattle.pod_build.proofs.Times.{Follows}
 use Rattle.pod_build.specs.declared.error.BuildError.{BuildError}
 use Rattle.pod_build.specs.Answers.{target, held_with, IsBuildAnswer}
 use Rattle.pod_build.specs.Causes.{IsMadeByPlan, IsBuildRefused, IsRefusedUnderLock, AreaHeldElsewhere}
 use Rattle.pod_build.specs.Preparations.{Began, IsAlone, HasGateAlone, HasPrepared, KnowsPrepared, IsHandedOver, IsPrepared}
 use Rattle.dir_model.specs.Calls.{IsRun}
 use Rattle.pod_build.proofs.Parts.{made_within, refused_within}
-use Rattle.pod_build.proofs.Working.{ok_with, went_back, went_refused, hands_to, knows_back, left_back, may_lock, gate_elsewhere, elsewhere_within, free_within}
+use Rattle.pod_build.proofs.Working.{went_back, went_refused, hands_to, knows_back, left_back, may_lock, gate_elsewhere, elsewhere_within, free_within}
 use Rattle.pod_build.proofs.Faithful.{is_handed_over, is_prepared, hands_faithfully}
 use Rattle.pod_build.proofs.Handing.{none_handed, handed_after, handed_before, follow_on, run_until}
 use Rattle.pod_build.specs.FaithfulBuild.{IsFaithfulBuild, HandsOverFaithfully}
@@ -57,7 +58,7 @@ returns-in-Ok-clause-refused g c =
     let d = D.shown c.unlock_area.new.dir in
     let ab : Follows D.observed a b = record { same = c.lock_area.ensures.same; faults = c.lock_area.ensures.faults; asks = is_taking_area Images Shared; extends = c.lock_area.ensures.extends } in
     let cd : Follows D.observed late d = record { same = c.unlock_area.ensures.same; faults = omega (arith, c.unlock_area.ensures.faultless); asks = closes c.in-Ok.gate; extends = c.unlock_area.ensures.extends } in
-    err_more (λ e. IsRefusedUnderLock D.observed refs options c.args.draw.now c.args.now e b late) (λ e. IsBuildRefused D.observed refs options c.args.draw.now c.args.now e a d) c.prepare_under_lock-result.result
+    if_err (λ e. IsRefusedUnderLock D.observed refs options c.args.draw.now c.args.now e b late) (λ e. IsBuildRefused D.observed refs options c.args.draw.now c.args.now e a d) c.prepare_under_lock-result.result
     (λ e x. inr (
       free_within {observed = D.observed} a b late d c.lock_area.ensures.same c.prepare_under_lock-result.ensures.went.same c.prepare_under_lock-result.ensures.went.extends c.unlock_area.ensures.extends c.in-Ok.ensures.free,
       refused_within c.args.draw.now ab cd x,
@@ -74,7 +75,7 @@ returns-in-Ok-clause-planned g c =
     let d = D.shown c.unlock_area.new.dir in
     let ab : Follows D.observed a b = record { same = c.lock_area.ensures.same; faults = c.lock_area.ensures.faults; asks = is_taking_area Images Shared; extends = c.lock_area.ensures.extends } in
     let cd : Follows D.observed late d = record { same = c.unlock_area.ensures.same; faults = omega (arith, c.unlock_area.ensures.faultless); asks = closes c.in-Ok.gate; extends = c.unlock_area.ensures.extends } in
-    ok_more (λ built. IsMadeByPlan D.observed refs options c.args.draw.now c.args.now b late) (λ built. IsMadeByPlan D.observed refs options c.args.draw.now c.args.now a d) c.prepare_under_lock-result.result
+    if_ok (λ built. IsMadeByPlan D.observed refs options c.args.draw.now c.args.now b late) (λ built. IsMadeByPlan D.observed refs options c.args.draw.now c.args.now a d) c.prepare_under_lock-result.result
     (λ built x. made_within c.args.draw.now ab cd x) c.prepare_under_lock-result.ensures.planned
 
 pub returns-in-Ok-clause-by_other_process : goal.returns-in-Ok-clause-by_other_process
@@ -89,7 +90,7 @@ returns-in-Ok-clause-by_other_process g c =
     let to = target c.args.keep_owner in
     let ab : Follows D.observed a b = record { same = c.lock_area.ensures.same; faults = c.lock_area.ensures.faults; asks = is_taking_area Images Shared; extends = c.lock_area.ensures.extends } in
     let cd : Follows D.observed late d = record { same = c.unlock_area.ensures.same; faults = omega (arith, c.unlock_area.ensures.faultless); asks = closes gate; extends = c.unlock_area.ensures.extends } in
-    err_more (λ e. D.observed ≡ true → WhereMakingPod (Began to draw c.args.now) (HasGateAlone gate) nothing_made b (λ intent hs. AreaHeldElsewhere e b late))
+    if_err (λ e. D.observed ≡ true → WhereMakingPod (Began to draw c.args.now) (HasGateAlone gate) nothing_made b (λ intent hs. AreaHeldElsewhere e b late))
     (λ e. D.observed ≡ true → WhereMakingPod (Began to draw c.args.now) IsAlone nothing_made a (λ intent hs. AreaHeldElsewhere e a d)) c.prepare_under_lock-result.result
     (λ e x t intent hs began alone k. elsewhere_within a b late d t ab c.prepare_under_lock-result.ensures.went.same cd
     (x t intent (on_gate gate Images (Some Shared) ∷ hs) began (ap (λ (l : List Held). on_gate gate Images (Some Shared) ∷ l) alone) (c.in-Ok.ensures.taken t (seen_making intent hs nothing_made) k (may_lock alone))))
@@ -109,7 +110,7 @@ returns-in-Ok-clause-prepared g c =
     let to = target c.args.keep_owner in
     let ab : Follows D.observed a b = record { same = c.lock_area.ensures.same; faults = c.lock_area.ensures.faults; asks = is_taking_area Images Shared; extends = c.lock_area.ensures.extends } in
     let cd : Follows D.observed late d = record { same = c.unlock_area.ensures.same; faults = omega (arith, c.unlock_area.ensures.faultless); asks = closes gate; extends = c.unlock_area.ensures.extends } in
-    ok_more (λ built. D.observed ≡ true → WhereMakingPod (Began to draw c.args.now) (HasGateAlone gate) nothing_made b (λ intent hs. HasPrepared refs options draw c.args.now to intent (held_with draw.uuid built hs) b late))
+    if_ok (λ built. D.observed ≡ true → WhereMakingPod (Began to draw c.args.now) (HasGateAlone gate) nothing_made b (λ intent hs. HasPrepared refs options draw c.args.now to intent (held_with draw.uuid built hs) b late))
     (λ built. D.observed ≡ true → IsConforming d.trace → WhereMakingPod (Began to draw c.args.now) IsAlone nothing_made a (λ intent hs. IsPrepared refs options a.process draw.uuid to a.trace d.trace)) c.prepare_under_lock-result.result
     (λ built x t conforms intent hs began alone k.
     let under : List Held = on_gate gate Images (Some Shared) ∷ hs in
@@ -131,7 +132,7 @@ returns-in-Ok-clause-faithful g c =
     let to = target c.args.keep_owner in
     let ab : Follows D.observed a b = record { same = c.lock_area.ensures.same; faults = c.lock_area.ensures.faults; asks = is_taking_area Images Shared; extends = c.lock_area.ensures.extends } in
     let cd : Follows D.observed late d = record { same = c.unlock_area.ensures.same; faults = omega (arith, c.unlock_area.ensures.faultless); asks = closes gate; extends = c.unlock_area.ensures.extends } in
-    ok_more (λ built. D.observed ≡ true → WhereMakingPod (Began to draw c.args.now) (HasGateAlone gate) nothing_made b (λ intent hs. HasPrepared refs options draw c.args.now to intent (held_with draw.uuid built hs) b late))
+    if_ok (λ built. D.observed ≡ true → WhereMakingPod (Began to draw c.args.now) (HasGateAlone gate) nothing_made b (λ intent hs. HasPrepared refs options draw c.args.now to intent (held_with draw.uuid built hs) b late))
     (λ built. D.observed ≡ true → IsRun d.trace → WhereMakingPod (Began to draw c.args.now) IsAlone nothing_made a (λ intent hs. IsHandedOver a.process draw.uuid to a.trace d.trace)) c.prepare_under_lock-result.result
     (λ built x t run intent hs began alone k.
     let under : List Held = on_gate gate Images (Some Shared) ∷ hs in
@@ -151,7 +152,7 @@ returns-in-Ok-clause-knows g c =
     let refs = c.args.refs.now in
     let options = c.args.options.now in
     let to = target c.args.keep_owner in
-    ok_with (λ built. D.observed ≡ true → WhereMakingPod (Began to draw c.args.now) (HasGateAlone gate) nothing_made b (λ intent hs. HasPrepared refs options draw c.args.now to intent (held_with draw.uuid built hs) b late)) (IsBuildAnswer c.args.keep_owner draw.uuid b.local)
+    ok_both (λ built. D.observed ≡ true → WhereMakingPod (Began to draw c.args.now) (HasGateAlone gate) nothing_made b (λ intent hs. HasPrepared refs options draw c.args.now to intent (held_with draw.uuid built hs) b late)) (IsBuildAnswer c.args.keep_owner draw.uuid b.local)
     (λ built. D.observed ≡ true → WhereMakingPod (Began to draw c.args.now) IsAlone nothing_made a (λ intent hs. KnowsPrepared draw.uuid to intent (held_with draw.uuid built []) d)) c.prepare_under_lock-result.result
     (λ built x answer t intent hs began alone k.
     let y = x t intent (on_gate gate Images (Some Shared) ∷ []) began refl (subst (λ (l : List Held). Knows b (seen_making intent (on_gate gate Images (Some Shared) ∷ l) nothing_made)) alone (c.in-Ok.ensures.taken t (seen_making intent hs nothing_made) k (may_lock alone))) in (
@@ -171,7 +172,7 @@ returns-in-Ok-clause-left g c =
     let gate = c.in-Ok.gate in
     let draw = c.args.draw.now in
     let to = target c.args.keep_owner in
-    err_more (λ e. D.observed ≡ true → WhereMakingPod (Began to draw c.args.now) (HasGateAlone gate) nothing_made b (λ intent hs. HasMakerFolder draw.uuid intent hs late))
+    if_err (λ e. D.observed ≡ true → WhereMakingPod (Began to draw c.args.now) (HasGateAlone gate) nothing_made b (λ intent hs. HasMakerFolder draw.uuid intent hs late))
     (λ e. D.observed ≡ true → WhereMakingPod (Began to draw c.args.now) IsAlone nothing_made a (λ intent hs. HasMakerFolder draw.uuid intent hs d)) c.prepare_under_lock-result.result
     (λ e x t intent hs began alone k. left_back gate (number_is_new gate k c.in-Ok.ensures.unopened) (λ s fresh known. c.unlock_area.ensures.given t s Images refl fresh known)
     (x t intent (on_gate gate Images (Some Shared) ∷ hs) began (ap (λ (l : List Held). on_gate gate Images (Some Shared) ∷ l) alone) (c.in-Ok.ensures.taken t (seen_making intent hs nothing_made) k (may_lock alone))))

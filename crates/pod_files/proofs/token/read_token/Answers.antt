@@ -1,9 +1,9 @@
 use Rattle.std.proofs.Common.{◌≡◌, inl, true}
-use Rattle.image_reading.proofs.Results.{if_ok, if_err}
+use Rattle.plain_laws.proofs.Results.{if_ok, if_err}
+use Rattle.dir_laws.proofs.Names.{token_form}
 use Rattle.pod_files.specs.Places.{pod_file, token_name}
 use Rattle.pod_files.specs.Files.{IsTokenOf, IsNoToken, ReadsToken, ReadsNoToken, most_of_token}
 use Rattle.pod_files.specs.Lacks.{IsFileLack}
-use Rattle.pod_files.proofs.Names.{token_form}
 use Rattle.pod_files.proofs.Reading.{taken_so, not_taken}
 use Rattle.pod_files.proofs.Lacking.{lack_why}
 use Rattle.pod_files.proofs.token.read_token.Goals as goal

@@ -1,5 +1,5 @@
 use Rattle.std.proofs.Common.{◌≡◌, true, refl, sym, ap, subst, ◌∙◌, IfOk}
-use Rattle.folder_building.proofs.Copying.{err_more}
+use Rattle.plain_laws.proofs.Results.{if_err, err_both, ok_both}
 use Rattle.folder_building.proofs.Working.{worked_none}
 use Rattle.pod_gc.specs.RemovalHolding.{MayRemove, MayDiscard, MayRemovePod}
 use Rattle.pod_gc.specs.RemovalCauses.{StoppedAlone, StoppedFound, BusyInPrepared, BusyAny}
@@ -19,8 +19,7 @@ use Rattle.pod_locks.specs.Causes.{StepWasStopped, IsAbsentAt, LockBusyElsewhere
 use Rattle.pod_locks.specs.Taking.{TakesNothing}
 use Rattle.pod_gc.specs.RemovalRequests.{area_of_phase, puts_aside}
 use Rattle.pod_gc.specs.Found.{PutAwayIfObserved, MissedAtItsArea, RefusedAtItsArea}
-use Rattle.pod_gc.proofs.Stages.{err_both}
-use Rattle.pod_gc.proofs.Finding.{ok_both, put_aborted, put_exited, put_prepared, put_still, missed_here, refused_own, refused_waiting}
+use Rattle.pod_gc.proofs.Finding.{put_aborted, put_exited, put_prepared, put_still, missed_here, refused_own, refused_waiting}
 use Rattle.pod_gc.proofs.Rounds.{found_here, found_waiting, busy_at, busy_waiting, ready_here, ready_any, ready_waiting, may_discard}
 use Rattle.pod_gc.proofs.Unread.{unread_here}
 use Rattle.folder_removal.specs.Removal.{KeepsFolders}
@@ -32,7 +31,7 @@ returns-in-AbortedPrepare-clause-stopped g c =
     let D = g.D.Dir in
     let old = D.shown c.args.dir.now in
     let new = D.shown c.discard_aborted.new.dir in
-    err_more (λ e. StepWasStopped D.observed c.args.pod (IsAbsentAt c.args.pod Prepare) e old new) (λ e. StoppedFound D.observed c.args.pod c.args.phase e old new) c.discard_aborted.result
+    if_err (λ e. StepWasStopped D.observed c.args.pod (IsAbsentAt c.args.pod Prepare) e old new) (λ e. StoppedFound D.observed c.args.pod c.args.phase e old new) c.discard_aborted.result
     (λ e x. found_here c.args.phase Prepare (ap area_of_phase c.in-AbortedPrepare.is) x) c.discard_aborted.ensures.stopped
 
 pub returns-in-AbortedPrepare-clause-by_other_process : goal.returns-in-AbortedPrepare-clause-by_other_process
@@ -40,7 +39,7 @@ returns-in-AbortedPrepare-clause-by_other_process g c =
     let D = g.D.Dir in
     let old = D.shown c.args.dir.now in
     let new = D.shown c.discard_aborted.new.dir in
-    err_more (λ e. D.observed ≡ true → Given (MayRemove c.args.now) old (λ s. LockBusyElsewhere c.args.pod Prepare Shared e old new)) (λ e. D.observed ≡ true → Given (MayRemovePod c.args.pod c.args.now) old (λ s. BusyAny c.args.pod e old new)) c.discard_aborted.result
+    if_err (λ e. D.observed ≡ true → Given (MayRemove c.args.now) old (λ s. LockBusyElsewhere c.args.pod Prepare Shared e old new)) (λ e. D.observed ≡ true → Given (MayRemovePod c.args.pod c.args.now) old (λ s. BusyAny c.args.pod e old new)) c.discard_aborted.result
     (λ e busy t s k m. busy_at e Prepare Shared old new refl (busy t s k m.may)) c.discard_aborted.ensures.by_other_process
 
 pub returns-in-AbortedPrepare-clause-ready : goal.returns-in-AbortedPrepare-clause-ready
@@ -51,7 +50,7 @@ returns-in-Prepared-clause-stopped g c =
     let D = g.D.Dir in
     let old = D.shown c.args.dir.now in
     let new = D.shown c.discard_prepared.new.dir in
-    err_more (λ e. StoppedAlone D.observed c.args.pod e old new) (λ e. StoppedFound D.observed c.args.pod c.args.phase e old new) c.discard_prepared.result
+    if_err (λ e. StoppedAlone D.observed c.args.pod e old new) (λ e. StoppedFound D.observed c.args.pod c.args.phase e old new) c.discard_prepared.result
     (λ e x. found_waiting c.args.phase c.in-Prepared.is x) c.discard_prepared.ensures.stopped
 
 pub returns-in-Prepared-clause-by_other_process : goal.returns-in-Prepared-clause-by_other_process
@@ -59,7 +58,7 @@ returns-in-Prepared-clause-by_other_process g c =
     let D = g.D.Dir in
     let old = D.shown c.args.dir.now in
     let new = D.shown c.discard_prepared.new.dir in
-    err_more (λ e. D.observed ≡ true → Given (MayDiscard c.args.pod c.args.now) old (λ s. BusyInPrepared c.args.pod e old new)) (λ e. D.observed ≡ true → Given (MayRemovePod c.args.pod c.args.now) old (λ s. BusyAny c.args.pod e old new)) c.discard_prepared.result
+    if_err (λ e. D.observed ≡ true → Given (MayDiscard c.args.pod c.args.now) old (λ s. BusyInPrepared c.args.pod e old new)) (λ e. D.observed ≡ true → Given (MayRemovePod c.args.pod c.args.now) old (λ s. BusyAny c.args.pod e old new)) c.discard_prepared.result
     (λ e busy t s k m. busy_waiting e old new (busy t s k (may_discard c.args.pod m))) c.discard_prepared.ensures.by_other_process
 
 pub returns-in-Prepared-clause-ready : goal.returns-in-Prepared-clause-ready
@@ -70,7 +69,7 @@ returns-in-Exited-clause-stopped g c =
     let D = g.D.Dir in
     let old = D.shown c.args.dir.now in
     let new = D.shown c.retire_exited.new.dir in
-    err_more (λ e. StepWasStopped D.observed c.args.pod (IsAbsentAt c.args.pod Run) e old new) (λ e. StoppedFound D.observed c.args.pod c.args.phase e old new) c.retire_exited.result
+    if_err (λ e. StepWasStopped D.observed c.args.pod (IsAbsentAt c.args.pod Run) e old new) (λ e. StoppedFound D.observed c.args.pod c.args.phase e old new) c.retire_exited.result
     (λ e x. found_here c.args.phase Run (ap area_of_phase c.in-Exited.is) x) c.retire_exited.ensures.stopped
 
 pub returns-in-Exited-clause-by_other_process : goal.returns-in-Exited-clause-by_other_process
@@ -78,7 +77,7 @@ returns-in-Exited-clause-by_other_process g c =
     let D = g.D.Dir in
     let old = D.shown c.args.dir.now in
     let new = D.shown c.retire_exited.new.dir in
-    err_more (λ e. D.observed ≡ true → Given (MayRemove c.args.now) old (λ s. LockBusyElsewhere c.args.pod Run Shared e old new)) (λ e. D.observed ≡ true → Given (MayRemovePod c.args.pod c.args.now) old (λ s. BusyAny c.args.pod e old new)) c.retire_exited.result
+    if_err (λ e. D.observed ≡ true → Given (MayRemove c.args.now) old (λ s. LockBusyElsewhere c.args.pod Run Shared e old new)) (λ e. D.observed ≡ true → Given (MayRemovePod c.args.pod c.args.now) old (λ s. BusyAny c.args.pod e old new)) c.retire_exited.result
     (λ e busy t s k m. busy_at e Run Shared old new refl (busy t s k m.may)) c.retire_exited.ensures.by_other_process
 
 pub returns-in-Exited-clause-ready : goal.returns-in-Exited-clause-ready
@@ -178,14 +177,14 @@ returns-in_default-clause-reads g c = unread_here c.args.pod (g.D.Dir.shown c.ar
 pub returns-in-AbortedPrepare-clause-kept : goal.returns-in-AbortedPrepare-clause-kept
 returns-in-AbortedPrepare-clause-kept g c =
     let D = g.D.Dir in
-    err_more (λ e. TakesNothing D.observed (D.shown c.args.dir.now) (D.shown c.discard_aborted.new.dir)) (λ e. D.observed ≡ true → KeepsFolders (D.shown c.args.dir.now) (D.shown c.discard_aborted.new.dir)) c.discard_aborted.result (λ e still t. kept_untaken (still t)) c.discard_aborted.ensures.still
+    if_err (λ e. TakesNothing D.observed (D.shown c.args.dir.now) (D.shown c.discard_aborted.new.dir)) (λ e. D.observed ≡ true → KeepsFolders (D.shown c.args.dir.now) (D.shown c.discard_aborted.new.dir)) c.discard_aborted.result (λ e still t. kept_untaken (still t)) c.discard_aborted.ensures.still
 
 pub returns-in-Prepared-clause-kept : goal.returns-in-Prepared-clause-kept
 returns-in-Prepared-clause-kept g c =
     let D = g.D.Dir in
-    err_more (λ e. TakesNothing D.observed (D.shown c.args.dir.now) (D.shown c.discard_prepared.new.dir)) (λ e. D.observed ≡ true → KeepsFolders (D.shown c.args.dir.now) (D.shown c.discard_prepared.new.dir)) c.discard_prepared.result (λ e still t. kept_untaken (still t)) c.discard_prepared.ensures.still
+    if_err (λ e. TakesNothing D.observed (D.shown c.args.dir.now) (D.shown c.discard_prepared.new.dir)) (λ e. D.observed ≡ true → KeepsFolders (D.shown c.args.dir.now) (D.shown c.discard_prepared.new.dir)) c.discard_prepared.result (λ e still t. kept_untaken (still t)) c.discard_prepared.ensures.still
 
 pub returns-in-Exited-clause-kept : goal.returns-in-Exited-clause-kept
 returns-in-Exited-clause-kept g c =
     let D = g.D.Dir in
-    err_more (λ e. TakesNothing D.observed (D.shown c.args.dir.now) (D.shown c.retire_exited.new.dir)) (λ e. D.observed ≡ true → KeepsFolders (D.shown c.args.dir.now) (D.shown c.retire_exited.new.dir)) c.retire_exited.result (λ e still t. kept_untaken (still t)) c.retire_exited.ensures.still
+    if_err (λ e. TakesNothing D.observed (D.shown c.args.dir.now) (D.shown c.retire_exited.new.dir)) (λ e. D.observed ≡ true → KeepsFolders (D.shown c.args.dir.now) (D.shown c.retire_exited.new.dir)) c.retire_exited.result (λ e still t. kept_untaken (still t)) c.retire_exited.ensures.still

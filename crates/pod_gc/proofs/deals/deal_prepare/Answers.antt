@@ -1,7 +1,7 @@
 use Rattle.std.proofs.Common.{◌≡◌, rules, true, Err, Result, IfOk, IfErr, refl, sym, subst, arith}
+use Rattle.plain_laws.proofs.Results.{if_ok, if_err}
 use Rattle.dir_model.specs.declared.area.Area.TheVariants as area
 use Rattle.dir_model.specs.declared.area.Phase.TheVariants as phase
-use Rattle.folder_building.proofs.Copying.{ok_more, err_more}
 use Rattle.folder_building.proofs.Working.{worked_more, worked_wider}
 use Rattle.pod_locks.proofs.Calls.{follows_work}
 use Rattle.pod_gc.specs.RemovalHolding.{MayRemove}
@@ -36,7 +36,7 @@ returns-in-Err-Busy-clause-cause g c =
     let old = D.shown c.args.dir.now in
     let mid = D.shown c.discard_aborted.new.dir in
     let new = D.shown c.kept.new.dir in
-    err_more (λ e. GcCause D.observed e mid new) (λ e. GcCause D.observed e old new) c.kept.result (λ e x. cause_after (follows_work c.discard_aborted.ensures.worked) x) c.kept.ensures.cause
+    if_err (λ e. GcCause D.observed e mid new) (λ e. GcCause D.observed e old new) c.kept.result (λ e x. cause_after (follows_work c.discard_aborted.ensures.worked) x) c.kept.ensures.cause
 
 pub returns-in-Err-Busy-clause-deed : goal.returns-in-Err-Busy-clause-deed
 returns-in-Err-Busy-clause-deed g c =
@@ -94,7 +94,7 @@ returns-in-Err-Busy-clause-left_untouched g c =
     let old = D.shown c.args.dir.now in
     let mid = D.shown c.discard_aborted.new.dir in
     let new = D.shown c.kept.new.dir in
-    ok_more (λ deed. SaysThere D.observed c.args.pod area.Prepare phase.Preparing deed mid new) (λ deed. LetBe D.observed c.args.pod area.Prepare deed old new) c.kept.result
+    if_ok (λ deed. SaysThere D.observed c.args.pod area.Prepare phase.Preparing deed mid new) (λ deed. LetBe D.observed c.args.pod area.Prepare deed old new) c.kept.result
     (λ deed x t. let_refused old mid new t (peeked_looks c.args.pod area.Prepare old mid e.peeks) c.discard_aborted.ensures.worked.same (c.kept.ensures.worked.extends t) (said_unbusy phase.Preparing deed x.is) t) c.kept.ensures.said
 
 pub returns-in-Err-clause-left_untouched : goal.returns-in-Err-clause-left_untouched
@@ -109,7 +109,7 @@ returns-in-Err-clause-left_untouched g c =
 pub returns-in-Err-Busy-clause-lawful : goal.returns-in-Err-Busy-clause-lawful
 returns-in-Err-Busy-clause-lawful g c =
     let D = g.D.Dir in
-    err_more (λ e. e ≡ fault.Stray → ⊥) (λ e. GcNeverStray D.observed e (D.shown c.kept.new.dir)) c.kept.result (λ e never is. absurd (never is)) c.kept.ensures.never
+    if_err (λ e. e ≡ fault.Stray → ⊥) (λ e. GcNeverStray D.observed e (D.shown c.kept.new.dir)) c.kept.result (λ e never is. absurd (never is)) c.kept.ensures.never
 
 pub returns-in-Err-clause-lawful : goal.returns-in-Err-clause-lawful
 returns-in-Err-clause-lawful g c =

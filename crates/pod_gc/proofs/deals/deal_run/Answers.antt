@@ -1,8 +1,8 @@
 use Rattle.std.proofs.Common.{◌≡◌, rules, true, Err, Result, IfOk, IfErr, refl, sym, subst, arith}
+use Rattle.plain_laws.proofs.Results.{if_ok, if_err}
 use Rattle.dir_model.specs.declared.area.Area.{Area}
 use Rattle.dir_model.specs.declared.area.Area.TheVariants as area
 use Rattle.dir_model.specs.declared.area.Phase.TheVariants as phase
-use Rattle.folder_building.proofs.Copying.{ok_more, err_more}
 use Rattle.folder_building.proofs.Working.{worked_more, worked_wider}
 use Rattle.pod_locks.proofs.Calls.{follows_work}
 use Rattle.pod_gc.specs.RemovalHolding.{MayRemove}
@@ -37,7 +37,7 @@ returns-in-Err-Busy-clause-cause g c =
     let old = D.shown c.args.dir.now in
     let mid = D.shown c.retire_exited.new.dir in
     let new = D.shown c.kept.new.dir in
-    err_more (λ e. GcCause D.observed e mid new) (λ e. GcCause D.observed e old new) c.kept.result (λ e x. cause_after (follows_work c.retire_exited.ensures.worked) x) c.kept.ensures.cause
+    if_err (λ e. GcCause D.observed e mid new) (λ e. GcCause D.observed e old new) c.kept.result (λ e x. cause_after (follows_work c.retire_exited.ensures.worked) x) c.kept.ensures.cause
 
 pub returns-in-Err-Busy-clause-deed : goal.returns-in-Err-Busy-clause-deed
 returns-in-Err-Busy-clause-deed g c =
@@ -95,7 +95,7 @@ returns-in-Err-Busy-clause-left_untouched g c =
     let old = D.shown c.args.dir.now in
     let mid = D.shown c.retire_exited.new.dir in
     let new = D.shown c.kept.new.dir in
-    ok_more (λ deed. SaysThere D.observed c.args.pod area.Run phase.Running deed mid new) (λ deed. LetBe D.observed c.args.pod area.Run deed old new) c.kept.result
+    if_ok (λ deed. SaysThere D.observed c.args.pod area.Run phase.Running deed mid new) (λ deed. LetBe D.observed c.args.pod area.Run deed old new) c.kept.result
     (λ deed x t. let_refused old mid new t (peeked_looks c.args.pod area.Run old mid e.peeks) c.retire_exited.ensures.worked.same (c.kept.ensures.worked.extends t) (said_unbusy phase.Running deed x.is) t) c.kept.ensures.said
 
 pub returns-in-Err-clause-left_untouched : goal.returns-in-Err-clause-left_untouched
@@ -113,7 +113,7 @@ returns-in-Ok-clause-marked g c t to is = c.in-Ok.ensures.noted t
 pub returns-in-Err-Busy-clause-marked : goal.returns-in-Err-Busy-clause-marked
 returns-in-Err-Busy-clause-marked g c =
     let D = g.D.Dir in
-    ok_more (λ deed. SaysThere D.observed c.args.pod area.Run phase.Running deed (D.shown c.retire_exited.new.dir) (D.shown c.kept.new.dir)) (λ deed. D.observed ≡ true → MarksFirst c.args.pod c.args.now deed (D.shown c.args.dir.now) (D.shown c.kept.new.dir)) c.kept.result
+    if_ok (λ deed. SaysThere D.observed c.args.pod area.Run phase.Running deed (D.shown c.retire_exited.new.dir) (D.shown c.kept.new.dir)) (λ deed. D.observed ≡ true → MarksFirst c.args.pod c.args.now deed (D.shown c.args.dir.now) (D.shown c.kept.new.dir)) c.kept.result
     (λ deed x t to is. absurd (said_unmoved phase.Running deed x.is to is)) c.kept.ensures.said
 
 pub returns-in-Err-clause-marked : goal.returns-in-Err-clause-marked
@@ -122,12 +122,12 @@ returns-in-Err-clause-marked g c =
     let old = D.shown c.args.dir.now in
     let new = D.shown c.retire_exited.new.dir in
     subst (λ (x : Result Deed GcError). IfOk x (λ deed. D.observed ≡ true → MarksFirst c.args.pod c.args.now deed old new)) (sym c.deed_of.ensures)
-    (ok_more (λ deed. (to : Area) → deed ≡ Moved to → ⊥) (λ deed. D.observed ≡ true → MarksFirst c.args.pod c.args.now deed old new) (deed_of (Err c.in-Err.stop) (Moved area.ExitedGarbage)) (λ deed never t to is. absurd (never to is)) (step_unmoved (Moved area.ExitedGarbage) c.in-Err.stop))
+    (if_ok (λ deed. (to : Area) → deed ≡ Moved to → ⊥) (λ deed. D.observed ≡ true → MarksFirst c.args.pod c.args.now deed old new) (deed_of (Err c.in-Err.stop) (Moved area.ExitedGarbage)) (λ deed never t to is. absurd (never to is)) (step_unmoved (Moved area.ExitedGarbage) c.in-Err.stop))
 
 pub returns-in-Err-Busy-clause-lawful : goal.returns-in-Err-Busy-clause-lawful
 returns-in-Err-Busy-clause-lawful g c =
     let D = g.D.Dir in
-    err_more (λ e. e ≡ fault.Stray → ⊥) (λ e. GcNeverStray D.observed e (D.shown c.kept.new.dir)) c.kept.result (λ e never is. absurd (never is)) c.kept.ensures.never
+    if_err (λ e. e ≡ fault.Stray → ⊥) (λ e. GcNeverStray D.observed e (D.shown c.kept.new.dir)) c.kept.result (λ e never is. absurd (never is)) c.kept.ensures.never
 
 pub returns-in-Err-clause-lawful : goal.returns-in-Err-clause-lawful
 returns-in-Err-clause-lawful g c =

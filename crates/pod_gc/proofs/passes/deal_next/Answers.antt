@@ -1,8 +1,7 @@
 use Rattle.std.proofs.Common.{◌≡◌, ◌∷◌, [], ◌++◌, rules, true, Some, None, sym, subst}
+use Rattle.plain_laws.proofs.Results.{if_ok, if_err, err_same}
 use Rattle.dir_model.specs.Pods.{pod_of_text}
-use Rattle.folder_building.proofs.Copying.{ok_more, err_more}
 use Rattle.folder_building.proofs.Working.{worked_none, worked_wider}
-use Rattle.pod_gc.proofs.Stages.{err_same}
 use Rattle.pod_gc.specs.declared.gc_error.GcError.{GcError}
 use Rattle.pod_gc.specs.declared.gc_error.GcError.TheVariants as fault
 use Rattle.pod_gc.specs.Causes.{GcCause}
@@ -47,7 +46,7 @@ returns-in_ok-deed-in-Some-clause-cause g c =
     let D = g.D.Dir in
     let old = D.shown c.args.dir.now in
     let new = D.shown c.deal.new.dir in
-    err_more (λ e. e ≡ fault.NoMemory) (λ e. GcCause D.observed e old new) c.push.result (λ e is. subst (λ (x : GcError). GcCause D.observed x old new) (sym is) (no_memory D.observed old new)) c.push.ensures.memory
+    if_err (λ e. e ≡ fault.NoMemory) (λ e. GcCause D.observed e old new) c.push.result (λ e is. subst (λ (x : GcError). GcCause D.observed x old new) (sym is) (no_memory D.observed old new)) c.push.ensures.memory
 
 pub returns-in_ok-deed-in-Some-clause-told : goal.returns-in_ok-deed-in-Some-clause-told
 returns-in_ok-deed-in-Some-clause-told g c =
@@ -57,7 +56,7 @@ returns-in_ok-deed-in-Some-clause-told g c =
     let before = c.args.lines.now.items in
     let after = c.push.new.lines.items in
     let some : pod_of_text c.args.name.now ≡ Some c.in-Some.id = search (rules, c.parse.ensures.is, c.as_str.ensures, c.in-Some.is) in
-    ok_more (λ done. after ≡ before ++ record { place = c.args.place; pod = Some c.in-Some.id; deed = c.in_ok-deed-in-Some.deed } ∷ []) (λ done. D.observed ≡ true → AddsTold c.args.times c.args.place (c.args.name.now ∷ []) old new before after) c.push.result
+    if_ok (λ done. after ≡ before ++ record { place = c.args.place; pod = Some c.in-Some.id; deed = c.in_ok-deed-in-Some.deed } ∷ []) (λ done. D.observed ≡ true → AddsTold c.args.times c.args.place (c.args.name.now ∷ []) old new before after) c.push.result
     (λ done adds t. adds_pod old new c.args.times c.args.place c.args.name.now c.in-Some.id c.in_ok-deed-in-Some.deed before after some adds (c.deal.ensures.worked.extends t) (c.in_ok-deed-in-Some.ensures.dealt t) (c.in_ok-deed-in-Some.ensures.by_other_process t)) c.push.ensures.items
 
 pub returns-in_err-deed-in-Some-clause-ended : goal.returns-in_err-deed-in-Some-clause-ended
@@ -77,4 +76,4 @@ returns-in_err-deed-in-Some-clause-lawful g c =
 pub returns-in_ok-deed-in-Some-clause-lawful : goal.returns-in_ok-deed-in-Some-clause-lawful
 returns-in_ok-deed-in-Some-clause-lawful g c =
     let D = g.D.Dir in
-    err_more (λ e. e ≡ fault.NoMemory) (λ e. GcStrayByApp D.observed e (MayPassPods c.args.place c.args.times.now c.args.times.expire) (D.shown c.args.dir.now) (D.shown c.deal.new.dir)) c.push.result (λ e memory is. absurd (memory_never memory is)) c.push.ensures.memory
+    if_err (λ e. e ≡ fault.NoMemory) (λ e. GcStrayByApp D.observed e (MayPassPods c.args.place c.args.times.now c.args.times.expire) (D.shown c.args.dir.now) (D.shown c.deal.new.dir)) c.push.result (λ e memory is. absurd (memory_never memory is)) c.push.ensures.memory

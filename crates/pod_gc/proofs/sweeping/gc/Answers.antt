@@ -1,9 +1,9 @@
 use Rattle.std.proofs.Common.{◌≡◌, rules, true}
-use Rattle.pod_gc.proofs.Stages.{err_same}
 use Rattle.pod_gc.specs.Causes.{GcCause}
 use Rattle.pod_gc.proofs.Sweeps.{swept_all}
 use Rattle.pod_gc.specs.Ended.{EndsSweepBetween}
 use Rattle.std.proofs.Common.{refl}
+use Rattle.plain_laws.proofs.Results.{err_same}
 use Rattle.pod_gc.specs.declared.gc_error.GcError.TheVariants as fault
 use Rattle.pod_gc.specs.Causes.{GcStrayByApp}
 use Rattle.pod_gc.specs.Sweeping.{MaySweepAll}

@@ -1,8 +1,9 @@
 use Rattle.std.proofs.Common.{◌≡◌, rules, Ok, Err, refl, sym, ap, subst, arith, ◌∙◌}
 use Rattle.dir_model.specs.declared.spot.Which.TheVariants.{Own}
+use Rattle.dir_trait.proofs.Calls.{with_spots}
 use Rattle.pod_locks.specs.declared.claim_setback.Setback.{Setback}
 use Rattle.pod_locks.specs.ClaimCauses.{ClaimWasStopped, IsNotInPrepared}
-use Rattle.pod_locks.proofs.ClaimCalls.{with_spots, move_stops}
+use Rattle.pod_locks.proofs.ClaimCalls.{move_stops}
 use Rattle.pod_locks.proofs.ClaimKnowing.{knows_moved, knows_unmoved}
 use Rattle.pod_locks.proofs.Parts.{went_as, went_run, went_unrun, locked_ok, follows_taken}
 use Rattle.pod_locks.proofs.Times.{follows_call, stops_part, alone_had}

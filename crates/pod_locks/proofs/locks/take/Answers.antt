@@ -8,7 +8,7 @@ use Rattle.dir_model.specs.Locks.{target_of}
 use Rattle.dir_model.proofs.Holdings.{unlocked_new}
 use Rattle.pod_locks.specs.declared.claim_setback.Setback.{Setback}
 use Rattle.pod_locks.specs.ClaimCauses.{ClaimWasStopped, CannotOpen}
-use Rattle.pod_locks.proofs.ClaimCalls.{with_spot, went_taken, went_untaken, went_unopened, lock_stops, open_stops}
+use Rattle.pod_locks.proofs.ClaimCalls.{went_taken, went_untaken, went_unopened, lock_stops, open_stops}
 use Rattle.pod_locks.proofs.ClaimKnowing.{busy_elsewhere, knows_taken, knows_untaken, knows_unopened}
 use Rattle.pod_locks.proofs.ClaimOpposed.{alone_step}
 use Rattle.pod_locks.proofs.Times.{follows_call, stops_part}
@@ -18,6 +18,7 @@ use Rattle.dir_model.specs.declared.area.Area.TheVariants.{Prepared}
 use Rattle.dir_model.specs.declared.spot.Spot.{Spot}
 use Rattle.dir_model.specs.State.{spot_eq}
 use Rattle.dir_model.proofs.Spots.{spot_self}
+use Rattle.dir_trait.proofs.Calls.{with_spot}
 use Rattle.pod_locks.specs.ClaimRequests.{in_prepared}
 use Rattle.pod_locks.proofs.locks.take.Goals as goal
 

@@ -5,7 +5,7 @@ use Rattle.dir_model.specs.declared.request.Request.TheVariants.{Open}
 use Rattle.dir_model.specs.Local.{Local, IsUnlocked}
 use Rattle.dir_model.specs.Locks.{target_of}
 use Rattle.dir_model.proofs.Holdings.{unlocked_new}
-use Rattle.pod_locks.proofs.ClaimCalls.{with_spot}
+use Rattle.dir_trait.proofs.Calls.{with_spot}
 use Rattle.pod_locks.specs.declared.setback.Setback.{Setback}
 use Rattle.pod_locks.specs.Causes.{StepWasStopped, IsAbsentAt}
 use Rattle.pod_locks.proofs.Calls.{worked_tried, worked_unopened, peeked_tried, peeked_unopened, lock_stops, own_stops, stops_part, follows_call}

@@ -1,5 +1,5 @@
 use Rattle.std.proofs.Common.{Ok, Err, refl, sym, ap, subst, ◌∙◌}
-use Rattle.pod_locks.proofs.ClaimCalls.{with_spots}
+use Rattle.dir_trait.proofs.Calls.{with_spots}
 use Rattle.pod_locks.proofs.Traces.{one_deed}
 use Rattle.pod_locks.specs.declared.setback.Setback.{Setback}
 use Rattle.pod_locks.specs.Causes.{StepWasStopped, IsAbsentAt}

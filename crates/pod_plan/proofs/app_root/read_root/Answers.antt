@@ -1,8 +1,8 @@
 use Rattle.std.proofs.Common.{◌≡◌, length}
+use Rattle.plain_laws.proofs.Results.{ok_three, if_err}
 use Rattle.tree_digest.specs.Listings.{IsListing, lines_of}
 use Rattle.pod_plan.specs.Roots.{IsRootAsRead}
 use Rattle.pod_plan.specs.RootRefusals.{IsListingRefusal, IsRootRefusal}
-use Rattle.pod_plan.proofs.Results.{ok_three, if_err}
 use Rattle.pod_plan.proofs.Rooted.{rendered_listable, root_made, listing_refused, rendering_refused}
 use Rattle.pod_plan.proofs.app_root.read_root.Goals as goal
 

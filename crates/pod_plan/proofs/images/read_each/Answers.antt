@@ -1,8 +1,9 @@
 use Rattle.std.proofs.Common.{rules, ◌≡◌, ◌+◌, ◌∷◌, ◌++◌, [], take, refl, ap, sym, ◌∙◌}
 use Rattle.std.proofs.lemmas.List.{take_more}
+use Rattle.plain_laws.proofs.Results.{passed_on}
 use Rattle.image_reading.proofs.Asking.{images_none, images_more}
 use Rattle.pod_plan.specs.PlanRefusals.{IsStoreLack, LacksManifestAt, LacksAmong}
-use Rattle.pod_plan.proofs.Results.{passed_on, lack_wider}
+use Rattle.pod_plan.proofs.Results.{lack_wider}
 use Rattle.pod_plan.proofs.Lacks.{manifest_at_after, lack_among}
 use Rattle.pod_plan.proofs.Again.{again_start, again_more, manifests_later}
 use Rattle.pod_plan.proofs.images.read_each.Goals as goal

@@ -1,10 +1,11 @@
 use Rattle.std.proofs.Common.{inr, List, subst}
+use Rattle.plain_laws.proofs.Results.{if_ok, if_err}
 use Rattle.dep_match.specs.declared.stored.Stored.{Stored}
 use Rattle.image_reading.proofs.Asking.{images_more}
 use Rattle.image_reading.proofs.Holding.{knows_images}
 use Rattle.pod_plan.specs.PlanRefusals.{IsStoreLack, LacksAmong, ReadsLackingPart}
 use Rattle.pod_plan.specs.Readings.{AreReadAgain, ReadsImages}
-use Rattle.pod_plan.proofs.Results.{if_ok, if_err, lack_wider}
+use Rattle.pod_plan.proofs.Results.{lack_wider}
 use Rattle.pod_plan.proofs.Lacks.{listing_lack, among_after}
 use Rattle.pod_plan.proofs.Again.{images_read, listed_before}
 use Rattle.pod_plan.proofs.images.read_images.Goals as goal

@@ -1,7 +1,8 @@
 use Rattle.std.proofs.Common.{rules}
+use Rattle.plain_laws.proofs.Results.{if_ok}
 use Rattle.image_reading.proofs.Asking.{images_one}
 use Rattle.pod_plan.specs.Readings.{with_manifest, AddsReadImage, ReadsNextManifest}
-use Rattle.pod_plan.proofs.Results.{if_ok, ok_same}
+use Rattle.pod_plan.proofs.Results.{ok_same}
 use Rattle.pod_plan.proofs.Lacks.{manifest_lack}
 use Rattle.pod_plan.proofs.Again.{kept_manifest}
 use Rattle.pod_plan.proofs.images.read_next.Goals as goal

@@ -1,7 +1,7 @@
 use Rattle.std.proofs.Common.{rules, get_or, sym, ◌∙◌}
+use Rattle.plain_laws.proofs.Results.{passed_on}
 use Rattle.image_reading.proofs.Asking.{images_none, images_more}
 use Rattle.pod_plan.specs.RootRefusals.{IsLayRefusal, IsRenderingRefusal}
-use Rattle.pod_plan.proofs.Results.{passed_on}
 use Rattle.pod_plan.proofs.Laid.{wanted_within, wanted_key, still_open, none_left, none_laid, laid_more, laid_refused, rendered}
 use Rattle.pod_plan.proofs.laying.read_rendering.Goals as goal
 

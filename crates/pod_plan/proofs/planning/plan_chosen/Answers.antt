@@ -1,12 +1,13 @@
 use Rattle.std.proofs.Common.{rules, List, length, sym, subst}
 use Rattle.std.specs.List.{All}
+use Rattle.plain_laws.proofs.Results.{if_ok}
 use Rattle.dep_match.specs.declared.dep_tree.DepTree.{DepTree}
 use Rattle.dep_match.specs.declared.stored.Stored.{Stored}
 use Rattle.dep_match.specs.TreeOrder.{IsOrderedTree}
 use Rattle.pod_plan.specs.Roots.{ComesOnce, AreImageRoots}
 use Rattle.pod_plan.specs.RootRefusals.{IsRootsRefusal}
 use Rattle.pod_plan.specs.Plans.{IsPlanOf, PlansChoice}
-use Rattle.pod_plan.proofs.Results.{if_ok, ok_same}
+use Rattle.pod_plan.proofs.Results.{ok_same}
 use Rattle.pod_plan.proofs.Once.{all_once}
 use Rattle.pod_plan.proofs.Ready.{is_ready}
 use Rattle.pod_plan.proofs.planning.plan_chosen.Goals as goal

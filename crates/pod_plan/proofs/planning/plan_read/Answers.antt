@@ -1,11 +1,11 @@
 use Rattle.std.proofs.Common.{List, sym, subst}
+use Rattle.plain_laws.proofs.Results.{if_err}
 use Rattle.dep_match.specs.declared.stored.Stored.{Stored}
 use Rattle.image_reading.proofs.Asking.{images_none}
 use Rattle.pod_plan.specs.Choices.{IsChoice, IsChoiceRefused}
 use Rattle.pod_plan.specs.declared.plan_error.PlanError.{PlanError}
 use Rattle.pod_plan.specs.RootRefusals.{IsRootsRefusal}
 use Rattle.pod_plan.specs.NoPlans.{IsUnplanned}
-use Rattle.pod_plan.proofs.Results.{if_err}
 use Rattle.pod_plan.proofs.Plans.{unchosen, unrooted}
 use Rattle.pod_plan.proofs.planning.plan_read.Goals as goal
 

@@ -1,9 +1,9 @@
 use Rattle.std.proofs.Common.{◌≡◌, ◌++◌, ◌∷◌, [], inl, inr, refl, true}
+use Rattle.plain_laws.proofs.Results.{if_ok}
 use Rattle.lifecycle.specs.Executions.{IsConforming}
 use Rattle.pod_report.proofs.Asking.{asks_wider}
 use Rattle.pod_report.specs.SeenLines.{AddsSeen}
 use Rattle.pod_report.specs.Snapshot.{AddsPodLine}
-use Rattle.pod_report.proofs.Results.{if_ok}
 use Rattle.pod_report.proofs.Going.{visits_survey}
 use Rattle.pod_report.proofs.Telling.{line_added}
 use Rattle.pod_report.proofs.survey.add_line.Goals as goal

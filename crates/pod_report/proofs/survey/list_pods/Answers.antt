@@ -1,4 +1,5 @@
 use Rattle.std.proofs.Common.{◌≡◌, ℕ, true, List, subst}
+use Rattle.plain_laws.proofs.Results.{if_ok}
 use Rattle.dir_model.specs.declared.pod.PodId.{PodId}
 use Rattle.lifecycle.specs.Executions.{IsConforming}
 use Rattle.pod_report.specs.Before.{ListsPodsQuietly}
@@ -7,7 +8,6 @@ use Rattle.pod_report.specs.Snapshot.{TellsPods, IsSnapshotBetween, LinesStandin
 use Rattle.pod_report.proofs.Asking.{asks_more, asks_looks}
 use Rattle.pod_report.proofs.Going.{lists_survey}
 use Rattle.pod_report.proofs.Listing.{list_tells}
-use Rattle.pod_report.proofs.Results.{if_ok}
 use Rattle.pod_report.proofs.survey.list_pods.Goals as goal
 
 pub returns-in-Ok-clause-only : goal.returns-in-Ok-clause-only

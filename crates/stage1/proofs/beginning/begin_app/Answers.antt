@@ -1,10 +1,10 @@
 use Rattle.std.proofs.Common.{rules, ◌≡◌, ◌≤◌, true, arith, sym, subst}
+use Rattle.plain_laws.proofs.Results.{if_ok, if_err, err_same, any_ok, any_err}
 use Rattle.dir_model.specs.Local.{IsActive, Local}
 use Rattle.folder_building.proofs.Working.{worked_more}
 use Rattle.stage1.specs.Notes.{IsMarked}
 use Rattle.stage1.specs.Beginnings.{StartedMain, MainStartCut, AppHasBegun, IsInterrupted}
 use Rattle.stage1.specs.Refusals.{SpawnCause, NoteCause, RunCause}
-use Rattle.stage1.proofs.Results.{if_ok, if_err, err_same, any_ok, any_err}
 use Rattle.stage1.proofs.Noted.{stays_more}
 use Rattle.stage1.proofs.Causes.{by_note, by_spawn, run_after}
 use Rattle.stage1.proofs.OneApp.{broken_none, broken_early, broken_late, has_begun}

@@ -1,5 +1,7 @@
 use Rattle.std.proofs.Common.{rules, arith, ◌≡◌, ◌+◌, ℕ, List, [], ◌∷◌, ◌++◌, length, length-append, length-take, take, drop, refl, sym, ap, subst, ◌∙◌}
 use Rattle.std.proofs.lemmas.List.{take_all}
+use Rattle.plain_laws.proofs.Results.{if_err, err_same, any_err}
+use Rattle.plain_laws.proofs.Lists.{take_next}
 use Rattle.dir_model.proofs.Lists.{all_push}
 use Rattle.dir_model.specs.declared.spot.Spot.{Spot}
 use Rattle.dir_model.specs.Local.{IsActive, Local}
@@ -10,10 +12,9 @@ use Rattle.stage1.specs.declared.stand.Stand.{Stand}
 use Rattle.stage1.specs.Notes.{notes_at, IsMarked}
 use Rattle.stage1.specs.Beginnings.{IsInRun, AreMarked, AreStartedIn, AreStatusesWritten, HaveBegun, AreInterrupted}
 use Rattle.stage1.specs.Refusals.{RunCause}
-use Rattle.stage1.proofs.Results.{if_err, err_same, any_err}
 use Rattle.stage1.proofs.Noted.{stays_none, stays_more, worked_any}
 use Rattle.stage1.proofs.Causes.{run_after}
-use Rattle.stage1.proofs.Pairs.{at_place, take_next, parted_at, are_started_still, started_push, are_written_still, written_push, may_still, begun_none, begun_more, started_none, written_none}
+use Rattle.stage1.proofs.Pairs.{at_place, parted_at, are_started_still, started_push, are_written_still, written_push, may_still, begun_none, begun_more, started_none, written_none}
 use Rattle.stage1.specs.Keeping.{NotesAtMost, all_begun_times}
 use Rattle.stage1.proofs.Keeping.{keeps_none}
 use Rattle.stage1.proofs.Times.{keeps_push, keeps_broken}

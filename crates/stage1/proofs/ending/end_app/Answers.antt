@@ -1,9 +1,9 @@
 use Rattle.std.proofs.Common.{refl, sym, subst}
+use Rattle.plain_laws.proofs.Results.{if_ok, if_err}
 use Rattle.folder_building.proofs.Working.{worked_none}
 use Rattle.stage1.specs.declared.stand.Stand.{Stand}
 use Rattle.stage1.specs.Beginnings.{IsStartedIn, IsStatusWritten}
 use Rattle.stage1.specs.Endings.{AppHasEnded, IsEndCut, EndsFromStand, EndsCut}
-use Rattle.stage1.proofs.Results.{if_ok, if_err}
 use Rattle.stage1.proofs.Asked.{asks_none}
 use Rattle.stage1.proofs.Noted.{stays_none}
 use Rattle.stage1.specs.Keeping.{NotesAtMost, end_times}

@@ -1,5 +1,6 @@
 use Rattle.std.proofs.Common.{arith, ◌≡◌, ◌≤◌, ◌<◌, ◌+◌, ℕ, List, [], ◌∷◌, ◌++◌, length, length-take, take, drop, get_or, sym, ap, subst}
 use Rattle.std.proofs.lemmas.List.{take_all}
+use Rattle.plain_laws.proofs.Lists.{take_next}
 use Rattle.dir_model.specs.declared.spot.Spot.{Spot}
 use Rattle.dir_model.specs.Local.{IsActive, Local}
 use Rattle.folder_building.proofs.Working.{worked_none, worked_more}
@@ -13,7 +14,7 @@ use Rattle.stage1.specs.Runs.{AreWrittenAll}
 use Rattle.stage1.proofs.Noted.{stays_none, stays_more, worked_any}
 use Rattle.stage1.proofs.Causes.{run_after}
 use Rattle.stage1.proofs.OneApp.{no_child}
-use Rattle.stage1.proofs.Pairs.{at_place, take_next, parted_at, started_at, started_still, written_at, written_still}
+use Rattle.stage1.proofs.Pairs.{at_place, parted_at, started_at, started_still, written_at, written_still}
 use Rattle.stage1.proofs.Ends.{ended_last, ended_more, ended_none, all_written_still, all_written_push, all_written_none, stand_at}
 use Rattle.stage1.specs.Keeping.{NotesAtMost, all_end_times}
 use Rattle.stage1.proofs.Keeping.{keeps_none}

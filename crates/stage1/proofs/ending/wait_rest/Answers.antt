@@ -1,5 +1,6 @@
 use Rattle.std.proofs.Common.{arith, ◌≡◌, ◌<◌, ◌+◌, List, [], ◌∷◌, ◌++◌, length, length-take, take, get_or, sym, subst}
 use Rattle.std.proofs.lemmas.List.{take_all}
+use Rattle.plain_laws.proofs.Lists.{take_next}
 use Rattle.dir_model.specs.declared.spot.Spot.{Spot}
 use Rattle.dir_model.specs.Local.{IsActive, Local}
 use Rattle.folder_building.proofs.Working.{worked_none, worked_more}
@@ -11,7 +12,7 @@ use Rattle.stage1.specs.Beginnings.{IsInRun, running}
 use Rattle.stage1.specs.Endings.{WereWaitedFor}
 use Rattle.stage1.proofs.Noted.{stays_none, stays_more, worked_any}
 use Rattle.stage1.proofs.OneApp.{no_child}
-use Rattle.stage1.proofs.Pairs.{at_place, take_next, started_still}
+use Rattle.stage1.proofs.Pairs.{at_place, started_still}
 use Rattle.stage1.proofs.Ends.{were_none, were_more, stand_at, front_at, started_front}
 use Rattle.stage1.specs.Keeping.{NotesAtMost, all_end_times}
 use Rattle.stage1.proofs.Keeping.{keeps_none}

@@ -1,6 +1,6 @@
 use Rattle.std.proofs.Common.{rules, ◌≡◌, true, ℕ, List, subst}
+use Rattle.plain_laws.proofs.Results.{if_ok, if_err, err_same}
 use Rattle.manifests.specs.declared.runtime_app.RuntimeApp.{RuntimeApp}
-use Rattle.image_reading.proofs.Results.{if_ok, if_err, err_same}
 use Rattle.image_reading.proofs.Widths.{file_after, file_before}
 use Rattle.stage1.specs.Starts.{FindsStarts, ReadsStarts}
 use Rattle.stage1.specs.LoadRefusals.{IsManifestLack, LacksStarts, LoadCause}

@@ -1,9 +1,9 @@
 use Rattle.std.proofs.Common.{rules, ◌≡◌, true, refl, sym, subst, ℕ, List, []}
+use Rattle.plain_laws.proofs.Results.{if_ok, if_err, err_same}
 use Rattle.dir_model.specs.Local.{IsActive, Local}
 use Rattle.folder_building.proofs.Working.{worked_more}
 use Rattle.stage1.specs.Notes.{MadeFile, Synced, IsMarked}
 use Rattle.stage1.specs.Refusals.{NoteCause}
-use Rattle.stage1.proofs.Results.{if_ok, if_err, err_same}
 use Rattle.stage1.proofs.Noted.{stays_more, marked, made_mark}
 use Rattle.stage1.proofs.Causes.{note_after}
 use Rattle.dir_model.specs.declared.request.Request.TheVariants.{MakeFileIn}

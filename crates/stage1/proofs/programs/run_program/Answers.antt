@@ -1,9 +1,9 @@
 use Rattle.std.proofs.Common.{[], ◌∷◌}
+use Rattle.plain_laws.proofs.Results.{if_ok, if_err}
 use Rattle.stage1.specs.Asking.{Asks}
 use Rattle.stage1.specs.Sequences.{start_call, wait_call}
 use Rattle.stage1.specs.Programs.{wait_request, SpawnWasRefused, RanProgram, ProgramCut}
 use Rattle.stage1.specs.Refusals.{SpawnCause}
-use Rattle.stage1.proofs.Results.{if_ok, if_err}
 use Rattle.stage1.proofs.Asked.{asks_more}
 use Rattle.stage1.proofs.Causes.{spawn_after}
 use Rattle.stage1.proofs.OneApp.{unstarted, unwaited}

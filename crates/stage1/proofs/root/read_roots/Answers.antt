@@ -1,12 +1,13 @@
 use Rattle.std.proofs.Common.{rules, arith, ◌≡◌, ◌+◌, true, List, [], take, drop, refl, subst}
 use Rattle.std.proofs.lemmas.List.{take_all}
-use Rattle.image_reading.proofs.Results.{if_err, err_same}
+use Rattle.plain_laws.proofs.Results.{if_err, err_same}
 use Rattle.manifests.specs.declared.runtime_app.RuntimeApp.{RuntimeApp}
 use Rattle.stage1.specs.AppPlaces.{tree_path, told_path}
 use Rattle.stage1.specs.AppFiles.{LacksRootListing, AreAppRoots}
 use Rattle.stage1.specs.LoadRefusals.{IsDamageFor, IsRootsLack}
 use Rattle.pod_files.proofs.Reading.{reads_none, reads_more}
-use Rattle.stage1.proofs.Rooted.{names, names_around, roots_none, roots_next}
+use Rattle.pod_files.proofs.AppNames.{names, names_around}
+use Rattle.stage1.proofs.Rooted.{roots_none, roots_next}
 use Rattle.stage1.proofs.Lacking.{lacks_one}
 use Rattle.stage1.proofs.root.read_roots.Goals as goal
 

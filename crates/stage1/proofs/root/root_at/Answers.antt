@@ -1,6 +1,6 @@
 use Rattle.std.proofs.Common.{◌≡◌, inl, true, refl}
+use Rattle.plain_laws.proofs.Results.{if_ok, if_err}
 use Rattle.image_reading.specs.Files.{most_of_tree}
-use Rattle.image_reading.proofs.Results.{if_ok, if_err}
 use Rattle.stage1.specs.AppPlaces.{tree_path, told_path}
 use Rattle.stage1.specs.AppFiles.{IsAppRootOf, IsNoListing, ReadsRoot, LacksRootListing}
 use Rattle.stage1.specs.LoadRefusals.{IsDamageFor}

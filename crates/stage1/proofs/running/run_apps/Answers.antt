@@ -4,13 +4,13 @@ use Rattle.folder_building.proofs.Working.{worked_none, worked_more}
 use Rattle.stage1.specs.declared.start.AppStart.{AppStart}
 use Rattle.stage1.specs.declared.stand.Stand.{Stand}
 use Rattle.std.proofs.lemmas.List.{take_all}
+use Rattle.plain_laws.proofs.Results.{if_ok, if_err, any_ok, any_err}
 use Rattle.stage1.specs.Beginnings.{AreMarked, AreStartedIn, AreStatusesWritten, running}
 use Rattle.stage1.specs.Cutting.{IsCutShort}
 use Rattle.stage1.specs.Endings.{HaveEnded, AreEndsBroken, WereWaitedFor}
 use Rattle.stage1.specs.Refusals.{RunCause}
 use Rattle.stage1.specs.Runs.{HaveRun}
 use Rattle.stage1.proofs.Pairs.{may_still}
-use Rattle.stage1.proofs.Results.{if_ok, if_err, any_ok, any_err}
 use Rattle.stage1.proofs.Noted.{stays_none, stays_more}
 use Rattle.stage1.proofs.Causes.{run_after, run_before}
 use Rattle.stage1.proofs.Whole.{have_run, cut_nothing, cut_begun, cut_ended}

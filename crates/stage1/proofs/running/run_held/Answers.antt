@@ -1,12 +1,12 @@
 use Rattle.std.proofs.Common.{ap, Err, sym, subst, List}
 use Rattle.std.specs.List.{AllByRecursion}
+use Rattle.plain_laws.proofs.Results.{if_ok, err_both}
 use Rattle.dir_model.specs.Local.{IsActive, Local}
 use Rattle.stage1.specs.declared.start.AppStart.{AppStart}
 use Rattle.stage1.specs.Starts.{IsPlacedIn}
 use Rattle.stage1.specs.declared.error.RunError.{RunError}
 use Rattle.stage1.specs.Cutting.{IsCutShort}
 use Rattle.stage1.specs.Runs.{HasRunStarts, HasRunHeld, StopCause, IsRefusedRun}
-use Rattle.stage1.proofs.Results.{if_ok, if_errs}
 use Rattle.stage1.proofs.Starting.{loads}
 use Rattle.stage1.proofs.Held.{in_run, at_run, runs_each, still_runs, worked_reads, worked_runs, refused_run, refused_load}
 use Rattle.stage1.specs.Keeping.{NotesAtMost, all_times}
@@ -58,7 +58,7 @@ returns-in-Ok-clause-refused g c =
     let new = D.shown c.run_starts.new.dir in
     let s = S.shown c.args.spawner.now in
     let s' = S.shown c.run_starts.new.spawner in
-    if_errs (λ e. IsCutShort S.observed c.deref.result.now s s') (λ e. StopCause D.observed e mid new s s') (λ e. IsRefusedRun D.observed S.observed c.args.pod c.args.address.now e old new s s') c.run_starts.result
+    err_both (λ e. IsCutShort S.observed c.deref.result.now s s') (λ e. StopCause D.observed e mid new s s') (λ e. IsRefusedRun D.observed S.observed c.args.pod c.args.address.now e old new s s') c.run_starts.result
     (λ e cut is. refused_run c.args.pod c.args.address.now c.in-Ok.apps.items e old mid new s s' c.pod_launches.ensures.only c.run_starts.ensures.went.extends c.in-Ok.ensures.read is (subst (λ (l : List AppStart). IsCutShort S.observed l s s') c.deref.ensures.value cut)) c.run_starts.ensures.cut c.run_starts.ensures.cause
 
 pub returns-in-Err-clause-worked : goal.returns-in-Err-clause-worked

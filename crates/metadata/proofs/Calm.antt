@@ -1,8 +1,8 @@
--- Looks in run change nothing.
+-- The looks of the metadata service change nothing that stands.
 use Rattle.std.proofs.Common.{◌≡◌, true, refl}
+use Rattle.dir_model.specs.declared.spot.Mode.TheVariants.{Shared, Exclusive}
 use Rattle.dir_model.specs.declared.request.Request.{Request}
 use Rattle.dir_model.specs.declared.request.Request.TheVariants.{Open, TryLock, Close, ListArea, ReadIn}
-use Rattle.dir_model.specs.declared.spot.Mode.TheVariants.{Shared, Exclusive}
 use Rattle.pod_report.proofs.QuietSurvey.{is_calm}
 use Rattle.metadata.specs.Looks.{looks_in_run}
 

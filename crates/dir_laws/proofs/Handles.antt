@@ -9,7 +9,7 @@ use Rattle.dir_model.specs.Replies.{done_reply}
 use Rattle.dir_model.specs.Local.{Local, is_handle_of, held_in, local_replied, IsOpen}
 use Rattle.dir_model.proofs.Lists.{any_map}
 
-same_number : (handle : Handle) (mode : Mode) (h : Holding) → is_handle_of handle (held_in handle mode h) ≡ is_handle_of handle h
+pub same_number : (handle : Handle) (mode : Mode) (h : Holding) → is_handle_of handle (held_in handle mode h) ≡ is_handle_of handle h
 same_number handle mode h = by (is_handle_of handle h)
   where
     by : (b : Bool) → is_handle_of handle (cond b (record h { lock = Some mode }) h) ≡ is_handle_of handle h

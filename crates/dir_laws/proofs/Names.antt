@@ -1,14 +1,16 @@
--- Names of apps as names of files, and paths that names are joined to.
+-- Names of apps as names of files, the paths that names are joined to, and those of a pod's files.
 use Rattle.std.proofs.Common.{◌≡◌, ◌==◌, ◌+◌, ◌/◌, ◌%◌, ◌≤◌, ◌<◌, nat_le, nat_lt, ℕ, zero, suc, Bool, true, false, not, ◌&&◌, ◌||◌, cond, codes, List, [], ◌∷◌, ◌++◌, length, refl, sym, ap, subst, arith, append_assoc, append-nil}
 use Rattle.std.specs.List.{list_all}
 use Rattle.std.specs.Str.{is_utf8, IsAscii}
 use Rattle.std.proofs.lemmas.Bool.Decides.{nat_tests}
 use Rattle.std.proofs.lemmas.Str.{IsUtf8-from_ascii, is_utf8-from_IsUtf8}
 use native.Mathlib.Nat.{mod-lt}
-use Rattle.dir_model.specs.Names.{is_file_byte}
+use Rattle.plain_laws.proofs.Numbers.{small}
+use Rattle.dir_model.specs.Names.{is_file_byte, IsFileName}
 use Rattle.dir_model.specs.Paths.{is_empty, is_slash, is_file_name, are_names, is_path}
 use Rattle.dir_model.proofs.Lists.{and_left, and_right, and_both, or_none, not_true}
-use Rattle.dir_rules.specs.Marks.{has_slash, parent, digits, created_mark}
+use Rattle.dir_model.proofs.Paths.{IsFileName-from_test}
+use Rattle.dir_rules.specs.Marks.{has_slash, parent, digits, created_mark, status_directory}
 use Rattle.ac_types.specs.Names.{is_word_byte, is_hyphen, are_words, IsAcName}
 
 -- a byte of a plain name
@@ -32,9 +34,6 @@ file_bytes : (bs : List ℕ) → ArePlain bs → list_all is_file_byte bs ≡ tr
 file_bytes [] p = refl
 file_bytes (b ∷ bs) p = and_both (is_file_byte b) (list_all is_file_byte bs) (file_byte b (and_left (is_plain b) (list_all is_plain bs) p)) (file_bytes bs (and_right (is_plain b) (list_all is_plain bs) p))
 
-small : (b : ℕ) → nat_lt b 128 ≡ true → b < 128
-small b h = grind (arith, nat_tests)
-
 ascii_byte : (b : ℕ) → is_plain b ≡ true → b < 128
 ascii_byte b p = small b (and_right (not (b == 0)) (nat_lt b 128) (and_right (not (b == 47)) (not (b == 0) && nat_lt b 128) p))
 
@@ -50,7 +49,7 @@ plain_name bs some short plain =
     (and_both (list_all is_file_byte bs) (is_utf8 bs) (file_bytes bs plain) (is_utf8-from_IsUtf8 bs (IsUtf8-from_ascii bs (ascii bs plain)))))
 
 -- names without a slash are one name
-one_name : (name bs : List ℕ) → has_slash bs ≡ false → is_file_name (name ++ bs) ≡ true → are_names name bs ≡ true
+pub one_name : (name bs : List ℕ) → has_slash bs ≡ false → is_file_name (name ++ bs) ≡ true → are_names name bs ≡ true
 one_name name [] none is = subst (λ (l : List ℕ). is_file_name l ≡ true) (append-nil name) is
 one_name name (b ∷ bs) none is = by (is_slash b) none (λ h. one_name (name ++ b ∷ []) bs h (subst (λ (l : List ℕ). is_file_name l ≡ true) (sym (append_assoc name (b ∷ []) bs)) is))
   where
@@ -59,7 +58,7 @@ one_name name (b ∷ bs) none is = by (is_slash b) none (λ h. one_name (name ++
     by false h rest = rest h
 
 -- names, a slash and names
-more_names : (name d n : List ℕ) → are_names name d ≡ true → are_names [] n ≡ true → are_names name (d ++ 47 ∷ n) ≡ true
+pub more_names : (name d n : List ℕ) → are_names name d ≡ true → are_names [] n ≡ true → are_names name (d ++ 47 ∷ n) ≡ true
 more_names name [] n p q = and_both (is_file_name name) (are_names [] n) p q
 more_names name (b ∷ bs) n p q = by (is_slash b) p (λ r. more_names [] bs n r q) (λ r. more_names (name ++ b ∷ []) bs n r q)
   where
@@ -111,22 +110,21 @@ some_words (b ∷ bs) h = refl
 within : (n : ℕ) → n ≤ 200 → nat_le n 255 ≡ true
 within n h = grind (arith, nat_tests)
 
--- an app's name is a file name
+-- an app's name is a file name, and may stand behind a directory
 pub record IsAppName (name : List ℕ) : Type 0 where
   pub some : is_empty name ≡ false
   pub small : length name ≤ 200
   pub short : nat_le (length name) 255 ≡ true
   pub plain : ArePlain name
   pub no_slash : has_slash name ≡ false
+  pub file : IsFileName name
 
 pub app_name : (name : List ℕ) → IsAcName name → IsAppName name
-app_name name is = record {
-  some = some_words name is.0;
-  small = is.1;
-  short = within (length name) is.1;
-  plain = plain_words name is.0;
-  no_slash = no_slashes name (plain_words name is.0);
-}
+app_name name is =
+    let some = some_words name is.0 in
+    let short = within (length name) is.1 in
+    let plain = plain_words name is.0 in
+    record { some = some; small = is.1; short = short; plain = plain; no_slash = no_slashes name plain; file = IsFileName-from_test name (plain_name name some short plain) }
 
 -- the mark of a pod's creation
 plain_digit : (n : ℕ) → n < 10 → is_plain (48 + n) ≡ true
@@ -146,8 +144,37 @@ created_has_no_slash now = no_slashes (created_mark now) (plain_digits 20 now)
 pub created_is_path : (now : ℕ) → is_path (created_mark now) ≡ true
 created_is_path now = plain_path (created_mark now) refl refl (plain_digits 20 now)
 
-no_parent : (b : ℕ) (bs : List ℕ) → has_slash bs ≡ false → parent (b ∷ bs) ≡ []
+pub no_parent : (b : ℕ) (bs : List ℕ) → has_slash bs ≡ false → parent (b ∷ bs) ≡ []
 no_parent b bs none = rw none refl
 
 pub created_parent : (now : ℕ) → parent (created_mark now) ≡ []
 created_parent now = no_parent 99 (codes "reated-" ++ digits 20 now) (no_slashes (codes "reated-" ++ digits 20 now) (plain_digits 20 now))
+
+-- the directories of roots
+pub stage1_path : is_path (codes "stage1") ≡ true
+stage1_path = plain_path (codes "stage1") refl refl refl
+
+pub rootfs_path : is_path (codes "stage1/rootfs") ≡ true
+rootfs_path = plain_behind (codes "stage1") (codes "rootfs") stage1_path refl refl refl refl
+
+pub opt_path : is_path (codes "stage1/rootfs/opt") ≡ true
+opt_path = plain_behind (codes "stage1/rootfs") (codes "opt") rootfs_path refl refl refl refl
+
+pub stage2_path : is_path (codes "stage1/rootfs/opt/stage2") ≡ true
+stage2_path = plain_behind (codes "stage1/rootfs/opt") (codes "stage2") opt_path refl refl refl refl
+
+pub rkt_path : is_path (codes "stage1/rootfs/rkt") ≡ true
+rkt_path = plain_behind (codes "stage1/rootfs") (codes "rkt") rootfs_path refl refl refl refl
+
+pub status_path : is_path status_directory ≡ true
+status_path = plain_behind (codes "stage1/rootfs/rkt") (codes "status") rkt_path refl refl refl refl
+
+-- the files of every pod
+pub token_form : is_path (codes "token") ≡ true
+token_form = plain_path (codes "token") refl refl refl
+
+pub manifest_form : is_path (codes "pod") ≡ true
+manifest_form = plain_path (codes "pod") refl refl refl
+
+pub info_path : is_path (codes "appsinfo") ≡ true
+info_path = plain_path (codes "appsinfo") refl refl refl
