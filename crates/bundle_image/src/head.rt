@@ -8,9 +8,9 @@ ghost use Rattle.bundle_image.specs.Heads as form;
 ghost use Rattle.bundle_image.specs.Heads.{bundle_file_at, IsBundleManifestOf, IsManifestFault, IsIdFile, IsIdFault, BundleGivesManifest, FailsManifest, BundleGivesId, FailsId, BundleGivesTree, FailsTree};
 
 use crate::place::child;
+use crate::read_file;
 use crate::refusal::{BundleRefusal, bundle_refusal, listing_refusal, short_of_memory};
 use ac_types::{BadId, ImageId, ReadError, Text};
-use crate::read_file;
 use dir_trait::{Bundle, BundleError};
 use manifests::{ImageManifest, read_image};
 use std::alloc::Global;

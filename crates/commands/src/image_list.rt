@@ -12,9 +12,9 @@ ghost use Rattle.commands.specs.ImageList.{image_line_text, images_text, image_l
 ghost use Rattle.command_outcomes.specs.Moments.{dir_at};
 
 use ac_types::NoMemory;
-use dir_files::{LockError, lock_area, unlock_area};
 use command_outcomes::{Output, Refusal};
 use dep_match::Stored;
+use dir_files::{LockError, lock_area, unlock_area};
 use dir_trait::{Area, Dir, Mode};
 use image_reading::{StoreError, stored};
 use std::alloc::Global;

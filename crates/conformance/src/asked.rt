@@ -22,9 +22,7 @@ fn asks_at(intent: &Option<Intent>, moment: Option<u64>, name: &Name) -> bool
             .as_str()
             .as_bytes()
             .starts_with(intent.word.as_str().as_bytes()),
-        (Kind::Gc, Some(moment)) => {
-            intent.expire <= intent.now.saturating_sub(moment)
-        }
+        (Kind::Gc, Some(moment)) => { intent.expire <= intent.now.saturating_sub(moment) }
         _ => false,
     }
 }

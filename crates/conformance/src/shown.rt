@@ -10,7 +10,8 @@ use dir_model::{Area, Handle, Inner, Item, Name, Names, NoMemory, Spot};
 use dir_rules::{Held, ShownArea, ShownItem};
 use lock_rules::{gives_up_exclusive_gate, gives_up_removal};
 use marks::{
-    created_moment, is_empty, is_in, is_stage, later, parent, path_in, push_front, same_inner, same_spot,
+    created_moment, is_empty, is_in, is_stage, later, parent, path_in, push_front, same_inner,
+    same_spot,
 };
 use std::alloc::Global;
 use std::mem;

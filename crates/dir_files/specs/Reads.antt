@@ -21,7 +21,6 @@ use Rattle.dir_rules.specs.Seen.{inner_eq}
 use Rattle.dir_rules.specs.Rules.{may_read_area}
 use Rattle.dir_trait.specs.DirCalls.{DirAt, ExtendsBy, HeldBetween}
 use Rattle.dir_trait.specs.Knowledge.{Knows}
-use Rattle.dir_trait.specs.Effects.{OnlyAsksAndKeeps}
 
 abbrev pub inner_at : Spot → List ℕ → Inner
 inner_at spot path = record { spot = spot; path = path }
@@ -104,8 +103,12 @@ abbrev pub KeepsKnown : Area → DirAt → DirAt → Type 0
 KeepsKnown area old new = (s : Seen) → may_read area s.standing ≡ true → Knows old s → Knows new s
 
 -- nothing was asked for but this file, and nothing has changed
-abbrev pub OnlyReads : Bool → Inner → DirAt → DirAt → Type 0
-OnlyReads observed inner old new = OnlyAsksAndKeeps observed (reads_at inner) (KeepsKnown inner.spot.area) old new
+pub record OnlyReads (observed : Bool) (inner : Inner) (old new : DirAt) : Type 0 where
+  pub same : new.process ≡ old.process
+  pub faults : old.faults ≤ new.faults
+  pub local : new.local ≡ old.local
+  pub extends : observed ≡ true → ExtendsBy (reads_at inner) old new
+  pub known : observed ≡ true → KeepsKnown inner.spot.area old new
 
 -- one call for each 65,536 bytes of so many, and one for what is left over
 abbrev pub IsCounted : ℕ → DirAt → DirAt → Type 0

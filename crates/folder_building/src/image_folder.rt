@@ -4,11 +4,10 @@ ghost use Rattle.folder_building.specs.Plans.{is_plan};
 ghost use Rattle.folder_building.specs.TreePlans.{plan_entry_at};
 ghost use Rattle.folder_building.specs.ImagePlans.{id_file, given_file, mark_file, image_entries, MakesImage};
 
-use marks::mark_text;
+use crate::{Content, PlanEntry, tree_plan};
 use ac_types::{ImageId, NoMemory, Text};
 use dir_trait::Bytes;
-use crate::{Content, PlanEntry};
-use crate::tree_plan;
+use marks::mark_text;
 use std::alloc::Global;
 use tree_digest::Listing;
 

@@ -3,9 +3,9 @@ ghost use Rattle.std.specs.Prelude.{◌≡◌, ◌++◌, IfOk, option_to_list};
 ghost use Rattle.folder_building.specs.Materialized.{prefixed_path};
 ghost use Rattle.folder_building.specs.TreePlans.{tree_entry, tree_entries, content_of, MakesTree, CarriesOn};
 
+use crate::{Content, Origin, PlanEntry};
 use ac_types::{NoMemory, Text};
 use dir_trait::Name;
-use crate::{Content, Origin, PlanEntry};
 use path_map::Entry;
 use std::alloc::Global;
 use tree_digest::{Listing, ListingLine};

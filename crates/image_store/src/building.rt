@@ -14,8 +14,7 @@ use crate::error::{change_refusal, out_of_memory};
 use crate::refusing::build_refusal;
 use bundle_image::BundleImage;
 use dir_trait::{Area, Bundle, Dir, PodId, Spot};
-use folder_building::{BundleSource, PlanEntry, carry_out};
-use folder_building::image_plan;
+use folder_building::{BundleSource, PlanEntry, carry_out, image_plan};
 use image_reading::StoreError;
 use std::alloc::Global;
 

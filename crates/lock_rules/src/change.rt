@@ -113,7 +113,10 @@ fn note_name(seen_unowned_under_claim: &mut Vec<Name>, target: &Target) -> Resul
     ensures { OnOk result (seen_unowned_under_claim.new.items ≡ prepared_name target.now ++ seen_unowned_under_claim.old.items) }
 {
     match target {
-        Target::Own(spot) if is_in(Area::Prepared, spot.area) => push_front(seen_unowned_under_claim, spot.name),
+        Target::Own(spot) if is_in(Area::Prepared, spot.area) => push_front(
+            seen_unowned_under_claim,
+            spot.name,
+        ),
         _ => Ok(()),
     }
 }

@@ -118,7 +118,8 @@ impl StandingTable {
     pub fn has_cleared(&self, name: &Name) -> bool
         ensures { result ≡ is_name_among name.now (table_standing self.now).seen_unowned_under_claim }
     {
-        self.seen_unowned_under_claim.iter().any(|seen_unowned_under_claim| seen_unowned_under_claim == name)
+        self.seen_unowned_under_claim.iter().any(|seen_unowned_under_claim| seen_unowned_under_claim
+            == name)
     }
 
     /// Whether it had the own lock shared that it opened there.
@@ -178,7 +179,8 @@ impl StandingTable {
         ensures { OnOk result (table_standing self.new ≡ given_up handle (table_standing self.old)) }
     {
         let before = Vec::from_slice(*self.holdings.allocator(), &self.holdings)?;
-        self.embryo_under_lock = !gives_up_shared_gate(Area::Embryo, handle, &before) && self.embryo_under_lock;
+        self.embryo_under_lock = !gives_up_shared_gate(Area::Embryo, handle, &before)
+            && self.embryo_under_lock;
         drop_held(&mut self.holdings, handle);
         recover_all(&mut self.holdings, handle, &before);
         drop_cleared(&mut self.seen_unowned_under_claim, handle, &before);

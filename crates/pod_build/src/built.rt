@@ -12,9 +12,9 @@ ghost use Rattle.pod_build.specs.Makings.{HasMade};
 ghost use Rattle.pod_build.specs.Handovers.{HandsOverMade};
 
 use crate::error::{BuildError, make_refusal};
+use crate::{make_prepared, make_running};
 use dir_trait::{Dir, PodId};
 use folder_building::PlanEntry;
-use crate::{make_prepared, make_running};
 use pod_locks::Owned;
 use std::alloc::Global;
 

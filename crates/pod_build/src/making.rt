@@ -15,8 +15,8 @@ ghost use Rattle.pod_build.specs.Handovers.{HandsOverMade};
 ghost use Rattle.pod_locks.specs.Running.{IsOwned, RunsPod};
 
 use crate::embryo::begin_pod;
-use crate::make_error::MakeError;
 use crate::filling::finish_pod;
+use crate::make_error::MakeError;
 use dir_trait::{Area, Dir, Mode, PodId};
 use folder_building::PlanEntry;
 use pod_locks::Owned;

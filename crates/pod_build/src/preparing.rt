@@ -13,8 +13,8 @@ ghost use Rattle.pod_build.specs.Answers.{target, with_built, held_with, IsBuild
 ghost use Rattle.pod_build.specs.Causes.{IsBuildRefused, IsRefusedUnderLock, AreaHeldElsewhere, IsMadeByPlan, FindsImagesFree};
 ghost use Rattle.pod_build.specs.Preparations.{Began, IsAlone, HasGateAlone, HasPrepared, KnowsPrepared, HandsOverPlanned, IsHandedOver, IsPrepared, MakesFaithfully};
 
-use crate::error::{BuildError, gate_refusal, plan_refusal};
 use crate::built::{Built, make};
+use crate::error::{BuildError, gate_refusal, plan_refusal};
 use ac_types::ImageRef;
 use dir_files::{lock_area, unlock_area};
 use dir_trait::{Area, Dir, Draw, Handle, Mode};

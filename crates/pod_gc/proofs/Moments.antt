@@ -6,7 +6,6 @@ use Rattle.dir_laws.proofs.Later.{later_assoc}
 use Rattle.dir_rules.specs.Marks.{mark_moment}
 use Rattle.pod_gc.specs.Ages.{moment_among}
 
-
 later_none : (a : Option ℕ) → a ≡ later a None
 later_none None = refl
 later_none (Some a) = refl

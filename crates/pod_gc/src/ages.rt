@@ -16,8 +16,8 @@ ghost use Rattle.pod_gc.specs.Sweeping.{NotesMark};
 use crate::gc_error::{GcError, listing_fault};
 use dir_files::items_of;
 use dir_trait::{Area, Dir, DirError, Item, PodId};
-use pod_locks::pod_spot;
 use marks::{later, moment_of};
+use pod_locks::pod_spot;
 use std::alloc::Global;
 
 /// The times of a sweep, in seconds, by which its contract tells the ages of pods.

@@ -15,8 +15,8 @@ ghost use Rattle.pod_gc.specs.Found.{RoundWent, RoundRefused, PutAwayIfObserved,
 
 use crate::aside::{discard_aborted, retire_exited};
 use crate::deletion::delete_at;
-use crate::remove_error::{RemoveError, refusal};
 use crate::prepared::discard_prepared;
+use crate::remove_error::{RemoveError, refusal};
 use dir_trait::{Area, Dir, Phase, PodId};
 use phase_read::{Found, read_phase};
 use pod_locks::{Setback, look_setback};

@@ -20,8 +20,8 @@ use crate::ages::{Times, is_ripe, is_young, marked_at};
 use crate::gc_error::GcError;
 use crate::kept::{kept, kept_exited};
 use crate::line::{Deed, deed_of};
-use dir_trait::{Area, Dir, Phase, PodId};
 use crate::{delete_at, discard_aborted, discard_prepared, retire_exited};
+use dir_trait::{Area, Dir, Phase, PodId};
 use pod_locks::{Setback, put_aside};
 use std::alloc::Global;
 

@@ -14,8 +14,7 @@ use crate::ages::Times;
 use crate::deals::deal;
 use crate::gc_error::{GcError, listing_fault, lock_fault};
 use crate::line::{Deed, GcLine};
-use dir_files::{LockError, lock_area, unlock_area};
-use dir_files::names_of;
+use dir_files::{LockError, lock_area, names_of, unlock_area};
 use dir_trait::{Area, Dir, Mode, Name, PodId};
 use std::alloc::Global;
 

@@ -17,8 +17,8 @@ ghost use Rattle.pod_locks.specs.Claims.{HasPod};
 ghost use Rattle.pod_locks.specs.Elsewhere.{MetOwner, MetOwnerThen};
 
 use crate::claim_error::ClaimError;
-use crate::locks::take_and_run;
 use crate::claim_setback::{Setback, look_refusal};
+use crate::locks::take_and_run;
 use dir_trait::{Dir, Handle, Phase, PodId};
 use phase_read::{Found, read_phase};
 use std::alloc::Global;

@@ -12,11 +12,11 @@ ghost use Rattle.pod_locks.specs.Claims.{and_owned, HasPod, ClaimRefusedByAnothe
 ghost use Rattle.pod_locks.specs.Elsewhere.{MetOwner};
 ghost use Rattle.pod_locks.specs.Running.{IsOwned, RunsPod};
 
+use crate::Owned;
 use crate::attempt::attempt;
 use crate::claim_error::ClaimError;
 use crate::claim_setback::{Setback, last_refusal};
 use dir_trait::{Area, Dir, Handle, PodId};
-use crate::Owned;
 use std::alloc::Global;
 
 // What a process owns that has moved the pod to run.

@@ -12,8 +12,8 @@ ghost use Rattle.pod_locks.specs.ClaimCauses.{ClaimWasStopped, ClaimStopsAlone, 
 ghost use Rattle.pod_locks.specs.Claims.{HasPod};
 
 use crate::claim_error::ClaimError;
-use crate::place::pod_spot;
 use crate::claim_setback::{Setback, lock_setback, look_refusal, set_back};
+use crate::place::pod_spot;
 use dir_trait::{Area, Dir, Handle, Mode, PodId, Which};
 use phase_read::look;
 use std::alloc::Global;

@@ -10,8 +10,8 @@ ghost use Rattle.image_reading.specs.Looks.{OnlyReadsImages};
 ghost use Rattle.pod_plan.specs.Roots.{ComesOnce, IsRootAsRead, AreImageRoots};
 ghost use Rattle.pod_plan.specs.RootRefusals.{IsListingRefusal, IsRootRefusal, IsRootsRefusal};
 
-use crate::plan_error::{PlanError, listing_refusal};
 use crate::laying::read_rendering;
+use crate::plan_error::{PlanError, listing_refusal};
 use ac_types::Sequence;
 use dep_match::{DepTree, Stored};
 use dir_trait::Dir;

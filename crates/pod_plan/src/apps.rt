@@ -3,11 +3,11 @@ ghost use Rattle.std.specs.Prelude.{◌≡◌, ◌<◌, ◌++◌, ◌∷◌, [],
 ghost use Rattle.std.specs.List.{All};
 ghost use Rattle.pod_plan.specs.Plans.{app_with_root, apps_with};
 
+use crate::PodApp;
 use crate::app_root::Root;
 use ac_types::NoMemory;
 use dir_trait::Bytes;
 use manifests::RuntimeApp;
-use crate::PodApp;
 use std::alloc::Global;
 
 /// Adds an app, with its image's manifest and its root.

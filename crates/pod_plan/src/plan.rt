@@ -9,18 +9,17 @@ ghost use Rattle.folder_building.specs.Plans.{is_plan};
 ghost use Rattle.pod_plan.specs.PodPlans.{ComesInTurn, MakesWhole};
 ghost use Rattle.pod_plan.specs.Plans.{apps_of, folders, IsChoiceReady, ArePlanParts, IsPlanOf};
 
-use crate::apps::apps_with;
-use crate::plan_error::short_of_memory;
-use crate::images::StoreImages;
 use crate::app_root::Root;
+use crate::apps::apps_with;
+use crate::images::StoreImages;
+use crate::plan_error::short_of_memory;
+use crate::{Choice, PodApp, pod_plan};
 use ac_types::{NoMemory, Sequence, StoreKey};
 use dep_match::Stored;
 use dir_trait::{Bytes, Name};
 use folder_building::PlanEntry;
 use image_reading::spot_of;
 use manifest_writing::pod_bytes;
-use crate::Choice;
-use crate::{PodApp, pod_plan};
 use std::alloc::Global;
 
 /// The name of an image's folder.

@@ -3,10 +3,10 @@ ghost use Rattle.std.specs.Prelude.{◌≡◌};
 ghost use Rattle.image_reading.specs.Refusals.{IsReadRefusal};
 ghost use Rattle.pod_plan.specs.PlanRefusals.{IsAnyPath, plan_store_refusal, choice_refusal, plan_listing_refusal};
 
+use crate::ChoiceError;
 use ac_types::{NoMemory, Text};
 use dep_match::DepError;
 use image_reading::StoreError;
-use crate::ChoiceError;
 use pod_manifest::GenError;
 use render::RenderError;
 use tree_digest::ListingError;

@@ -11,12 +11,12 @@ ghost use Rattle.stage1.specs.Refusals.{SpawnCause, RunCause};
 ghost use Rattle.stage1.specs.Keeping.{NotesAtMost, going_times, beginning_times, all_begun_times};
 ghost use Rattle.dir_trait.specs.Effects.{OnlyAsks};
 
+use crate::AppStart;
 use crate::error::{Fault, out_of_memory};
 use crate::notes::{mark_started, note_status};
 use crate::programs::{make_ready, run_handler, start_program};
 use crate::stand::Stand;
 use dir_trait::Dir;
-use crate::AppStart;
 use spawner::Spawner;
 use std::alloc::Global;
 

@@ -13,12 +13,12 @@ ghost use Rattle.stage1.specs.Keeping.{NotesAtMost, status_times, end_times, all
 ghost use Rattle.stage1.specs.Runs.{AddsWritten, AreWrittenAll};
 ghost use Rattle.dir_trait.specs.Effects.{OnlyAsks};
 
+use crate::AppStart;
 use crate::error::Fault;
 use crate::notes::note_status;
 use crate::programs::{run_handler, wait_for};
 use crate::stand::Stand;
 use dir_trait::Dir;
-use crate::AppStart;
 use spawner::{Child, Spawner};
 use std::alloc::Global;
 

@@ -7,9 +7,9 @@ ghost use Rattle.stage1.specs.Asking.{Asks, StartedIn};
 ghost use Rattle.stage1.specs.Programs.{SpawnWasRefused, ready_request, start_request, wait_request, RanProgram, ProgramCut, RanHandler, HandlerCut};
 ghost use Rattle.stage1.specs.Refusals.{SpawnCause};
 
+use crate::AppStart;
 use crate::error::{Fault, spawn_fault};
 use dir_trait::Dir;
-use crate::AppStart;
 use spawner::{Child, Spawner, Words};
 use std::alloc::Global;
 

@@ -4,8 +4,8 @@ ghost use Rattle.stage1.specs.Starts.{IsAppStart, AddsStart, AreStarts};
 ghost use Rattle.stage1.specs.LoadRefusals.{IsProgramMissing, AreMissing, IsMissingAmong};
 
 use crate::load_error::{LoadError, no_memory, short_of_memory};
-use crate::run_place::root_of;
 use crate::root::Root;
+use crate::run_place::root_of;
 use crate::start::AppStart;
 use ac_types::{AcName, Text};
 use dir_trait::PodId;
