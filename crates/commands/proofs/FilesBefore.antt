@@ -4,7 +4,7 @@ use Rattle.std.specs.Prelude.{slice_index_or}
 use Rattle.std.specs.List.{All, AllByRecursion, cons_option, flat_map, slice_get}
 use Rattle.std.proofs.lemmas.Grind.{common_steps}
 use Rattle.std.proofs.lemmas.List.Elements.{All-head, All-tail}
-use Rattle.plain_laws.proofs.Lists.{head_of, tail_of}
+use Rattle.plain_laws.proofs.Lists.{head_of, tail_of, at_place}
 use Rattle.plain_laws.proofs.Fronts.{not_cut}
 use Rattle.sha2.specs.Sha512.{sha512}
 use Rattle.ac_types.specs.declared.store_key.StoreKey.{StoreKey}
@@ -63,11 +63,6 @@ whole_front : (bytes file : List ℕ) → bytes ≡ take (suc (length bytes)) fi
 whole_front bytes file first =
     let e : length bytes ≡ length (take (suc (length bytes)) file) = ap length first in
     first ∙ not_cut (suc (length bytes)) file (omega (arith, e))
-
--- the element at a place
-at_place : {X : Type 0} (before rest : List X) (x : X) → slice_get (before ++ x ∷ rest) (length before) ≡ Some x
-at_place [] rest x = refl
-at_place (y ∷ before) rest x = at_place before rest x
 
 -- the folder of an image, by its place
 folder_there : (images : List Stored) (i : ℕ) → i < length images → slice_get (folders images) i ≡ Some (id_text (key_at images i).bytes)

@@ -33,7 +33,7 @@ use Rattle.command_outcomes.specs.Meanwhile.{Meanwhile}
 use Rattle.commands.specs.ImageRm.{RemovesStoredImage}
 use Rattle.commands.proofs.OwnSteps.{in_process, same_folders}
 use Rattle.commands.proofs.RemovalQuiet.{held_before}
-use Rattle.commands.proofs.GcQuiet.{Leaves}
+use Rattle.commands.proofs.GcQuiet.{Leaves, leaves_same}
 
 -- no folder stands at the location
 abbrev pub NoneAt : Spot → List (Option Spot) → Type 0
@@ -228,10 +228,6 @@ module _ (key : StoreKey) (draw : PodId) where
             let z = upto_more b m.ended new (at.rest, at.ends) last in
             (absent_at (state_after new).namespace home (none_home new (upto_more between b new y z) ([], sym (append-nil new))), inr (held_before (is_against Removed Exclusive) whole quiet))
 
-pub folders_same : (s : DirState) (es : List Event) → AllByRecursion Leaves es → (states_next s es).namespace.folders ≡ s.namespace.folders
-folders_same s [] all = refl
-folders_same s (e ∷ es) all = folders_same (state_next s e) es all.1 ∙ all.0 e.process s.namespace
-
 leaves_folders : (request : Request) (reply : Reply) → (is_kill request || (is_begin request || is_taking_area Images Exclusive request)) ≡ true → (p : ℕ) (w : Namespace) → (namespace_replied w p request reply).folders ≡ w.folders
 leaves_folders (MakeFolder here) reply h p w = cc
 leaves_folders (MoveFolder a b) reply h p w = cc
@@ -327,5 +323,5 @@ module _ (key : StoreKey) (draw : PodId) {me : ℕ} {old new : List Event} (quie
           (all_left Leaves es at.rest (subst (λ (l : List Event). AllByRecursion Leaves l) parted (leaves_call took))) in
           let here : at.before ++ at.step ∷ [] ≡ old ++ ((m.begins.more ++ f.first.more) ++ es) = ap (λ (h : List Event). h ++ at.step ∷ []) at.begins ∙ (ap (λ (h : List Event). (h ++ at.later) ++ at.step ∷ []) at_before ∙ simp append_assoc) in
           let same : (state_after (at.before ++ at.step ∷ [])).namespace.folders ≡ (state_after old).namespace.folders =
-          ap (λ (s : DirState). s.namespace.folders) (ap state_after here ∙ states_next-append empty_state old ((m.begins.more ++ f.first.more) ++ es)) ∙ folders_same (state_after old) ((m.begins.more ++ f.first.more) ++ es) leaves in
+          ap (λ (s : DirState). s.namespace.folders) (ap state_after here ∙ states_next-append empty_state old ((m.begins.more ++ f.first.more) ++ es)) ∙ leaves_same (state_after old) ((m.begins.more ++ f.first.more) ++ es) leaves in
           ap (λ (fs : List (Option Spot)). position (is_at (image_spot key)) fs) (sym same) ∙ at.holds

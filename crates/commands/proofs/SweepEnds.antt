@@ -37,8 +37,8 @@ use Rattle.command_outcomes.specs.Meanwhile.{Meanwhile}
 use Rattle.commands.specs.ImageGc.{SweepsImages}
 use Rattle.commands.proofs.OwnSteps.{in_process, same_folders}
 use Rattle.commands.proofs.RemovalQuiet.{held_before}
-use Rattle.commands.proofs.RemovalEnds.{NoneAt, absent_at, after_move, after_removal, removal_keeps, Upto, upto_more, upto_call, kept_between, folders_same}
-use Rattle.commands.proofs.GcQuiet.{Leaves}
+use Rattle.commands.proofs.RemovalEnds.{NoneAt, absent_at, after_move, after_removal, removal_keeps, Upto, upto_more, upto_call, kept_between}
+use Rattle.commands.proofs.GcQuiet.{Leaves, leaves_same}
 
 -- the folder of this name in the area
 abbrev pub place_in : Area → List ℕ → Spot
@@ -177,7 +177,7 @@ module _ {area : Area} {deed : List ℕ → Request} {deals : List (List ℕ) �
       let later : AllByRecursion Leaves (t.others ++ last ∷ []) = all_right Leaves t.earlier (t.others ++ last ∷ []) (subst (λ (l : List Event). AllByRecursion Leaves l) parted leave) in
       let here : listed ≡ t.begun ++ (t.others ++ last ∷ []) = t.ends ∙ append_assoc t.begun t.others (last ∷ []) in
       let same : (state_after listed).namespace.folders ≡ (state_after t.begun).namespace.folders =
-      ap (λ (s : DirState). s.namespace.folders) (ap state_after here ∙ states_next-append empty_state t.begun (t.others ++ last ∷ [])) ∙ folders_same (state_after t.begun) (t.others ++ last ∷ []) later in
+      ap (λ (s : DirState). s.namespace.folders) (ap state_after here ∙ states_next-append empty_state t.begun (t.others ++ last ∷ [])) ∙ leaves_same (state_after t.begun) (t.others ++ last ∷ []) later in
       d.shows.all name (throughout_same area name (state_after t.begun) t.others (all_left Leaves t.others (last ∷ []) later) (subst (λ (fs : List (Option Spot)). has_name (names_in area fs) name ≡ true) same at))
 
   pub none_left : NoneAt (place_in area name) (state_after new).namespace.folders

@@ -42,9 +42,9 @@ use Rattle.commands.specs.SweepTable.{is_barred, meets, AreImagePassLines, Barre
 use Rattle.commands.proofs.OwnSteps.{in_process, same_folders}
 use Rattle.commands.proofs.Openings.{free_before}
 use Rattle.commands.proofs.RemovalQuiet.{held_before}
-use Rattle.commands.proofs.RemovalEnds.{NoneAt, after_move, Upto, upto_more, kept_between, folders_same}
+use Rattle.commands.proofs.RemovalEnds.{NoneAt, after_move, Upto, upto_more, kept_between}
 use Rattle.commands.proofs.SweepEnds.{place_in, putting, Dealt, named_at, none_of, throughout_same, nothing_more, none_left, moves_elsewhere, puts, never, upto_passed, first_pass, to_between, from_between}
-use Rattle.commands.proofs.GcQuiet.{Leaves}
+use Rattle.commands.proofs.GcQuiet.{Leaves, leaves_same}
 use Rattle.commands.proofs.GcTurn.{later_all}
 
 -- names
@@ -176,7 +176,7 @@ listed_exactly {me} {a} {b} {area} {names} more grown shows leave name =
     let each : AllByRecursion Leaves (t.earlier ++ (t.others ++ last ∷ [])) = subst (λ (l : List Event). AllByRecursion Leaves l) parted leave in
     let others : AllByRecursion Leaves t.others = all_left Leaves t.others (last ∷ []) (all_right Leaves t.earlier (t.others ++ last ∷ []) each) in
     let same : (state_after t.begun).namespace.folders ≡ (state_after a).namespace.folders =
-    ap (λ (s : DirState). s.namespace.folders) (ap state_after t.begins ∙ states_next-append empty_state a t.earlier) ∙ folders_same (state_after a) t.earlier (all_left Leaves t.earlier (t.others ++ last ∷ []) each) in
+    ap (λ (s : DirState). s.namespace.folders) (ap state_after t.begins ∙ states_next-append empty_state a t.earlier) ∙ leaves_same (state_after a) t.earlier (all_left Leaves t.earlier (t.others ++ last ∷ []) each) in
     same_test (has_name names name) (has_name (names_in area (state_after t.begun).namespace.folders) name)
     (λ h. sometime_same area name (state_after t.begun) t.others others (shows.only name h)) (λ h. shows.all name (throughout_same area name (state_after t.begun) t.others others h))
     ∙ (ap (λ (fs : List (Option Spot)). has_name (names_in area fs) name) same ∙ named_at area name (state_after a).namespace.folders)

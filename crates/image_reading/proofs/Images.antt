@@ -23,7 +23,7 @@ module _ {observed : Bool} {asks : Request → Bool} {Keeps : DirAt → DirAt �
   moment_lack_after key c ab (inl absent) = inl (held_after t c ab absent)
   moment_lack_after key c ab (inr shown) = inr (marks_after t ab shown)
 
-  manifest_lack_after : (key : StoreKey) {a b : DirAt} (c : DirAt) → OnlyAsksAndKeeps observed asks Keeps a b → ReadsNoImageManifest key b c → ReadsNoImageManifest key a c
+  pub manifest_lack_after : (key : StoreKey) {a b : DirAt} (c : DirAt) → OnlyAsksAndKeeps observed asks Keeps a b → ReadsNoImageManifest key b c → ReadsNoImageManifest key a c
   manifest_lack_after key c ab l = lack_after t (image_inner key manifest_name) most_of_manifest IsNoImageManifest c ab l
 
   pub id_lack_after : (key : StoreKey) {a b : DirAt} (c : DirAt) → OnlyAsksAndKeeps observed asks Keeps a b → LacksId key b c → LacksId key a c

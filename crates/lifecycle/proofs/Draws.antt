@@ -19,7 +19,7 @@ use Rattle.dir_model.specs.Calls.{is_begin, is_kill, is_foreign, is_allowed, is_
 use Rattle.dir_rules.specs.Standing.{nothing_standing, draws, draws_by, shares_area, find_held, held_with_mode, looked_by, standing_replied, stood, standing_from, standing_of}
 use Rattle.dir_model.specs.Areas.{is_stage}
 use Rattle.dir_model.proofs.Chains.{run_from-left, run_from-right, run-left}
-use Rattle.lifecycle.specs.Executions.{IsConforming}
+use Rattle.lifecycle.specs.Executions.{IsDrawnOnce, IsConforming}
 use Rattle.lifecycle.proofs.Handles.{is_due}
 use Rattle.lifecycle.proofs.Lives.{begun_stays, begun_me}
 use Rattle.dir_model.specs.declared.intent.Intent.{Intent}
@@ -149,3 +149,7 @@ drawn_once trace before later l is u p q x y =
     let b = drawn u (standing_of q before).intent y in
     (conforming_left before later (subst (λ (h : List Event). IsConforming h) is l)).identities p q a.0 b.0 a.1.0 b.1.0
     (a.1.1 ∙ sym b.1.1)
+
+-- where one process alone begins, nothing is drawn twice
+pub drawn_by_one : (trace : List Event) (one : ℕ) → ((p : ℕ) (a : Intent) → (standing_of p trace).intent ≡ Some a → p ≡ one) → (drawn : Intent → List ℕ) → IsDrawnOnce drawn trace
+drawn_by_one trace one maker drawn p q a b x y is = maker p a x ∙ sym (maker q b y)

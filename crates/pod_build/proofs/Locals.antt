@@ -1,5 +1,5 @@
 -- What is open while a pod is made.
-use Rattle.std.proofs.Common.{◌≡◌, false, not, ◌||◌, ◌==◌, cond, IfOk, Some, None, Result, Ok, Err, List, [], ◌∷◌, ◌++◌, map, refl, sym, ap, ◌∙◌}
+use Rattle.std.proofs.Common.{◌≡◌, false, not, ◌==◌, cond, IfOk, Some, None, Result, Ok, Err, List, [], ◌∷◌, ◌++◌, refl, sym, ap, ◌∙◌}
 use Rattle.plain_laws.proofs.Lists.{none_before, none_last}
 use Rattle.plain_laws.proofs.Numbers.{flipped}
 use Rattle.dir_model.specs.declared.area.Area.{Area}

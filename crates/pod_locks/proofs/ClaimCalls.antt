@@ -1,5 +1,5 @@
 -- Single calls of a claim: what they leave open, and what their refusals rest on.
-use Rattle.std.proofs.Common.{◌≡◌, ◌||◌, ℕ, Bool, true, false, cond, Option, Some, None, Err, List, [], ◌∷◌, ◌++◌, map, refl, sym, ap, ◌∙◌, append-nil, arith}
+use Rattle.std.proofs.Common.{◌≡◌, ℕ, Bool, true, false, cond, Option, Some, None, Err, List, [], ◌∷◌, ◌++◌, refl, sym, ap, ◌∙◌, append-nil, arith}
 use Rattle.plain_laws.proofs.Texts.{same_bytes}
 use Rattle.dir_model.specs.declared.event.Event.{Event}
 use Rattle.dir_model.specs.declared.opening.Holding.{Holding}
@@ -15,7 +15,7 @@ use Rattle.dir_model.specs.declared.request.Reply.TheVariants.{Done, Opened, Ref
 use Rattle.dir_model.specs.declared.tree.TreeEntry.{TreeEntry}
 use Rattle.dir_model.specs.Calls.{CallStep, AtOwnStep}
 use Rattle.dir_model.specs.Causes.{Rose}
-use Rattle.dir_model.specs.Local.{Local, is_handle_of, held_in, with_handle, with_lock as locked_with, without, is_open_among, IsUnopened}
+use Rattle.dir_model.specs.Local.{Local, held_in, with_handle, with_lock as locked_with, without, IsUnopened}
 use Rattle.dir_model.specs.Locks.{target_of}
 use Rattle.dir_model.specs.Replies.{may_refuse, refused_in, open_refusal, is_error}
 use Rattle.dir_model.specs.State.{DirState, stands, folder_at}

@@ -9,12 +9,12 @@ use Rattle.dir_trait.specs.DirCalls.{DirAt}
 use Rattle.dir_trait.specs.Effects.{OnlyAsksAndKeeps}
 use Rattle.image_reading.specs.declared.error.StoreError.{StoreError}
 use Rattle.image_reading.specs.declared.error.StoreError.TheVariants.{Damaged, DirFault, NoMemory}
-use Rattle.image_reading.specs.Places.{image_inner, stored_path, manifest_name, tree_name}
+use Rattle.image_reading.specs.Places.{stored_path, manifest_name, tree_name}
 use Rattle.image_reading.specs.Refusals.{IsReadRefusal, IsDamaged}
-use Rattle.image_reading.specs.Files.{most_of_manifest, IsNoImageManifest, ReadsNoImageManifest, LacksTree}
+use Rattle.image_reading.specs.Files.{ReadsNoImageManifest, LacksTree}
 use Rattle.image_reading.specs.Store.{IsStorePath, LacksStore}
-use Rattle.image_reading.proofs.Widths.{file_after, file_before, lack_after}
-use Rattle.image_reading.proofs.Images.{tree_lack_after}
+use Rattle.image_reading.proofs.Widths.{file_after, file_before}
+use Rattle.image_reading.proofs.Images.{tree_lack_after, manifest_lack_after}
 use Rattle.pod_plan.proofs.Mapped.{split_at}
 use Rattle.pod_plan.specs.declared.images.StoreImages.{StoreImages}
 use Rattle.pod_plan.specs.Readings.{ReadsManifestBytes, HasTree, HaveManifests, KnowsTree, IsReadAgain}
@@ -27,11 +27,8 @@ module _ {observed : Bool} {asks : Request → Bool} {Keeps : DirAt → DirAt �
   pub tree_before : (key : StoreKey) (map : Entries) {a b c : DirAt} → HasTree key map a b → OnlyAsksAndKeeps observed asks Keeps b c → HasTree key map a c
   tree_before key map h bc = (h.0, file_before t h.1 bc, h.2)
 
-  pub manifest_lack_after : (key : StoreKey) {a b : DirAt} (c : DirAt) → OnlyAsksAndKeeps observed asks Keeps a b → ReadsNoImageManifest key b c → ReadsNoImageManifest key a c
-  manifest_lack_after key c ab l = lack_after t (image_inner key manifest_name) most_of_manifest IsNoImageManifest c ab l
-
   pub manifest_at_after : (key : StoreKey) (path : List ℕ) {a b : DirAt} (c : DirAt) → OnlyAsksAndKeeps observed asks Keeps a b → LacksManifestAt key path b c → LacksManifestAt key path a c
-  manifest_at_after key path c ab x = (x.0, manifest_lack_after key c ab x.1)
+  manifest_at_after key path c ab x = (x.0, manifest_lack_after t key c ab x.1)
 
   pub tree_lack_since : (key : StoreKey) (path : List ℕ) {a b : DirAt} (c : DirAt) → OnlyAsksAndKeeps observed asks Keeps a b → LacksTreeAt key path b c → LacksTreeAt key path a c
   tree_lack_since key path c ab x = (x.0, tree_lack_after t key c ab x.1)

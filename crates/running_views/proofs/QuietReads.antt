@@ -17,7 +17,7 @@ use Rattle.standing_images.proofs.Pieces.{all_told, is_front}
 use Rattle.metadata.specs.Looks.{looks_in_run}
 use Rattle.metadata.proofs.Calm.{looks_calm}
 use Rattle.running_views.specs.Laws.{ReadsUndisturbed}
-use Rattle.running_views.proofs.Same.{same_file}
+use Rattle.pod_report.proofs.QuietLines.{same_file}
 
 module _ {old new : DirAt} (only : OnlyAsksFor true looks_in_run old new) (alone : ReadsUndisturbed old new) where
   abbrev before : DirState

@@ -30,7 +30,8 @@ use Rattle.pod_report.proofs.QuietSurvey.{SameWorld}
 use Rattle.metadata.specs.Looks.{looks_in_run}
 use Rattle.metadata.specs.PodViews.{WasRunning, WasNotRunning}
 use Rattle.running_views.specs.Laws.{ReadsUndisturbed}
-use Rattle.running_views.proofs.Same.{same_folder, same_stands}
+use Rattle.pod_report.proofs.QuietLines.{same_folder}
+use Rattle.pod_report.proofs.SameStatus.{same_stands}
 use Rattle.running_views.proofs.QuietReads.{world_at}
 
 -- ---- by one state
