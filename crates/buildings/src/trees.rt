@@ -1,8 +1,7 @@
 // The plan of a listing's tree.
 use crate::rows::{Row, plan_of};
 use dir_trait::Name;
-use folder_building::{Content, Origin, PlanEntry};
-use folder_building::tree_plan;
+use folder_building::{Content, Origin, PlanEntry, tree_plan};
 use scripts::{Line, Page, ShortNames, Unread};
 use tree_digest::Listing;
 

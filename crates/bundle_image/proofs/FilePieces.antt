@@ -1,22 +1,13 @@
 -- One more piece of a file.
-use Rattle.std.proofs.Common.{arith, ◌≡◌, ◌⊎◌, inl, inr, ◌≤◌, ◌<◌, ◌+◌, ◌-◌, ℕ, Bool, true, nat_lt, min, List, [], ◌++◌, length, take, drop, refl, sym, ap, subst, ◌∙◌, Option, Some, None, IsSomeAnd}
+use Rattle.std.proofs.Common.{arith, ◌≡◌, ◌⊎◌, inl, inr, ◌≤◌, ◌<◌, ◌+◌, ◌-◌, ℕ, Bool, true, nat_lt, min, List, [], ◌++◌, length, take, drop, refl, sym, ap, subst, ◌∙◌, Option, Some, None, IsSomeAnd, take_all}
 use Rattle.std.proofs.Math.Seq.{take-add}
 use Rattle.std.proofs.lemmas.Grind.{common_steps}
+use Rattle.plain_laws.proofs.Fronts.{take_past, taken_past}
 use Rattle.dir_trait.specs.Bundles.{Fills}
-use Rattle.bundle_image.specs.Fronts.{IsBegun, IsFront}
+use Rattle.bundle_image.specs.Fronts.{IsFrontOrNothing, IsFront}
 
 take_front : (k n : ℕ) (xs ys : List ℕ) → k ≤ n → n ≤ length xs → take k (take n xs ++ ys) ≡ take k xs
 take_front k n xs ys = grind (arith, common_steps)
-
--- two fronts that end at the same place, or past the end
-take_past : (i j : ℕ) (xs : List ℕ) → min i (length xs) ≡ min j (length xs) → take i xs ≡ take j xs
-take_past i j xs = grind (arith, common_steps)
-
-all_taken : (xs : List ℕ) → take (length xs) xs ≡ xs
-all_taken xs = grind (arith, common_steps)
-
-taken_past : (n : ℕ) (xs : List ℕ) → length xs ≤ n → take n xs ≡ xs
-taken_past n xs within = grind (arith, common_steps)
 
 front_is_first : (xs old : List ℕ) → (old ≡ []) ⊎ (old ≡ take (length old) xs) → old ≡ take (length old) xs
 front_is_first xs old (inl e) = subst (λ (l : List ℕ). l ≡ take (length l) xs) (sym e) refl
@@ -46,15 +37,15 @@ module _ (file old room filled new : List ℕ) (n : ℕ) (first : old ≡ take (
   pub front : IsFront (nat_lt n (length filled)) new file
   front = record {
     first = new_is ∙ take_past (length old + n) (length new) file (let e = new_length in grind (arith, common_steps));
-    whole = λ short. new_is ∙ (take_past (length old + n) (length file) file (past short) ∙ all_taken file);
+    whole = λ short. new_is ∙ (take_past (length old + n) (length file) file (past short) ∙ take_all file);
   }
 
-pub next_front : (file : Option (List ℕ)) (old room filled new : List ℕ) (n : ℕ) → IsBegun file old → IsSomeAnd file (λ f. Fills f (length old) room n filled) → new ≡ old ++ take n filled → IsSomeAnd file (IsFront (nat_lt n (length filled)) new)
+pub next_front : (file : Option (List ℕ)) (old room filled new : List ℕ) (n : ℕ) → IsFrontOrNothing file old → IsSomeAnd file (λ f. Fills f (length old) room n filled) → new ≡ old ++ take n filled → IsSomeAnd file (IsFront (nat_lt n (length filled)) new)
 next_front None old room filled new n begun fills is = fills
 next_front (Some f) old room filled new n begun fills is = front f old room filled new n (front_is_first f old begun) fills is
 
 -- a front is a beginning
-pub still_begun : (file : Option (List ℕ)) (ended : Bool) (bytes : List ℕ) → IsSomeAnd file (IsFront ended bytes) → IsBegun file bytes
+pub still_begun : (file : Option (List ℕ)) (ended : Bool) (bytes : List ℕ) → IsSomeAnd file (IsFront ended bytes) → IsFrontOrNothing file bytes
 still_begun None ended bytes f = absurd f
 still_begun (Some xs) ended bytes f = inr f.first
 
@@ -68,7 +59,7 @@ full xs bytes most some least most_of (inl e) = let z : length bytes ≡ 0 = ap 
 full xs bytes most some least most_of (inr e) = let z : length bytes ≡ most = omega arith in e ∙ ap (λ (n : ℕ). take n xs) z
 
 -- where as many were read as were asked for, it is all too
-pub full_whole : (file : Option (List ℕ)) (bytes : List ℕ) (most : ℕ) → 0 < most → most ≤ length bytes → length bytes ≤ most → IsBegun file bytes → IsSomeAnd file (λ f. bytes ≡ take most f)
+pub full_whole : (file : Option (List ℕ)) (bytes : List ℕ) (most : ℕ) → 0 < most → most ≤ length bytes → length bytes ≤ most → IsFrontOrNothing file bytes → IsSomeAnd file (λ f. bytes ≡ take most f)
 full_whole None bytes most some least most_of (inl e) = let z : length bytes ≡ 0 = ap length e in absurd (omega arith)
 full_whole None bytes most some least most_of (inr e) = e
 full_whole (Some xs) bytes most some least most_of begun = full xs bytes most some least most_of begun

@@ -1,60 +1,23 @@
 -- What the first bytes of a file tell of the whole file.
-use Rattle.std.proofs.Common.{arith, ◌≡◌, ◌⊎◌, inl, inr, ◌<◌, ◌+◌, ℕ, Bool, true, false, eqb, nat_le, List, [], ◌∷◌, ◌++◌, length, take, get_or, Option, None, Some, IsSomeAnd, codes, refl, sym, ap, subst, ◌∙◌, ⊎_elim, length-append}
-use Rattle.std.specs.Prelude.{IsUtf8, nat_lt}
-use Rattle.std.specs.List.{list_all}
-use Rattle.std.specs.Str.{IsAscii}
-use Rattle.std.proofs.lemmas.Bool.{cases_Bool, cond-true, cond-false, and_from, and_parts, eq-eqb, eqb-true, ltb-true, false_from_ne_true}
-use Rattle.std.proofs.lemmas.Bool.Decides.{nat_tests}
-use Rattle.std.proofs.lemmas.Grind.{common_steps}
+use Rattle.std.proofs.Common.{arith, ◌≡◌, ◌⊎◌, inl, inr, ◌<◌, ℕ, true, false, eqb, List, [], ◌∷◌, ◌++◌, length, take, get_or, Option, None, Some, IsSomeAnd, codes, sym, ap, subst, ◌∙◌, ⊎_elim, length-append}
+use Rattle.std.specs.Prelude.{IsUtf8}
+use Rattle.std.proofs.lemmas.Bool.{cases_Bool, cond-true, cond-false, and_from, and_parts, eq-eqb, eqb-true, false_from_ne_true}
 use Rattle.std.proofs.lemmas.List.{take_at, get_or_at, take_more, take_all}
-use Rattle.std.proofs.lemmas.Str.{IsUtf8-from_ascii, IsAscii-append}
-use Rattle.std.proofs.lemmas.Str.Ascii.{IsAscii-nil, IsAscii-cons}
+use Rattle.plain_laws.proofs.Fronts.{not_cut, within_take}
 use Rattle.hex.specs.Hex.{encode_with, lower_digits}
-use Rattle.hex.proofs.HexLemmas.{length-encode_with, IsAscii-encode_with}
-use Rattle.ac_types.specs.declared.fault.FaultKind.TheVariants.{TooLong}
+use Rattle.hex.proofs.HexLemmas.{length-encode_with}
 use Rattle.ac_types.specs.Ids.{id_text, AreBytes}
-use Rattle.ac_types.specs.Outcomes.{reads, fails}
-use Rattle.manifest_parts.specs.DocumentForm.{document}
+use Rattle.ac_types.specs.Outcomes.{reads}
 use Rattle.manifests.specs.ImageData.{ImageData, image_data}
 use Rattle.manifests.specs.ImageForm.{image_manifest}
 use Rattle.manifests.specs.declared.image_manifest.ImageManifest.{ImageManifest}
+use Rattle.manifest_laws.proofs.Heads.{manifest_so, manifest_whole, id_utf8}
 use Rattle.bundle_image.specs.declared.refusal.BundleRefusal.{BundleRefusal}
 use Rattle.bundle_image.specs.declared.refusal.BundleRefusal.TheVariants as refusals
-use Rattle.bundle_image.specs.Heads.{IsManifestOf, IsManifestFault, IsIdFile, IsNoIdFile, IsIdFault, is_ended, without_end}
+use Rattle.bundle_image.specs.Heads.{IsBundleManifestOf, IsManifestFault, IsIdFile, IsNoIdFile, IsIdFault, is_ended, without_end}
 
-take_short : (n : ℕ) (bytes : List ℕ) → nat_le (length bytes) n ≡ true → take (n + 1) bytes ≡ bytes
-take_short n bytes short = grind (arith, nat_tests, common_steps)
-
-take_long : (n : ℕ) (bytes : List ℕ) → nat_le (length bytes) n ≡ false → nat_le (length (take (n + 1) bytes)) n ≡ false
-take_long n bytes long = grind (arith, nat_tests, common_steps)
-
-pub not_cut : (n : ℕ) (bytes : List ℕ) → length (take n bytes) < n → take n bytes ≡ bytes
-not_cut n bytes within = grind (arith, common_steps)
-
-document_too_long : (bytes : List ℕ) → nat_le (length bytes) 1048576 ≡ false → image_manifest bytes ≡ fails (codes "$") TooLong
-unfolding image_manifest document
-document_too_long bytes long = rw long
-
--- a manifest's first bytes are judged as the whole is
-pub manifest_so : (bytes : List ℕ) → image_manifest (take 1048577 bytes) ≡ image_manifest bytes
-manifest_so bytes = by (nat_le (length bytes) 1048576) refl
-  where
-    by : (short : Bool) → nat_le (length bytes) 1048576 ≡ short → image_manifest (take 1048577 bytes) ≡ image_manifest bytes
-    by true short = ap image_manifest (take_short 1048576 bytes short)
-    by false long = document_too_long (take 1048577 bytes) (take_long 1048576 bytes long) ∙ sym (document_too_long bytes long)
-
--- what is read is whole
-pub manifest_whole : (bytes : List ℕ) (read : ImageData) → image_manifest (take 1048577 bytes) ≡ reads read → take 1048577 bytes ≡ bytes
-manifest_whole bytes read is = by (nat_le (length bytes) 1048576) refl
-  where
-    by : (short : Bool) → nat_le (length bytes) 1048576 ≡ short → take 1048577 bytes ≡ bytes
-    by true short = take_short 1048576 bytes short
-    by false long =
-        let bad : reads read ≡ fails (codes "$") TooLong = sym is ∙ document_too_long (take 1048577 bytes) (take_long 1048576 bytes long) in
-        cc
-
-pub manifest_read : (file : Option (List ℕ)) (kept bytes : List ℕ) (manifest : ImageManifest) → IsSomeAnd file (λ f. bytes ≡ take 1048577 f) → (kept ≡ bytes) × IsManifestOf bytes manifest
-    → IsSomeAnd file (λ f. (kept ≡ f) × IsManifestOf f manifest)
+pub manifest_read : (file : Option (List ℕ)) (kept bytes : List ℕ) (manifest : ImageManifest) → IsSomeAnd file (λ f. bytes ≡ take 1048577 f) → (kept ≡ bytes) × IsBundleManifestOf bytes manifest
+    → IsSomeAnd file (λ f. (kept ≡ f) × IsBundleManifestOf f manifest)
 manifest_read None kept bytes manifest front is = absurd front
 manifest_read (Some f) kept bytes manifest front is =
     let read : image_manifest (take 1048577 f) ≡ reads (image_data manifest) = ap image_manifest (sym front) ∙ is.1 in
@@ -88,9 +51,6 @@ id_read (Some f) bytes id front is =
     let within = subst (λ (b : List ℕ). length b < 137) front (id_file_length bytes id is) in
     subst (λ (b : List ℕ). IsIdFile b id) (front ∙ not_cut 137 f within) is
 
-within_take : (n : ℕ) (bytes : List ℕ) → length bytes < n → take n bytes ≡ bytes
-within_take n bytes within = grind (arith, common_steps)
-
 pub no_id_read : (file : Option (List ℕ)) (bytes : List ℕ) → IsSomeAnd file (λ f. bytes ≡ take 137 f) → IsNoIdFile bytes → IsSomeAnd file IsNoIdFile
 no_id_read None bytes front none = absurd front
 no_id_read (Some f) bytes front none = λ id is.
@@ -111,19 +71,6 @@ trimmed_id bytes id (are, inr is) =
     let last : get_or bytes 135 0 ≡ 10 = ap (λ (b : List ℕ). get_or b 135 0) is ∙ get_or_at (id_text id) 10 [] 0 135 (id_length id are) in
     ended_at bytes (and_from (eqb (length bytes) 136) (eqb (get_or bytes 135 0) 10) (eq-eqb _ _ long) (eq-eqb _ _ last))
     ∙ (ap (take 135) is ∙ take_at (id_text id) (10 ∷ []) 135 (id_length id are))
-
-ascii_from : (bytes : List ℕ) → list_all (λ b. nat_lt b 128) bytes ≡ true → IsAscii bytes
-ascii_from [] all = IsAscii-nil
-ascii_from (x ∷ xs) all =
-    let parts = and_parts _ _ all in
-    IsAscii-cons x xs (ltb-true x 128 parts.0) (ascii_from xs parts.1)
-
--- an ID's text is a text
-pub id_utf8 : (id : List ℕ) → IsUtf8 (id_text id)
-unfolding id_text
-id_utf8 id =
-    IsUtf8-from_ascii (codes "sha512-" ++ encode_with lower_digits id)
-    (IsAscii-append (codes "sha512-") (encode_with lower_digits id) (ascii_from (codes "sha512-") refl) (IsAscii-encode_with lower_digits id (ascii_from lower_digits refl)))
 
 -- what isn't an ID's text, with its end cut, is no ID's file
 pub no_id : (bytes text : List ℕ) → text ≡ without_end bytes → ((id : List ℕ) → AreBytes 64 id → text ≡ id_text id → ⊥) → IsNoIdFile bytes
@@ -163,6 +110,6 @@ pub no_fault : (bytes : List ℕ) → (refusals.BundleFault ≡ refusals.NoMemor
 no_fault bytes (inl is) = cc
 no_fault bytes (inr is) = is
 
-pub has_manifest : (file : Option (List ℕ)) (bytes : List ℕ) (manifest : ImageManifest) → IsSomeAnd file (λ f. (bytes ≡ f) × IsManifestOf f manifest) → IsSomeAnd file (λ f. (m : ImageData) × (image_manifest f ≡ reads m))
+pub has_manifest : (file : Option (List ℕ)) (bytes : List ℕ) (manifest : ImageManifest) → IsSomeAnd file (λ f. (bytes ≡ f) × IsBundleManifestOf f manifest) → IsSomeAnd file (λ f. (m : ImageData) × (image_manifest f ≡ reads m))
 has_manifest None bytes manifest is = absurd is
 has_manifest (Some f) bytes manifest is = (image_data manifest, is.1)

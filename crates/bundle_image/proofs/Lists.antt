@@ -3,8 +3,8 @@ use Rattle.std.proofs.Common.{arith, ◌≡◌, ◌<◌, ℕ, suc, eqb, List, []
 use Rattle.std.specs.List.{All, AllByRecursion}
 use Rattle.std.proofs.lemmas.Bool.{ne_eqb, cond-false}
 use Rattle.dir_trait.specs.declared.bundle.BundleItem.{BundleItem}
-use Rattle.dir_trait.specs.Bundles.{Tree, kind_at, child_path, Lists}
-use Rattle.bundle_image.specs.Walks.{below, in_directory}
+use Rattle.dir_trait.specs.Bundles.{BundleTree, kind_at, child_path, Lists}
+use Rattle.bundle_image.specs.Walks.{subtree_below, in_directory}
 use Rattle.bundle_image.specs.Work.{ListsIn}
 
 by_recursion : {X : Type 0} (P : X → Type 0) (xs : List X) → All P xs → AllByRecursion P xs
@@ -16,7 +16,7 @@ child_is root path name some =
     ap (λ (front : List ℕ). front ++ name) (cond-false (eqb (length (root ++ path)) 0) [] ((root ++ path) ++ 47 ∷ []) (ne_eqb _ _ (λ e. omega (arith, e, length-append root path))))
     ∙ append_assoc (root ++ path) (47 ∷ []) name ∙ append_assoc root path (47 ∷ name)
 
-pub lists_in : (tree : Tree) (root path : List ℕ) (items : List BundleItem) → 0 < length root → Lists tree (root ++ path) items → ListsIn (below tree root) path items
+pub lists_in : (tree : BundleTree) (root path : List ℕ) (items : List BundleItem) → 0 < length root → Lists tree (root ++ path) items → ListsIn (subtree_below tree root) path items
 lists_in tree root path items some lists = record {
   directory = lists.directory;
   each = each items (by_recursion (λ item. kind_at (tree (child_path (root ++ path) item.name)) ≡ Some item.kind) items lists.each);

@@ -7,14 +7,14 @@ use Rattle.std.specs.Ordering.{is_eq}
 use Rattle.std.proofs.lemmas.Bool.{cases_Bool, cond-true, cond-false, false_from_ne_true}
 use Rattle.std.proofs.lemmas.Cmp.{nat_list_cmp_total, tied_itself}
 use Rattle.std.proofs.lemmas.Map.Lookups.{exact_bytes}
-use Rattle.dir_trait.specs.Bundles.{Tree}
+use Rattle.dir_trait.specs.Bundles.{BundleTree}
 use Rattle.path_map.specs.declared.entry.Entry.{Entry}
 use Rattle.path_map.specs.Entries.{entry_at, is_directory_at}
 use Rattle.tree_digest.specs.declared.line.ListingLine.{ListingLine}
 use Rattle.tree_digest.specs.Listings.{entries_of}
 use Rattle.tree_digest.proofs.MapLines.{is_equal}
 use Rattle.bundle_image.specs.Entries.{IsEntryOf}
-use Rattle.bundle_image.specs.Walks.{Stands, IsAtOrBelow, ComesBefore, IsLinePath, IsLineOf, IsWalked}
+use Rattle.bundle_image.specs.Walks.{Stands, IsAtOrBelow, ComesBefore, IsLinePath, IsLineOfBundle, IsWalked}
 use Rattle.bundle_image.proofs.Paths.{before_apart}
 
 is_here : (q path : List ℕ) → is_at (slice_cmp nat_cmp q) path ≡ true → q ≡ path
@@ -64,7 +64,7 @@ directory_left (l ∷ lines) line q is =
 some_same : {x y : Entry} → Some x ≡ Some y → x ≡ y
 some_same is = cc
 
-looked_each : (nodes : Tree) (lines : List ListingLine) → AllByRecursion (IsLineOf nodes) lines → (path : List ℕ) (entry : Entry) → entry_at (entries_of lines) path ≡ Some entry → Stands nodes path × IsEntryOf (nodes path) entry
+looked_each : (nodes : BundleTree) (lines : List ListingLine) → AllByRecursion (IsLineOfBundle nodes) lines → (path : List ℕ) (entry : Entry) → entry_at (entries_of lines) path ≡ Some entry → Stands nodes path × IsEntryOf (nodes path) entry
 looked_each nodes [] all path entry is = let bad : None ≡ Some entry = is in cc
 looked_each nodes (l ∷ lines) all path entry is =
     ⊎_elim
@@ -85,14 +85,14 @@ looked_some (l ∷ lines) path (inr there) =
     (cases_Bool (is_at (slice_cmp nat_cmp path) l.path))
 
 -- the lines of all that stands, by look-ups
-pub walked_lines : (nodes : Tree) (lines : List ListingLine) → AllByRecursion (IsLineOf nodes) lines → ((path : List ℕ) → Stands nodes path → IsLinePath lines path) → IsWalked nodes lines
+pub walked_lines : (nodes : BundleTree) (lines : List ListingLine) → AllByRecursion (IsLineOfBundle nodes) lines → ((path : List ℕ) → Stands nodes path → IsLinePath lines path) → IsWalked nodes lines
 walked_lines nodes lines each whole = record {
   each = looked_each nodes lines each;
   whole = λ path stands. looked_some lines path (whole path stands);
 }
 
 -- and of what has the same look-ups
-pub walked_same : (nodes : Tree) (lines others : List ListingLine) → ((q : List ℕ) → entry_at (entries_of others) q ≡ entry_at (entries_of lines) q) → IsWalked nodes lines → IsWalked nodes others
+pub walked_same : (nodes : BundleTree) (lines others : List ListingLine) → ((q : List ℕ) → entry_at (entries_of others) q ≡ entry_at (entries_of lines) q) → IsWalked nodes lines → IsWalked nodes others
 walked_same nodes lines others same walked = record {
   each = λ path entry is. walked.each path entry (sym (same path) ∙ is);
   whole = λ path stands. subst IsSome (sym (same path)) (walked.whole path stands);

@@ -2,15 +2,16 @@
 use Rattle.std.proofs.Common.{arith, ◌≡◌, inl, inr, ◌≤◌, ◌<◌, ℕ, Bool, true, List, length, take, ap, subst, ◌∙◌, Option, Some, None, IsSomeAnd, ⊎_elim}
 use Rattle.std.proofs.lemmas.Bool.{cases_lt}
 use Rattle.std.proofs.lemmas.Grind.{common_steps}
+use Rattle.plain_laws.proofs.Fronts.{front_length}
 use Rattle.dir_trait.specs.Bundles.{Fills}
-use Rattle.bundle_image.specs.Fronts.{IsBegun, IsFront}
+use Rattle.bundle_image.specs.Fronts.{IsFrontOrNothing, IsFront}
 use Rattle.bundle_image.specs.declared.file_sum.FileSum.{FileSum}
 use Rattle.bundle_image.specs.FileSums.{IsSumOf}
 use Rattle.bundle_image.specs.Links.{IsTargetOf}
 
 -- what is known of one file is known of an equal one
-pub carried : (ended : Bool) (old new : List ℕ) {file same : Option (List ℕ)} → file ≡ same → (IsBegun file old → IsSomeAnd file (IsFront ended new)) → IsBegun same old → IsSomeAnd same (IsFront ended new)
-carried ended old new is next = subst (λ (f : Option (List ℕ)). IsBegun f old → IsSomeAnd f (IsFront ended new)) is next
+pub carried : (ended : Bool) (old new : List ℕ) {file same : Option (List ℕ)} → file ≡ same → (IsFrontOrNothing file old → IsSomeAnd file (IsFront ended new)) → IsFrontOrNothing same old → IsSomeAnd same (IsFront ended new)
+carried ended old new is next = subst (λ (f : Option (List ℕ)). IsFrontOrNothing f old → IsSomeAnd f (IsFront ended new)) is next
 
 -- where the reading has ended, the sum is that of the file
 pub sum_whole : (file : Option (List ℕ)) (message : List ℕ) (ended : Bool) (sum : Option FileSum) → ended ≡ true → IsSomeAnd file (IsFront ended message) → IsSumOf message sum → IsSomeAnd file (λ bytes. IsSumOf bytes sum)
@@ -21,14 +22,11 @@ begun_long : (bytes message : List ℕ) (sum : Option FileSum) → 1073741824 < 
 begun_long bytes message None long within s = omega arith
 begun_long bytes message (Some sum) long within s = absurd (omega (arith, s.0))
 
-front_within : (bytes message : List ℕ) → message ≡ take (length message) bytes → length message ≤ length bytes
-front_within bytes message is = let e = ap length is in grind (arith, common_steps)
-
 -- where too much was read, the file is too long
-pub sum_long : (file : Option (List ℕ)) (message : List ℕ) (sum : Option FileSum) → 1073741824 < length message → IsBegun file message → IsSumOf message sum → IsSomeAnd file (λ bytes. IsSumOf bytes sum)
+pub sum_long : (file : Option (List ℕ)) (message : List ℕ) (sum : Option FileSum) → 1073741824 < length message → IsFrontOrNothing file message → IsSumOf message sum → IsSomeAnd file (λ bytes. IsSumOf bytes sum)
 sum_long file message sum long (inl none) s = absurd (omega (arith, ap length none))
 sum_long None message sum long (inr front) s = absurd front
-sum_long (Some bytes) message sum long (inr front) s = begun_long bytes message sum long (front_within bytes message front) s
+sum_long (Some bytes) message sum long (inr front) s = begun_long bytes message sum long (front_length bytes message front) s
 
 filled_front : (target room filled : List ℕ) (n : ℕ) → Fills target 0 room n filled → take n filled ≡ take n target
 filled_front target room filled n fills = let c = fills.count in let e = fills.room in grind (arith, common_steps)

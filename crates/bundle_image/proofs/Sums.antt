@@ -18,7 +18,7 @@ use Rattle.tree_digest.specs.declared.line.ListingLine.{ListingLine}
 use Rattle.tree_digest.specs.Lines.{line_text}
 use Rattle.tree_digest.specs.Listings.{listing_text, entries_of, lines_of}
 use Rattle.tree_digest.proofs.MapLines.{is_equal, differ_if_less}
-use Rattle.bundle_image.specs.Lines.{AreFew}
+use Rattle.bundle_image.specs.Lines.{AreFewLines}
 use Rattle.bundle_image.specs.Walks.{ComesBefore, AreInWalkOrder}
 use Rattle.bundle_image.proofs.Look.{elsewhere, head_here, head_off}
 use Rattle.bundle_image.proofs.Paths.{before_apart}
@@ -130,7 +130,7 @@ abbrev line_of : List ℕ × Entry → ListingLine
 line_of e = record { path = e.0; entry = e.1 }
 
 pub few_in_map : (es : Entries) (lines : List ListingLine) → IsStrictlySortedBy (slice_cmp nat_cmp) (keys_of es) → AreInWalkOrder lines
-    → ((q : List ℕ) → entry_at es q ≡ entry_at (entries_of lines) q) → AreFew lines → AreFew (lines_of es)
+    → ((q : List ℕ) → entry_at es q ≡ entry_at (entries_of lines) q) → AreFewLines lines → AreFewLines (lines_of es)
 few_in_map es lines rising order same few =
     let sums = same_sums lines es rising order same in
     record { count = omega (arith, few.count, sums.count, length-map es (λ (e : List ℕ × Entry). line_of e)); size = omega (arith, few.size, sums.size) }

@@ -10,7 +10,7 @@ use Rattle.path_map.specs.Paths.{path_fault}
 use Rattle.tree_digest.specs.declared.refusals.TheConstants.{MAX_FILE}
 use Rattle.tree_digest.specs.declared.listing_error.ListingError.TheVariants.{FileTooLong}
 use Rattle.tree_digest.specs.Fields.{IsTarget}
-use Rattle.bundle_image.specs.Refusals.{IsOutside}
+use Rattle.bundle_image.specs.Refusals.{IsBundleFailure}
 use Rattle.bundle_image.specs.declared.refusal.BundleRefusal.{BundleRefusal}
 use Rattle.bundle_image.specs.declared.refusal.BundleRefusal.TheVariants.{Listing, BadKind, NoMemory}
 
@@ -65,4 +65,4 @@ EntryFault standing path count refusal = ⊥
 
 -- it failed by itself, or the bundle failed or memory ran out
 abbrev pub FailsBy : Option Node → List ℕ → ℕ → BundleRefusal → Type 0
-FailsBy standing path count refusal = IsOutside refusal ⊎ EntryFault standing path count refusal
+FailsBy standing path count refusal = IsBundleFailure refusal ⊎ EntryFault standing path count refusal

@@ -1,6 +1,6 @@
 -- The files beside a bundle's root: the manifest, the ID and the listing.
 use Rattle.std.specs.Prelude.{◌≡◌, ◌⊎◌, ℕ, Bool, ◌==◌, ◌&&◌, List, [], ◌∷◌, ◌++◌, length, take, slice_index, if◌then◌else◌, Option, Some, None, IsSomeAnd, codes}
-use Rattle.dir_trait.specs.Bundles.{Tree, file_bytes, child_path}
+use Rattle.dir_trait.specs.Bundles.{BundleTree, bytes_of_node, child_path}
 use Rattle.ac_types.specs.Ids.{id_text, AreBytes}
 use Rattle.ac_types.specs.Outcomes.{reads, fails}
 use Rattle.manifests.specs.declared.image_manifest.ImageManifest.{ImageManifest}
@@ -12,12 +12,12 @@ use Rattle.bundle_image.specs.declared.refusal.BundleRefusal.{BundleRefusal}
 use Rattle.bundle_image.specs.declared.refusal.BundleRefusal.TheVariants.{NoFile, Manifest, Id, Listing}
 
 -- the bytes of the bundle's file of that name
-abbrev pub file_at : Tree → List ℕ → List ℕ → Option (List ℕ)
-file_at tree path name = file_bytes (tree (child_path path name))
+abbrev pub bundle_file_at : BundleTree → List ℕ → List ℕ → Option (List ℕ)
+bundle_file_at tree path name = bytes_of_node (tree (child_path path name))
 
 -- the bytes are those of the manifest
-abbrev pub IsManifestOf : List ℕ → ImageManifest → Type 0
-IsManifestOf bytes manifest = image_manifest bytes ≡ reads (image_data manifest)
+abbrev pub IsBundleManifestOf : List ℕ → ImageManifest → Type 0
+IsBundleManifestOf bytes manifest = image_manifest bytes ≡ reads (image_data manifest)
 
 -- the refusal is the first fault of the bytes as a manifest
 abbrev pub IsManifestFault : List ℕ → BundleRefusal → Type 0
@@ -25,18 +25,18 @@ IsManifestFault bytes (Manifest fault) = image_manifest bytes ≡ fails fault.pa
 IsManifestFault bytes refusal = ⊥
 
 -- the file `manifest` has these bytes, which are those of the manifest
-abbrev pub ReadsManifest : Tree → List ℕ → ImageManifest → List ℕ → Type 0
-ReadsManifest tree path manifest bytes = IsSomeAnd (file_at tree path (codes "manifest")) (λ file. (bytes ≡ file) × IsManifestOf file manifest)
+abbrev pub BundleGivesManifest : BundleTree → List ℕ → ImageManifest → List ℕ → Type 0
+BundleGivesManifest tree path manifest bytes = IsSomeAnd (bundle_file_at tree path (codes "manifest")) (λ file. (bytes ≡ file) × IsBundleManifestOf file manifest)
 
 -- there is no file `manifest`, or this is its first fault
-abbrev pub FailsManifest : Tree → List ℕ → BundleRefusal → Type 0
+abbrev pub FailsManifest : BundleTree → List ℕ → BundleRefusal → Type 0
 FailsManifest tree path refusal =
-    ((refusal ≡ NoFile (codes "manifest")) × (file_at tree path (codes "manifest") ≡ None))
-    ⊎ IsSomeAnd (file_at tree path (codes "manifest")) (λ file. IsManifestFault file refusal)
+    ((refusal ≡ NoFile (codes "manifest")) × (bundle_file_at tree path (codes "manifest") ≡ None))
+    ⊎ IsSomeAnd (bundle_file_at tree path (codes "manifest")) (λ file. IsManifestFault file refusal)
 
 -- the file `manifest` is a manifest
-abbrev pub HasManifest : Tree → List ℕ → Type 0
-HasManifest tree path = IsSomeAnd (file_at tree path (codes "manifest")) (λ file. (manifest : ImageData) × (image_manifest file ≡ reads manifest))
+abbrev pub BundleHasManifest : BundleTree → List ℕ → Type 0
+BundleHasManifest tree path = IsSomeAnd (bundle_file_at tree path (codes "manifest")) (λ file. (manifest : ImageData) × (image_manifest file ≡ reads manifest))
 
 -- the text of an ID, with a line end or without
 abbrev pub IsIdFile : List ℕ → List ℕ → Type 0
@@ -58,8 +58,8 @@ abbrev pub without_end : List ℕ → List ℕ
 without_end bytes = take (text_end bytes) bytes
 
 -- the file `id` is that of the ID
-abbrev pub ReadsId : Tree → List ℕ → List ℕ → Type 0
-ReadsId tree path id = IsSomeAnd (file_at tree path (codes "id")) (λ file. IsIdFile file id)
+abbrev pub BundleGivesId : BundleTree → List ℕ → List ℕ → Type 0
+BundleGivesId tree path id = IsSomeAnd (bundle_file_at tree path (codes "id")) (λ file. IsIdFile file id)
 
 -- it is no ID's
 abbrev pub IsIdFault : List ℕ → BundleRefusal → Type 0
@@ -67,27 +67,27 @@ IsIdFault file (Id bad) = IsNoIdFile file
 IsIdFault file refusal = ⊥
 
 -- there is no file `id`, or it is no ID's
-abbrev pub FailsId : Tree → List ℕ → BundleRefusal → Type 0
+abbrev pub FailsId : BundleTree → List ℕ → BundleRefusal → Type 0
 FailsId tree path refusal =
-    ((refusal ≡ NoFile (codes "id")) × (file_at tree path (codes "id") ≡ None))
-    ⊎ IsSomeAnd (file_at tree path (codes "id")) (λ file. IsIdFault file refusal)
+    ((refusal ≡ NoFile (codes "id")) × (bundle_file_at tree path (codes "id") ≡ None))
+    ⊎ IsSomeAnd (bundle_file_at tree path (codes "id")) (λ file. IsIdFault file refusal)
 
-abbrev pub HasId : Tree → List ℕ → Type 0
-HasId tree path = (id : List ℕ) × ReadsId tree path id
+abbrev pub BundleHasId : BundleTree → List ℕ → Type 0
+BundleHasId tree path = (id : List ℕ) × BundleGivesId tree path id
 
 -- so much of a file tells whether it is longer than a listing may be
 abbrev pub most_of_tree : ℕ
 most_of_tree = 33554433
 
 -- the listing of the file `tree`, if there is one
-abbrev pub ReadsTree : Tree → List ℕ → Option (List ListingLine) → Type 0
-ReadsTree tree path None = file_at tree path (codes "tree") ≡ None
-ReadsTree tree path (Some listing) = IsSomeAnd (file_at tree path (codes "tree")) (λ file. file ≡ listing_text listing)
+abbrev pub BundleGivesTree : BundleTree → List ℕ → Option (List ListingLine) → Type 0
+BundleGivesTree tree path None = bundle_file_at tree path (codes "tree") ≡ None
+BundleGivesTree tree path (Some listing) = IsSomeAnd (bundle_file_at tree path (codes "tree")) (λ file. file ≡ listing_text listing)
 
 -- the refusal is the first fault of the file's beginning as a listing
-abbrev pub IsTreeFault : List ℕ → BundleRefusal → Type 0
-IsTreeFault file (Listing error) = Fails (take most_of_tree file) error
-IsTreeFault file refusal = ⊥
+abbrev pub IsListingFaultOf : List ℕ → BundleRefusal → Type 0
+IsListingFaultOf file (Listing error) = Fails (take most_of_tree file) error
+IsListingFaultOf file refusal = ⊥
 
-abbrev pub FailsTree : Tree → List ℕ → BundleRefusal → Type 0
-FailsTree tree path refusal = IsSomeAnd (file_at tree path (codes "tree")) (λ file. IsTreeFault file refusal)
+abbrev pub FailsTree : BundleTree → List ℕ → BundleRefusal → Type 0
+FailsTree tree path refusal = IsSomeAnd (bundle_file_at tree path (codes "tree")) (λ file. IsListingFaultOf file refusal)

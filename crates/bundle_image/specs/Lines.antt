@@ -5,6 +5,6 @@ use Rattle.tree_digest.specs.declared.refusals.TheConstants.{MAX_LINES, MAX_BYTE
 use Rattle.tree_digest.specs.Listings.{listing_text}
 
 -- at most as many as a listing has, of at most as many bytes
-pub record AreFew (lines : List ListingLine) : Type 0 where
+pub record AreFewLines (lines : List ListingLine) : Type 0 where
   pub count : length lines ≤ MAX_LINES
   pub size : length (listing_text lines) ≤ MAX_BYTES

@@ -25,7 +25,7 @@ IsOfMissing missing Failed refusal = refusal ≡ BundleFault
 IsOfMissing missing bundle_error.NoMemory refusal = refusal ≡ NoMemory
 
 -- the bundle failed, or memory ran out
-abbrev pub IsOutside : BundleRefusal → Type 0
-IsOutside BundleFault = Unit {0}
-IsOutside NoMemory = Unit {0}
-IsOutside refusal = ⊥
+abbrev pub IsBundleFailure : BundleRefusal → Type 0
+IsBundleFailure BundleFault = Unit {0}
+IsBundleFailure NoMemory = Unit {0}
+IsBundleFailure refusal = ⊥

@@ -7,8 +7,8 @@ use Rattle.bundle_image.specs.declared.task.Task.{Task}
 use Rattle.bundle_image.specs.Walks.{in_directory}
 
 -- an item of the directory
-abbrev pub task_of : List ℕ → BundleItem → Task
-task_of directory item = record { path = in_directory directory item.name; kind = item.kind }
+abbrev pub walk_task_of : List ℕ → BundleItem → Task
+walk_task_of directory item = record { path = in_directory directory item.name; kind = item.kind }
 
 abbrev pub is_dir_kind : BundleKind → Bool
 is_dir_kind Dir = true

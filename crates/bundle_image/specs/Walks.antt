@@ -5,7 +5,7 @@ use Rattle.std.specs.Ordering.{nat_cmp}
 use Rattle.std.specs.declared.cmp.Ordering.TheVariants.{Less}
 use Rattle.std.specs.Cmp.Lexicographic.{slice_cmp}
 use Rattle.dir_model.specs.Names.{IsFileName}
-use Rattle.dir_trait.specs.Bundles.{Tree, kind_at}
+use Rattle.dir_trait.specs.Bundles.{BundleTree, kind_at}
 use Rattle.dir_trait.specs.declared.bundle.BundleKind.TheVariants as kinds
 use Rattle.path_map.specs.Paths.{HasNone}
 use Rattle.path_map.specs.declared.entry.Entry.{Entry}
@@ -18,8 +18,8 @@ use Rattle.bundle_image.specs.declared.refusal.BundleRefusal.TheVariants.{Listin
 use Rattle.bundle_image.specs.Entries.{IsEntryOf, EntryFault}
 
 -- what stands at the paths below a directory, which begin with a slash. The empty path is the directory's own
-abbrev pub below : Tree → List ℕ → Tree
-below tree root path = tree (root ++ path)
+abbrev pub subtree_below : BundleTree → List ℕ → BundleTree
+subtree_below tree root path = tree (root ++ path)
 
 -- the path of a name in a directory
 abbrev pub in_directory : List ℕ → List ℕ → List ℕ
@@ -31,18 +31,18 @@ path_along directory [] = directory
 path_along directory (name ∷ names) = path_along (in_directory directory name) names
 
 -- names of files, each in a directory that stands
-abbrev pub Leads : Tree → List ℕ → List (List ℕ) → Type 0
+abbrev pub Leads : BundleTree → List ℕ → List (List ℕ) → Type 0
 Leads nodes directory [] = Unit {0}
 Leads nodes directory (name ∷ names) = IsFileName name × (kind_at (nodes directory) ≡ Some kinds.Dir) × Leads nodes (in_directory directory name) names
 
 -- names lead from a directory through directories to a path
-pub record LeadsTo (nodes : Tree) (directory path : List ℕ) : Type 0 where
+pub record LeadsTo (nodes : BundleTree) (directory path : List ℕ) : Type 0 where
   pub names : List (List ℕ)
   pub leads : Leads nodes directory names
   pub is : path ≡ path_along directory names
 
 -- something stands at a path below the root, and each directory on the way to it
-pub record Stands (nodes : Tree) (path : List ℕ) : Type 0 where
+pub record Stands (nodes : BundleTree) (path : List ℕ) : Type 0 where
   pub name : List ℕ
   pub names : List (List ℕ)
   pub leads : Leads nodes [] (name ∷ names)
@@ -79,32 +79,32 @@ AreInWalkOrder [] = Unit {0}
 AreInWalkOrder (line ∷ lines) = AllByRecursion (λ later. ComesBefore line.path later.path) lines × AreInWalkOrder lines
 
 -- the line of something that stands there
-pub record IsLineOf (nodes : Tree) (line : ListingLine) : Type 0 where
+pub record IsLineOfBundle (nodes : BundleTree) (line : ListingLine) : Type 0 where
   pub stands : Stands nodes line.path
   pub entry : IsEntryOf (nodes line.path) line.entry
 
 -- the lines of all that a walk comes to before a path, at which something stands
-pub record AreBefore (nodes : Tree) (lines : List ListingLine) (path : List ℕ) : Type 0 where
-  pub each : AllByRecursion (IsLineOf nodes) lines
+pub record AreBefore (nodes : BundleTree) (lines : List ListingLine) (path : List ℕ) : Type 0 where
+  pub each : AllByRecursion (IsLineOfBundle nodes) lines
   pub order : AreInWalkOrder lines
   pub stands : Stands nodes path
   pub later : AllByRecursion (λ line. ComesBefore line.path path) lines
   pub others : (other : List ℕ) → Stands nodes other → IsLinePath lines other ⊎ ((other ≡ path) ⊎ ComesBefore path other)
 
 -- the fault of an entry after these lines: its own, or that with its line there are too many lines or bytes
-abbrev pub FaultWith : Tree → List ListingLine → List ℕ → BundleRefusal → Type 0
+abbrev pub FaultWith : BundleTree → List ListingLine → List ℕ → BundleRefusal → Type 0
 FaultWith nodes lines path refusal =
     EntryFault (nodes path) path (length lines) refusal
     ⊎ ((line : ListingLine) × (limit : ℕ) × (line.path ≡ path) × IsEntryOf (nodes path) line.entry × (refusal ≡ Listing (TooMany limit)) × IsTooLarge (lines ++ line ∷ []) (TooMany limit))
 
 -- the first fault that a walk comes to
-pub record IsFirstFault (nodes : Tree) (refusal : BundleRefusal) : Type 0 where
+pub record IsFirstFault (nodes : BundleTree) (refusal : BundleRefusal) : Type 0 where
   pub before : List ListingLine
   pub path : List ℕ
   pub are : AreBefore nodes before path
   pub fault : FaultWith nodes before path refusal
 
 -- the listing is that of all that stands below the root: each entry is of something there, and nothing is left out
-pub record IsWalked (nodes : Tree) (listing : List ListingLine) : Type 0 where
+pub record IsWalked (nodes : BundleTree) (listing : List ListingLine) : Type 0 where
   pub each : (path : List ℕ) (entry : Entry) → entry_at (entries_of listing) path ≡ Some entry → Stands nodes path × IsEntryOf (nodes path) entry
   pub whole : (path : List ℕ) → Stands nodes path → IsSome (entry_at (entries_of listing) path)

@@ -2,8 +2,8 @@
 ghost use Rattle.std.specs.Prelude.{◌≡◌, ◌≤◌, ◌<◌, ◌+◌, true, false, IfOk, IsErrOf, IsSomeAnd, None, length, take};
 ghost use Rattle.dir_model.specs.Causes.{Rose};
 ghost use Rattle.dir_trait.specs.declared.bundle.BundleAction.TheVariants.{Read};
-ghost use Rattle.dir_trait.specs.Bundles.{file_bytes, AsksOnly, request_at};
-ghost use Rattle.bundle_image.specs.Fronts.{IsBegun, IsFront};
+ghost use Rattle.dir_trait.specs.Bundles.{bytes_of_node, AsksBundleOnly, request_at};
+ghost use Rattle.bundle_image.specs.Fronts.{IsFrontOrNothing, IsFront};
 
 use dir_trait::{Bundle, BundleError};
 use std::alloc::{AllocError, Global};
@@ -31,12 +31,12 @@ fn read_piece<B: Bundle>(
     ensures same { B.observed ≡ true → (B.shown bundle.new).tree ≡ (B.shown bundle.old).tree }
     ensures given { (B.shown bundle.new).given ≤ (B.shown bundle.old).given + length room.old }
     ensures kept { IfOk result (λ ended. (B.shown bundle.new).given + length bytes.old.items ≤ (B.shown bundle.old).given + length bytes.new.items) }
-    ensures asked { B.observed ≡ true → AsksOnly (request_at Read path.now) (B.shown bundle.old).asked (B.shown bundle.new).asked }
-    ensures missing { IsErrOf result BundleError.Missing → B.observed ≡ true → file_bytes ((B.shown bundle.old).tree path.now) ≡ None }
+    ensures asked { B.observed ≡ true → AsksBundleOnly (request_at Read path.now) (B.shown bundle.old).asked (B.shown bundle.new).asked }
+    ensures missing { IsErrOf result BundleError.Missing → B.observed ≡ true → bytes_of_node ((B.shown bundle.old).tree path.now) ≡ None }
     ensures most { IfOk result (λ ended. length bytes.new.items ≤ length bytes.old.items + length room.old) }
     ensures grew { IfOk result (λ ended. ended ≡ false → length bytes.old.items < length bytes.new.items) }
-    ensures read { IfOk result (λ ended. B.observed ≡ true → IsBegun (file_bytes ((B.shown bundle.old).tree path.now)) bytes.old.items
-        → IsSomeAnd (file_bytes ((B.shown bundle.old).tree path.now)) (IsFront ended bytes.new.items)) }
+    ensures read { IfOk result (λ ended. B.observed ≡ true → IsFrontOrNothing (bytes_of_node ((B.shown bundle.old).tree path.now)) bytes.old.items
+        → IsSomeAnd (bytes_of_node ((B.shown bundle.old).tree path.now)) (IsFront ended bytes.new.items)) }
 {
     let count = bundle.read(alloc, path, bytes.len() as u64, room)?;
     bytes
@@ -58,12 +58,12 @@ pub fn read_file<B: Bundle>(
     ensures faults { (B.shown bundle.old).faults ≤ (B.shown bundle.new).faults }
     ensures cause { IsErrOf result BundleError.Failed → Rose (B.shown bundle.old).faults (B.shown bundle.new).faults }
     ensures given { (B.shown bundle.new).given ≤ (B.shown bundle.old).given + most }
-    ensures asked { B.observed ≡ true → AsksOnly (request_at Read path.now) (B.shown bundle.old).asked (B.shown bundle.new).asked }
+    ensures asked { B.observed ≡ true → AsksBundleOnly (request_at Read path.now) (B.shown bundle.old).asked (B.shown bundle.new).asked }
     ensures most { IfOk result (λ bytes. length bytes.items ≤ most) }
     ensures same { B.observed ≡ true → (B.shown bundle.new).tree ≡ (B.shown bundle.old).tree }
     ensures read { IfOk result (λ bytes. B.observed ≡ true
-        → IsSomeAnd (file_bytes ((B.shown bundle.old).tree path.now)) (λ file. bytes.items ≡ take most file)) }
-    ensures missing { IsErrOf result BundleError.Missing → B.observed ≡ true → file_bytes ((B.shown bundle.old).tree path.now) ≡ None }
+        → IsSomeAnd (bytes_of_node ((B.shown bundle.old).tree path.now)) (λ file. bytes.items ≡ take most file)) }
+    ensures missing { IsErrOf result BundleError.Missing → B.observed ≡ true → bytes_of_node ((B.shown bundle.old).tree path.now) ≡ None }
 {
     let mut room = vec![in alloc; 0; PIECE].map_err(out_of_memory)?;
     let mut bytes = Vec::new(alloc);

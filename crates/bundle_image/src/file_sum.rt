@@ -1,8 +1,8 @@
 // The size and the SHA-512 of a file.
 ghost use Rattle.std.specs.Prelude.{◌≡◌, ◌≤◌, ◌<◌, ◌+◌, ℕ, List, [], true, false, IfOk, IsErrOf, IsSomeAnd, None, length};
 ghost use Rattle.dir_model.specs.Causes.{Rose};
-ghost use Rattle.dir_trait.specs.Bundles.{file_bytes};
-ghost use Rattle.bundle_image.specs.FileSums.{HasTaken, Takes, IsSumOf};
+ghost use Rattle.dir_trait.specs.Bundles.{bytes_of_node};
+ghost use Rattle.bundle_image.specs.FileSums.{HashingHasTaken, TakesBytes, IsSumOf};
 ghost use Rattle.bundle_image.specs.Reads.{ReadsWithin};
 
 use crate::refusal::no_memory;
@@ -30,7 +30,7 @@ struct Hashing {
 
 impl Hashing {
     fn new() -> Hashing
-        ensures { HasTaken result [] }
+        ensures { HashingHasTaken result [] }
     {
         Hashing {
             hasher: Sha512::new(),
@@ -39,7 +39,7 @@ impl Hashing {
     }
 
     fn finish(self) -> Option<FileSum>
-        ensures { (message : List ℕ) → HasTaken self message → IsSumOf message result }
+        ensures { (message : List ℕ) → HashingHasTaken self message → IsSumOf message result }
     {
         if self.size > MAX_FILE {
             return None;
@@ -64,10 +64,10 @@ fn take_piece<B: Bundle>(
     requires short { hashing.old.size ≤ MAX_FILE }
     ensures reads { ReadsWithin B.observed path.now (B.shown bundle.old) (B.shown bundle.new) }
     ensures cause { IsErrOf result BundleError.Failed → Rose (B.shown bundle.old).faults (B.shown bundle.new).faults }
-    ensures missing { IsErrOf result BundleError.Missing → B.observed ≡ true → file_bytes ((B.shown bundle.old).tree path.now) ≡ None }
+    ensures missing { IsErrOf result BundleError.Missing → B.observed ≡ true → bytes_of_node ((B.shown bundle.old).tree path.now) ≡ None }
     ensures grew { IfOk result (λ ended. ended ≡ false → hashing.old.size < hashing.new.size) }
-    ensures took { IfOk result (λ ended. (message : List ℕ) → HasTaken hashing.old message
-        → Takes B.observed (file_bytes ((B.shown bundle.old).tree path.now)) message ended hashing.new) }
+    ensures took { IfOk result (λ ended. (message : List ℕ) → HashingHasTaken hashing.old message
+        → TakesBytes B.observed (bytes_of_node ((B.shown bundle.old).tree path.now)) message ended hashing.new) }
 {
     let count = bundle.read(alloc, path, hashing.size, room)?;
     hashing.hasher.update(&room[..count]);
@@ -84,9 +84,9 @@ pub(crate) fn sum_file<B: Bundle>(
 ) -> Result<Option<FileSum>, BundleError>
     ensures reads { ReadsWithin B.observed path.now (B.shown bundle.old) (B.shown bundle.new) }
     ensures cause { IsErrOf result BundleError.Failed → Rose (B.shown bundle.old).faults (B.shown bundle.new).faults }
-    ensures missing { IsErrOf result BundleError.Missing → B.observed ≡ true → file_bytes ((B.shown bundle.old).tree path.now) ≡ None }
+    ensures missing { IsErrOf result BundleError.Missing → B.observed ≡ true → bytes_of_node ((B.shown bundle.old).tree path.now) ≡ None }
     ensures short { IfOk result (λ sum. (message : List ℕ) × IsSumOf message sum) }
-    ensures sum { IfOk result (λ sum. B.observed ≡ true → IsSomeAnd (file_bytes ((B.shown bundle.old).tree path.now)) (λ bytes. IsSumOf bytes sum)) }
+    ensures sum { IfOk result (λ sum. B.observed ≡ true → IsSomeAnd (bytes_of_node ((B.shown bundle.old).tree path.now)) (λ bytes. IsSumOf bytes sum)) }
 {
     let mut room = vec![in alloc; 0; PIECE].map_err(no_memory)?;
     let mut hashing = Hashing::new();

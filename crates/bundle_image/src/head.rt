@@ -3,14 +3,14 @@ ghost use Rattle.std.specs.Prelude.{◌≡◌, ◌⊎◌, ◌<◌, ◌≤◌, tr
 ghost use Rattle.dir_model.specs.Causes.{Rose};
 ghost use Rattle.dir_trait.specs.Bundles.{directory_prefix};
 ghost use Rattle.bundle_image.specs.Reads.{ReadsWithin};
-ghost use Rattle.bundle_image.specs.Refusals.{IsOutside};
+ghost use Rattle.bundle_image.specs.Refusals.{IsBundleFailure};
 ghost use Rattle.bundle_image.specs.Heads as form;
-ghost use Rattle.bundle_image.specs.Heads.{file_at, IsManifestOf, IsManifestFault, IsIdFile, IsIdFault, ReadsManifest, FailsManifest, ReadsId, FailsId, ReadsTree, FailsTree};
+ghost use Rattle.bundle_image.specs.Heads.{bundle_file_at, IsBundleManifestOf, IsManifestFault, IsIdFile, IsIdFault, BundleGivesManifest, FailsManifest, BundleGivesId, FailsId, BundleGivesTree, FailsTree};
 
 use crate::place::child;
+use crate::read_file;
 use crate::refusal::{BundleRefusal, bundle_refusal, listing_refusal, short_of_memory};
 use ac_types::{BadId, ImageId, ReadError, Text};
-use crate::read_file;
 use dir_trait::{Bundle, BundleError};
 use manifests::{ImageManifest, read_image};
 use std::alloc::Global;
@@ -47,8 +47,8 @@ fn read_part<B: Bundle>(
     requires { 0 < most }
     ensures reads { ReadsWithin B.observed (directory_prefix path.now) (B.shown bundle.old) (B.shown bundle.new) }
     ensures cause { IsErrOf result BundleError.Failed → Rose (B.shown bundle.old).faults (B.shown bundle.new).faults }
-    ensures missing { IsErrOf result BundleError.Missing → B.observed ≡ true → file_at (B.shown bundle.old).tree path.now name.now ≡ None }
-    ensures read { IfOk result (λ bytes. B.observed ≡ true → IsSomeAnd (file_at (B.shown bundle.old).tree path.now name.now) (λ file. bytes.items ≡ take most file)) }
+    ensures missing { IsErrOf result BundleError.Missing → B.observed ≡ true → bundle_file_at (B.shown bundle.old).tree path.now name.now ≡ None }
+    ensures read { IfOk result (λ bytes. B.observed ≡ true → IsSomeAnd (bundle_file_at (B.shown bundle.old).tree path.now name.now) (λ file. bytes.items ≡ take most file)) }
 {
     let at = child(alloc, path, name).map_err(short_of_memory)?;
     read_file(alloc, bundle, at.as_str(), most)
@@ -65,7 +65,7 @@ fn no_file(alloc: Global, name: &str) -> BundleRefusal
 }
 
 fn manifest_of(alloc: Global, bytes: Vec<u8>) -> Result<ReadManifest, BundleRefusal>
-    ensures ok { IfOk result (λ read. (read.bytes.items ≡ bytes.items) × IsManifestOf bytes.items read.manifest) }
+    ensures ok { IfOk result (λ read. (read.bytes.items ≡ bytes.items) × IsBundleManifestOf bytes.items read.manifest) }
     ensures fault { IfErr result (λ r. (r ≡ BundleRefusal.NoMemory) ⊎ IsManifestFault bytes.items r) }
 {
     match read_image(alloc, &bytes) {
@@ -83,8 +83,8 @@ pub(crate) fn read_manifest<B: Bundle>(
 ) -> Result<ReadManifest, BundleRefusal>
     ensures reads { ReadsWithin B.observed (directory_prefix path.now) (B.shown bundle.old) (B.shown bundle.new) }
     ensures cause { IsErrOf result BundleRefusal.BundleFault → Rose (B.shown bundle.old).faults (B.shown bundle.new).faults }
-    ensures ok { IfOk result (λ read. B.observed ≡ true → ReadsManifest (B.shown bundle.old).tree path.now read.manifest read.bytes.items) }
-    ensures fault { IfErr result (λ r. B.observed ≡ true → IsOutside r ⊎ FailsManifest (B.shown bundle.old).tree path.now r) }
+    ensures ok { IfOk result (λ read. B.observed ≡ true → BundleGivesManifest (B.shown bundle.old).tree path.now read.manifest read.bytes.items) }
+    ensures fault { IfErr result (λ r. B.observed ≡ true → IsBundleFailure r ⊎ FailsManifest (B.shown bundle.old).tree path.now r) }
 {
     match read_part(alloc, bundle, path, "manifest", MOST_OF_MANIFEST) {
         Ok(bytes) => manifest_of(alloc, bytes),
@@ -133,8 +133,8 @@ pub(crate) fn read_id<B: Bundle>(
 ) -> Result<ImageId, BundleRefusal>
     ensures reads { ReadsWithin B.observed (directory_prefix path.now) (B.shown bundle.old) (B.shown bundle.new) }
     ensures cause { IsErrOf result BundleRefusal.BundleFault → Rose (B.shown bundle.old).faults (B.shown bundle.new).faults }
-    ensures ok { IfOk result (λ id. B.observed ≡ true → ReadsId (B.shown bundle.old).tree path.now id.bytes) }
-    ensures fault { IfErr result (λ r. B.observed ≡ true → IsOutside r ⊎ FailsId (B.shown bundle.old).tree path.now r) }
+    ensures ok { IfOk result (λ id. B.observed ≡ true → BundleGivesId (B.shown bundle.old).tree path.now id.bytes) }
+    ensures fault { IfErr result (λ r. B.observed ≡ true → IsBundleFailure r ⊎ FailsId (B.shown bundle.old).tree path.now r) }
 {
     match read_part(alloc, bundle, path, "id", MOST_OF_ID) {
         Ok(bytes) => id_of(&bytes),
@@ -150,8 +150,8 @@ pub(crate) fn read_tree<B: Bundle>(
 ) -> Result<Option<Listing>, BundleRefusal>
     ensures reads { ReadsWithin B.observed (directory_prefix path.now) (B.shown bundle.old) (B.shown bundle.new) }
     ensures cause { IsErrOf result BundleRefusal.BundleFault → Rose (B.shown bundle.old).faults (B.shown bundle.new).faults }
-    ensures ok { IfOk result (λ found. B.observed ≡ true → ReadsTree (B.shown bundle.old).tree path.now found) }
-    ensures fault { IfErr result (λ r. B.observed ≡ true → IsOutside r ⊎ FailsTree (B.shown bundle.old).tree path.now r) }
+    ensures ok { IfOk result (λ found. B.observed ≡ true → BundleGivesTree (B.shown bundle.old).tree path.now found) }
+    ensures fault { IfErr result (λ r. B.observed ≡ true → IsBundleFailure r ⊎ FailsTree (B.shown bundle.old).tree path.now r) }
 {
     match read_part(alloc, bundle, path, "tree", MOST_OF_TREE) {
         Ok(bytes) => match Listing::read(alloc, &bytes) {

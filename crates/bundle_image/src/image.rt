@@ -4,12 +4,12 @@ ghost use Rattle.dir_model.specs.Causes.{Rose};
 ghost use Rattle.dir_trait.specs.Bundles.{directory_prefix, child_path};
 ghost use Rattle.path_map.specs.Entries.{entry_at};
 ghost use Rattle.tree_digest.specs.Listings.{entries_of};
-ghost use Rattle.bundle_image.specs.Heads.{ReadsId};
+ghost use Rattle.bundle_image.specs.Heads.{BundleGivesId};
 ghost use Rattle.bundle_image.specs.Work.{AreLaid};
 ghost use Rattle.bundle_image.specs.Reads.{ReadsWithin};
 ghost use Rattle.bundle_image.specs.Walks.{IsWalked, IsFirstFault};
-ghost use Rattle.bundle_image.specs.Refusals.{IsOutside};
-ghost use Rattle.bundle_image.specs.Images.{root_nodes, FindsListing, FailsListing, IsImage, FailsBehind, FailsBundle};
+ghost use Rattle.bundle_image.specs.Refusals.{IsBundleFailure};
+ghost use Rattle.bundle_image.specs.Images.{root_nodes, FindsListing, FailsListing, IsBundleImage, FailsBehind, FailsBundle};
 
 use crate::entry::ROOTFS;
 use crate::head::{ReadManifest, read_id, read_manifest, read_tree};
@@ -74,7 +74,7 @@ fn walked<B: Bundle>(alloc: Global, bundle: &mut B, path: &str) -> Result<Found,
     ensures cause { IsErrOf result BundleRefusal.BundleFault → Rose (B.shown bundle.old).faults (B.shown bundle.new).faults }
     ensures ok { IfOk result (λ found. B.observed ≡ true → IsWalked (root_nodes (B.shown bundle.old).tree path.now) found.listing) }
     ensures unlisted { IfOk result (λ found. found.listed ≡ false) }
-    ensures fault { IfErr result (λ r. B.observed ≡ true → IsOutside r ⊎ IsFirstFault (root_nodes (B.shown bundle.old).tree path.now) r) }
+    ensures fault { IfErr result (λ r. B.observed ≡ true → IsBundleFailure r ⊎ IsFirstFault (root_nodes (B.shown bundle.old).tree path.now) r) }
 {
     let root = root_of(alloc, path)?;
     match walk(alloc, bundle, root.as_str()) {
@@ -91,7 +91,7 @@ fn find_listing<B: Bundle>(
     ensures reads { ReadsWithin B.observed (directory_prefix path.now) (B.shown bundle.old) (B.shown bundle.new) }
     ensures cause { IsErrOf result BundleRefusal.BundleFault → Rose (B.shown bundle.old).faults (B.shown bundle.new).faults }
     ensures ok { IfOk result (λ found. B.observed ≡ true → FindsListing (B.shown bundle.old).tree path.now found.listing found.listed) }
-    ensures fault { IfErr result (λ r. B.observed ≡ true → IsOutside r ⊎ FailsListing (B.shown bundle.old).tree path.now r) }
+    ensures fault { IfErr result (λ r. B.observed ≡ true → IsBundleFailure r ⊎ FailsListing (B.shown bundle.old).tree path.now r) }
 {
     match read_tree(alloc, bundle, path)? {
         Some(listing) => Ok(Found {
@@ -113,7 +113,7 @@ fn image_of<B: Bundle>(
     ensures cause { IsErrOf result BundleRefusal.BundleFault → Rose (B.shown bundle.old).faults (B.shown bundle.new).faults }
     ensures head { IfOk result (λ image. (image.manifest ≡ read.manifest) × (image.bytes ≡ read.bytes.items) × (image.id ≡ id)) }
     ensures ok { IfOk result (λ image. B.observed ≡ true → FindsListing (B.shown bundle.old).tree path.now image.listing image.listed) }
-    ensures fault { IfErr result (λ r. B.observed ≡ true → IsOutside r ⊎ FailsListing (B.shown bundle.old).tree path.now r) }
+    ensures fault { IfErr result (λ r. B.observed ≡ true → IsBundleFailure r ⊎ FailsListing (B.shown bundle.old).tree path.now r) }
 {
     let found = find_listing(alloc, bundle, path)?;
     Ok(BundleImage {
@@ -134,9 +134,9 @@ fn behind<B: Bundle>(
     ensures reads { ReadsWithin B.observed (directory_prefix path.now) (B.shown bundle.old) (B.shown bundle.new) }
     ensures cause { IsErrOf result BundleRefusal.BundleFault → Rose (B.shown bundle.old).faults (B.shown bundle.new).faults }
     ensures head { IfOk result (λ image. (image.manifest ≡ read.manifest) × (image.bytes ≡ read.bytes.items)) }
-    ensures id { IfOk result (λ image. B.observed ≡ true → ReadsId (B.shown bundle.old).tree path.now image.id.bytes) }
+    ensures id { IfOk result (λ image. B.observed ≡ true → BundleGivesId (B.shown bundle.old).tree path.now image.id.bytes) }
     ensures listing { IfOk result (λ image. B.observed ≡ true → FindsListing (B.shown bundle.old).tree path.now image.listing image.listed) }
-    ensures fault { IfErr result (λ r. B.observed ≡ true → IsOutside r ⊎ FailsBehind (B.shown bundle.old).tree path.now r) }
+    ensures fault { IfErr result (λ r. B.observed ≡ true → IsBundleFailure r ⊎ FailsBehind (B.shown bundle.old).tree path.now r) }
 {
     match read_id(alloc, bundle, path) {
         Ok(id) => image_of(alloc, bundle, path, read, id),
@@ -156,8 +156,8 @@ pub fn read_bundle<B: Bundle>(
 ) -> Result<BundleImage, BundleRefusal>
     ensures reads { ReadsWithin B.observed (directory_prefix path.now) (B.shown bundle.old) (B.shown bundle.new) }
     ensures cause { IsErrOf result BundleRefusal.BundleFault → Rose (B.shown bundle.old).faults (B.shown bundle.new).faults }
-    ensures ok { IfOk result (λ image. B.observed ≡ true → IsImage (B.shown bundle.old).tree path.now image) }
-    ensures fault { IfErr result (λ r. B.observed ≡ true → IsOutside r ⊎ FailsBundle (B.shown bundle.old).tree path.now r) }
+    ensures ok { IfOk result (λ image. B.observed ≡ true → IsBundleImage (B.shown bundle.old).tree path.now image) }
+    ensures fault { IfErr result (λ r. B.observed ≡ true → IsBundleFailure r ⊎ FailsBundle (B.shown bundle.old).tree path.now r) }
 {
     match read_manifest(alloc, bundle, path) {
         Ok(read) => behind(alloc, bundle, path, read),

@@ -2,7 +2,7 @@
 ghost use Rattle.std.specs.Prelude.{◌≡◌, ◌⊎◌, ◌++◌, ◌∷◌, [], ◌<◌, OnOk, IfErr, length};
 ghost use Rattle.tree_digest.specs.Lines.{mode_of};
 ghost use Rattle.tree_digest.specs.Listings.{IsTooLarge};
-ghost use Rattle.bundle_image.specs.Lines.{AreFew};
+ghost use Rattle.bundle_image.specs.Lines.{AreFewLines};
 
 use std::alloc::Global;
 use std::marker::Model;
@@ -20,13 +20,13 @@ impl Model for Lines {
     ghost use Rattle.std.specs.Prelude.{◌≡◌, List, length};
     ghost use Rattle.tree_digest.specs.declared.line.ListingLine.{ListingLine};
     ghost use Rattle.tree_digest.specs.Listings.{listing_text};
-    ghost use Rattle.bundle_image.specs.Lines.{AreFew};
+    ghost use Rattle.bundle_image.specs.Lines.{AreFewLines};
 
     ghost Value = { List ListingLine };
 
     ghost view = { λ l. l.lines.items };
 
-    ghost invariant = { λ l. (l.bytes ≡ length (listing_text l.lines.items)) × AreFew l.lines.items };
+    ghost invariant = { λ l. (l.bytes ≡ length (listing_text l.lines.items)) × AreFewLines l.lines.items };
 }
 
 impl Lines {
@@ -43,7 +43,7 @@ impl Lines {
     /// How many there are.
     pub(crate) fn len(&self) -> usize
         ensures len { result ≡ length self.now }
-        ensures few { AreFew self.now }
+        ensures few { AreFewLines self.now }
     {
         self.lines.len()
     }
@@ -51,7 +51,7 @@ impl Lines {
     /// The lines as a vector.
     pub(crate) fn into_vec(self) -> Vec<ListingLine>
         ensures lines { result.items ≡ self }
-        ensures few { AreFew self }
+        ensures few { AreFewLines self }
     {
         self.lines
     }
@@ -61,7 +61,7 @@ impl Lines {
     pub(crate) fn push(&mut self, alloc: Global, line: ListingLine) -> Result<(), ListingError>
         requires { mode_of line.entry < 4096 }
         ensures ok { OnOk result (self.new ≡ self.old ++ line ∷ []) }
-        ensures few { OnOk result (AreFew self.new) }
+        ensures few { OnOk result (AreFewLines self.new) }
         ensures fault { IfErr result (λ e. (e ≡ ListingError.NoMemory) ⊎ IsTooLarge (self.old ++ line ∷ []) e) }
     {
         let bytes = line.text_len(alloc)?;

@@ -2,7 +2,7 @@
 ghost use Rattle.std.specs.Prelude.{◌≡◌, ℕ, List, IfOk};
 ghost use Rattle.path_map.specs.Entries.{entry_at};
 ghost use Rattle.tree_digest.specs.Listings.{entries_of, lines_of, AreListable};
-ghost use Rattle.bundle_image.specs.Lines.{AreFew};
+ghost use Rattle.bundle_image.specs.Lines.{AreFewLines};
 ghost use Rattle.bundle_image.specs.Work.{AreLaid};
 
 use ac_types::NoMemory;
@@ -14,7 +14,7 @@ fn map_of(alloc: Global, lines: &[ListingLine]) -> Result<PathMap, NoMemory>
     requires { AreLaid lines.now }
     ensures entries { IfOk result (λ map. (q : List ℕ) → entry_at map q ≡ entry_at (entries_of lines.now) q) }
     ensures listable { IfOk result (λ map. AreListable (entry_at map)) }
-    ensures few { IfOk result (λ map. AreFew (lines_of map)) }
+    ensures few { IfOk result (λ map. AreFewLines (lines_of map)) }
 {
     let mut map = PathMap::new(alloc);
     for line in lines {

@@ -2,7 +2,7 @@
 ghost use Rattle.std.specs.Prelude.{◌≡◌, ◌++◌, map, reverse, IfOk, OnOk};
 ghost use Rattle.std.specs.List.{AllByRecursion};
 ghost use Rattle.dir_model.specs.Names.{IsFileName};
-ghost use Rattle.bundle_image.specs.Tasks.{task_of};
+ghost use Rattle.bundle_image.specs.Tasks.{walk_task_of};
 
 use crate::place::joined;
 use ac_types::{NoMemory, Text};
@@ -17,7 +17,7 @@ pub(crate) struct Task {
 }
 
 fn child(alloc: Global, directory: &str, item: &BundleItem) -> Result<Task, NoMemory>
-    ensures task { IfOk result (λ task. task ≡ task_of directory.now item.now) }
+    ensures task { IfOk result (λ task. task ≡ walk_task_of directory.now item.now) }
     ensures named { IfOk result (λ task. IsFileName item.now.name) }
 {
     let front = joined(alloc, directory, "/")?;
@@ -29,7 +29,7 @@ fn child(alloc: Global, directory: &str, item: &BundleItem) -> Result<Task, NoMe
 
 /// The entries of a directory, the first of them last.
 fn children(alloc: Global, directory: &str, items: &[BundleItem]) -> Result<Vec<Task>, NoMemory>
-    ensures tasks { IfOk result (λ tasks. tasks.items ≡ reverse (map (task_of directory.now) items.now)) }
+    ensures tasks { IfOk result (λ tasks. tasks.items ≡ reverse (map (walk_task_of directory.now) items.now)) }
     ensures named { IfOk result (λ tasks. AllByRecursion (λ item. IsFileName item.name) items.now) }
 {
     let mut tasks = Vec::new(alloc);
@@ -47,7 +47,7 @@ pub(crate) fn add_children(
     items: &[BundleItem],
     pending: &mut Vec<Task>,
 ) -> Result<(), NoMemory>
-    ensures tasks { OnOk result (pending.new.items ≡ pending.old.items ++ reverse (map (task_of directory.now) items.now)) }
+    ensures tasks { OnOk result (pending.new.items ≡ pending.old.items ++ reverse (map (walk_task_of directory.now) items.now)) }
     ensures named { OnOk result (AllByRecursion (λ item. IsFileName item.name) items.now) }
 {
     let mut tasks = children(alloc, directory, items)?;

@@ -2,10 +2,10 @@
 ghost use Rattle.std.specs.Prelude.{◌≡◌, ◌≢◌, ◌<◌, ◌++◌, true, Some, length, IfOk, IfErr, OnOk, IsErrOf};
 ghost use Rattle.dir_model.specs.Causes.{Rose};
 ghost use Rattle.dir_trait.specs.Bundles.{kind_at};
-ghost use Rattle.bundle_image.specs.Walks.{below, IsWalked};
+ghost use Rattle.bundle_image.specs.Walks.{subtree_below, IsWalked};
 ghost use Rattle.bundle_image.specs.Reads.{ReadsWithin};
-ghost use Rattle.bundle_image.specs.Refusals.{IsOutside};
-ghost use Rattle.bundle_image.specs.Work.{AddsChildren, Descends, AddsLine, Turns, Begins, FailsAt, EndsWalk, AreLaid};
+ghost use Rattle.bundle_image.specs.Refusals.{IsBundleFailure};
+ghost use Rattle.bundle_image.specs.Work.{AddsChildren, Descends, AddsEntryLine, Turns, WalkBegins, WalkFailsAt, EndsWalk, AreLaid};
 
 use crate::entry::{bad_kind, read_line};
 use crate::lines::Lines;
@@ -38,8 +38,8 @@ fn list<B: Bundle>(
     ensures reads { ReadsWithin B.observed root.now (B.shown bundle.old) (B.shown bundle.new) }
     ensures cause { IsErrOf result BundleError.Failed → Rose (B.shown bundle.old).faults (B.shown bundle.new).faults }
     ensures missing { IsErrOf result BundleError.Missing → B.observed ≡ true
-        → kind_at (below (B.shown bundle.old).tree root.now path.now) ≢ Some BundleKind.Dir }
-    ensures children { OnOk result (AddsChildren B.observed (below (B.shown bundle.old).tree root.now) path.now pending.old.items pending.new.items) }
+        → kind_at (subtree_below (B.shown bundle.old).tree root.now path.now) ≢ Some BundleKind.Dir }
+    ensures children { OnOk result (AddsChildren B.observed (subtree_below (B.shown bundle.old).tree root.now) path.now pending.old.items pending.new.items) }
 {
     let directory = directory_of(alloc, root, path)?;
     let items = bundle.list(alloc, directory.as_str())?;
@@ -60,8 +60,8 @@ fn descend<B: Bundle>(
     requires { 0 < length root.now }
     ensures reads { ReadsWithin B.observed root.now (B.shown bundle.old) (B.shown bundle.new) }
     ensures cause { IsErrOf result BundleRefusal.BundleFault → Rose (B.shown bundle.old).faults (B.shown bundle.new).faults }
-    ensures fault { IfErr result (λ r. B.observed ≡ true → kind_at (below (B.shown bundle.old).tree root.now task.now.path) ≡ Some task.now.kind → IsOutside r) }
-    ensures children { OnOk result (Descends B.observed (below (B.shown bundle.old).tree root.now) task.now pending.old.items pending.new.items) }
+    ensures fault { IfErr result (λ r. B.observed ≡ true → kind_at (subtree_below (B.shown bundle.old).tree root.now task.now.path) ≡ Some task.now.kind → IsBundleFailure r) }
+    ensures children { OnOk result (Descends B.observed (subtree_below (B.shown bundle.old).tree root.now) task.now pending.old.items pending.new.items) }
 {
     match task.kind {
         BundleKind::Dir => match list(alloc, bundle, root, task.path.as_str(), pending) {
@@ -82,9 +82,9 @@ fn add_line<B: Bundle>(
 ) -> Result<(), BundleRefusal>
     ensures reads { ReadsWithin B.observed root.now (B.shown bundle.old) (B.shown bundle.new) }
     ensures cause { IsErrOf result BundleRefusal.BundleFault → Rose (B.shown bundle.old).faults (B.shown bundle.new).faults }
-    ensures line { OnOk result (AddsLine B.observed (below (B.shown bundle.old).tree root.now) task.now lines.old lines.new) }
-    ensures fault { IfErr result (λ r. B.observed ≡ true → kind_at (below (B.shown bundle.old).tree root.now task.now.path) ≡ Some task.now.kind
-        → FailsAt (below (B.shown bundle.old).tree root.now) lines.old task.now.path r) }
+    ensures line { OnOk result (AddsEntryLine B.observed (subtree_below (B.shown bundle.old).tree root.now) task.now lines.old lines.new) }
+    ensures fault { IfErr result (λ r. B.observed ≡ true → kind_at (subtree_below (B.shown bundle.old).tree root.now task.now.path) ≡ Some task.now.kind
+        → WalkFailsAt (subtree_below (B.shown bundle.old).tree root.now) lines.old task.now.path r) }
 {
     let line = match read_line(alloc, bundle, root, task, lines.len()) {
         Ok(line) => line,
@@ -108,9 +108,9 @@ fn turn<B: Bundle>(
     requires { 0 < length root.now }
     ensures reads { ReadsWithin B.observed root.now (B.shown bundle.old) (B.shown bundle.new) }
     ensures cause { IsErrOf result BundleRefusal.BundleFault → Rose (B.shown bundle.old).faults (B.shown bundle.new).faults }
-    ensures turned { OnOk result (Turns B.observed (below (B.shown bundle.old).tree root.now) task.now lines.old pending.old.items lines.new pending.new.items) }
-    ensures fault { IfErr result (λ r. B.observed ≡ true → kind_at (below (B.shown bundle.old).tree root.now task.now.path) ≡ Some task.now.kind
-        → FailsAt (below (B.shown bundle.old).tree root.now) lines.old task.now.path r) }
+    ensures turned { OnOk result (Turns B.observed (subtree_below (B.shown bundle.old).tree root.now) task.now lines.old pending.old.items lines.new pending.new.items) }
+    ensures fault { IfErr result (λ r. B.observed ≡ true → kind_at (subtree_below (B.shown bundle.old).tree root.now task.now.path) ≡ Some task.now.kind
+        → WalkFailsAt (subtree_below (B.shown bundle.old).tree root.now) lines.old task.now.path r) }
 {
     match add_line(alloc, bundle, root, task, lines) {
         Ok(()) => descend(alloc, bundle, root, task, pending),
@@ -123,8 +123,8 @@ fn begin<B: Bundle>(alloc: Global, bundle: &mut B, root: &str) -> Result<Vec<Tas
     requires { 0 < length root.now }
     ensures reads { ReadsWithin B.observed root.now (B.shown bundle.old) (B.shown bundle.new) }
     ensures cause { IsErrOf result BundleRefusal.BundleFault → Rose (B.shown bundle.old).faults (B.shown bundle.new).faults }
-    ensures fault { IfErr result IsOutside }
-    ensures begun { IfOk result (λ pending. Begins B.observed (below (B.shown bundle.old).tree root.now) pending.items) }
+    ensures fault { IfErr result IsBundleFailure }
+    ensures begun { IfOk result (λ pending. WalkBegins B.observed (subtree_below (B.shown bundle.old).tree root.now) pending.items) }
 {
     let mut pending = Vec::new(alloc);
     match list(alloc, bundle, root, "", &mut pending) {
@@ -148,8 +148,8 @@ pub(crate) fn walk<B: Bundle>(
     ensures reads { ReadsWithin B.observed root.now (B.shown bundle.old) (B.shown bundle.new) }
     ensures cause { IsErrOf result BundleRefusal.BundleFault → Rose (B.shown bundle.old).faults (B.shown bundle.new).faults }
     ensures laid { IfOk result AreLaid }
-    ensures walked { IfOk result (λ lines. B.observed ≡ true → IsWalked (below (B.shown bundle.old).tree root.now) lines) }
-    ensures fault { IfErr result (λ r. B.observed ≡ true → EndsWalk (below (B.shown bundle.old).tree root.now) r) }
+    ensures walked { IfOk result (λ lines. B.observed ≡ true → IsWalked (subtree_below (B.shown bundle.old).tree root.now) lines) }
+    ensures fault { IfErr result (λ r. B.observed ≡ true → EndsWalk (subtree_below (B.shown bundle.old).tree root.now) r) }
 {
     let mut pending = begin(alloc, bundle, root)?;
     let mut lines = Lines::new(alloc);

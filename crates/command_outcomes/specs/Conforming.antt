@@ -10,22 +10,22 @@ use Rattle.dir_trait.specs.Knowledge.{Knows}
 use Rattle.command_outcomes.specs.Moments.{DirSeen}
 
 -- what the directory shows, but for the calls
-abbrev pub shown_at : DirSeen → DirAt
-shown_at d = record { process = d.process; faults = d.faults; calls = 0; local = d.local; trace = d.trace }
+abbrev pub dir_at_moment : DirSeen → DirAt
+dir_at_moment d = record { process = d.process; faults = d.faults; calls = 0; local = d.local; trace = d.trace }
 
 -- by what the process knows, each of its requests so far was allowed
 pub record KeepsRules (d : DirSeen) : Type 0 where
   pub known : Seen
-  pub knows : Knows (shown_at d) known
+  pub knows : Knows (dir_at_moment d) known
   pub kept : known.kept ≡ true
 
 -- what a process knows that has just begun
-abbrev pub begun : Intent → Seen
-begun intent = seen_replied nothing_seen (Begin intent) Done
+abbrev pub seen_at_begin : Intent → Seen
+seen_at_begin intent = seen_replied nothing_seen (Begin intent) Done
 
 -- a process that had just begun has kept the rules since
 abbrev pub StaysConforming : Intent → DirSeen → DirSeen → Type 0
-StaysConforming intent old new = Knows (shown_at old) (begun intent) → KeepsRules new
+StaysConforming intent old new = Knows (dir_at_moment old) (seen_at_begin intent) → KeepsRules new
 
 -- where the process kept the local rules before, it keeps them afterwards
 abbrev pub KeepsConforming : DirSeen → DirSeen → Type 0

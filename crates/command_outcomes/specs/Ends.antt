@@ -4,10 +4,10 @@ use Rattle.dir_model.specs.declared.spot.Spot.{Spot}
 use Rattle.dir_trait.specs.State.{DirState, is_owned}
 use Rattle.command_outcomes.specs.declared.refusal.Refusal.{Refusal}
 use Rattle.command_outcomes.specs.declared.refusal.Refusal.TheVariants.{DirFault, BundleFault, NoMemory}
-use Rattle.command_outcomes.specs.Moments.{Outcome}
+use Rattle.command_outcomes.specs.Moments.{CommandOutcome}
 
 -- the command came to an end of its own: nothing failed, and memory didn't run out
-abbrev pub is_own_end : Outcome → Bool
+abbrev pub is_own_end : CommandOutcome → Bool
 is_own_end (Ok text) = true
 is_own_end (Err NoMemory) = false
 is_own_end (Err DirFault) = false

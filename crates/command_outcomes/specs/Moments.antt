@@ -5,7 +5,7 @@ use Rattle.dir_trait.specs.declared.dir.Dir.{Ghosts as DirGhosts}
 use Rattle.dir_trait.specs.declared.bundle.Bundle.{Ghosts as BundleGhosts}
 use Rattle.dir_trait.specs.declared.bundle.BundleRequest.{BundleRequest}
 use Rattle.dir_trait.specs.declared.sink.Sink.{Ghosts as SinkGhosts}
-use Rattle.dir_trait.specs.Bundles.{Tree}
+use Rattle.dir_trait.specs.Bundles.{BundleTree}
 use Rattle.spawner.specs.declared.spawning.Spawner.{Ghosts as SpawnerGhosts}
 use Rattle.spawner.specs.Calls.{SpawnerAt}
 use Rattle.dir_trait.specs.DirCalls.{DirAt}
@@ -31,7 +31,7 @@ dir_seen observed d = record { observed = observed; process = d.process; faults 
 -- a bundle
 pub record BundleSeen : Type 0 where
   pub observed : Bool
-  pub tree : Tree
+  pub tree : BundleTree
   pub faults : ℕ
   pub given : ℕ
   pub asked : List BundleRequest
@@ -84,14 +84,14 @@ abbrev pub moment_at : {D B S O E : Type 0} → DirGhosts D → BundleGhosts B �
 moment_at d b s o e all = record { outside = outside_at d b all.0 all.1; spawner = spawner_at s all.2; out = sink_at o all.3; err = sink_at e all.4 }
 
 -- the text that a command prints, or why it prints none
-abbrev pub Outcome : Type 0
-Outcome = Result (List ℕ) Refusal
+abbrev pub CommandOutcome : Type 0
+CommandOutcome = Result (List ℕ) Refusal
 
 -- the same of a command that may run apps: what it tells, or why nothing
 abbrev pub Answer : Type 0
 Answer = Result Told Refusal
 
-abbrev pub outcome_of : Answer → Outcome
+abbrev pub outcome_of : Answer → CommandOutcome
 outcome_of (Ok told) = Ok told.text
 outcome_of (Err refusal) = Err refusal
 

@@ -14,32 +14,32 @@ use Rattle.command_outcomes.specs.declared.refusal.Refusal.{Refusal}
 use Rattle.command_outcomes.specs.declared.refusal.Refusal.TheVariants.{Usage, NoPod, Ambiguous, Busy, BadManifest, NoImage, NoDependency, Cycle, Limit, DirFault, BundleFault, OutFault, NoMemory, NoFile, Conflict, Damaged, BadKind, Taken, WrongPhase, PodBusy, NoManifest, NoProgram, SpawnFault, LinkFault, Stray}
 
 -- the exit status of a refusal
-abbrev pub status_of : Refusal → ℕ
-status_of Usage = 1
-status_of NoPod = 2
-status_of (Ambiguous first second) = 3
-status_of (WrongPhase phase) = 4
-status_of (Busy area) = 5
-status_of (PodBusy pod which) = 5
-status_of (BadManifest path number) = 6
-status_of (NoImage key) = 7
-status_of (NoDependency name) = 7
-status_of (Cycle key) = 7
-status_of (Limit number) = 8
-status_of DirFault = 9
-status_of BundleFault = 10
-status_of SpawnFault = 11
-status_of OutFault = 12
-status_of LinkFault = 13
-status_of NoMemory = 14
-status_of (NoFile path) = 15
-status_of (Conflict key stored new) = 15
-status_of (Damaged path) = 15
-status_of (BadKind path) = 15
-status_of (Taken pod) = 17
-status_of (NoManifest pod) = 18
-status_of (NoProgram app word) = 19
-status_of Stray = 20
+abbrev pub exit_status_of : Refusal → ℕ
+exit_status_of Usage = 1
+exit_status_of NoPod = 2
+exit_status_of (Ambiguous first second) = 3
+exit_status_of (WrongPhase phase) = 4
+exit_status_of (Busy area) = 5
+exit_status_of (PodBusy pod which) = 5
+exit_status_of (BadManifest path number) = 6
+exit_status_of (NoImage key) = 7
+exit_status_of (NoDependency name) = 7
+exit_status_of (Cycle key) = 7
+exit_status_of (Limit number) = 8
+exit_status_of DirFault = 9
+exit_status_of BundleFault = 10
+exit_status_of SpawnFault = 11
+exit_status_of OutFault = 12
+exit_status_of LinkFault = 13
+exit_status_of NoMemory = 14
+exit_status_of (NoFile path) = 15
+exit_status_of (Conflict key stored new) = 15
+exit_status_of (Damaged path) = 15
+exit_status_of (BadKind path) = 15
+exit_status_of (Taken pod) = 17
+exit_status_of (NoManifest pod) = 18
+exit_status_of (NoProgram app word) = 19
+exit_status_of Stray = 20
 
 -- the name of an area
 abbrev pub area_text : Area → List ℕ

@@ -1,7 +1,7 @@
 // Why a command wasn't done.
 ghost use Rattle.std.specs.Prelude.{◌≡◌, true, IfOk, IfSome, IsNone};
 ghost use Rattle.dir_model.specs.Pods.{pod_text};
-ghost use Rattle.command_outcomes.specs.Texts.{status_of, message, area_text, named_line, lock_text, shown, is_made};
+ghost use Rattle.command_outcomes.specs.Texts.{exit_status_of, message, area_text, named_line, lock_text, shown, is_made};
 
 use crate::output::Output;
 use ac_types::Text;
@@ -67,7 +67,7 @@ pub enum Refusal {
 impl Refusal {
     /// The exit status.
     pub fn status(&self) -> u8
-        ensures { result ≡ status_of self.now }
+        ensures { result ≡ exit_status_of self.now }
     {
         match self {
             Refusal::Usage => 1,

@@ -1,5 +1,8 @@
 -- Where each command changes something: the locations whence it moves folders, where it removes some, and in whose folders it writes.
 use Rattle.std.proofs.Common.{◌≡◌, ◌⊎◌, inl, inr, ℕ, Bool, true, false, ◌&&◌, ◌||◌, bytes_eq, Option, Some, refl, sym, ap, subst, ◌∙◌}
+use Rattle.std.proofs.lemmas.Bool.{or_left}
+use Rattle.plain_laws.proofs.Texts.{same_bytes}
+use Rattle.plain_laws.proofs.Booleans.{or_nothing}
 use Rattle.ac_types.specs.declared.store_key.StoreKey.{StoreKey}
 use Rattle.dir_model.specs.declared.area.Area.{Area}
 use Rattle.dir_model.specs.declared.area.Area.TheVariants as area
@@ -12,11 +15,10 @@ use Rattle.dir_model.specs.Pods.{pod_text}
 use Rattle.dir_model.specs.State.{spot_eq}
 use Rattle.dir_model.proofs.Lists.{and_left, or_last}
 use Rattle.dir_rules.specs.Standing.{is_in}
-use Rattle.dir_rules.proofs.Looks.{same_bytes}
 use Rattle.dir_trait.specs.Replies.{is_look_at}
 use Rattle.folder_contents.proofs.Spots.{in_area, one_location}
 use Rattle.image_reading.specs.Places.{image_spot}
-use Rattle.image_removal.specs.Requests.{away_spot, removes_at, sweeps}
+use Rattle.image_removal.specs.Requests.{away_spot, removes_at, sweeps_store}
 use Rattle.image_store.specs.Requests.{building_spot, imports_at}
 use Rattle.phase_read.specs.Read.{is_pod_spot, pod_spot}
 use Rattle.pod_locks.specs.ClaimRequests.{in_prepared, in_run}
@@ -29,16 +31,12 @@ use Rattle.commands.specs.ImageImport.{is_building_place}
 use Rattle.commands.specs.ImageRm.{is_removal_place}
 use Rattle.commands.specs.NextState.{is_nowhere}
 use Rattle.commands.specs.Prepare.{prepares_pod}
-use Rattle.commands.specs.PrepareQuiet.{is_pod_place}
+use Rattle.commands.specs.PrepareQuiet.{is_making_spot}
 use Rattle.commands.specs.RemovalQuiet.{is_pods_place}
 use Rattle.commands.specs.Run.{makes_and_runs}
 use Rattle.commands.specs.RunPrepared.{runs_prepared}
 use Rattle.commands.proofs.LateTurns.{gc_moves, gc_removes, or_either, rm_moves, rm_removes}
-use Rattle.commands.proofs.RemovalQuiet.{ChangesAt, changed_in, or_false}
-
-or_first : (a b : Bool) → a ≡ true → (a || b) ≡ true
-or_first true b h = refl
-or_first false b h = cc
+use Rattle.commands.proofs.RemovalQuiet.{ChangesAt, changed_in}
 
 -- the folder that a request names is this one
 at_spot : (touched : Spot → Bool) (a b : Spot) → ◌≡◌ {A = Option Spot} (Some a) (Some b) → touched a ≡ true → touched b ≡ true
@@ -74,7 +72,7 @@ list_changes = record { moves = λ from to h. cc; removes = λ spot h. cc; fills
 -- an import changes its own folder in incoming
 pub import_changes : (draw : PodId) → ChangesAt (is_building_place draw) (imports_at (building_spot draw))
 import_changes draw = record {
-  moves = λ from to h. and_left (spot_eq from (building_spot draw)) (is_in area.Images to.area) (or_false _ h);
+  moves = λ from to h. and_left (spot_eq from (building_spot draw)) (is_in area.Images to.area) (or_nothing _ h);
   removes = λ spot h. cc;
   fills = filled;
 }
@@ -90,7 +88,7 @@ import_changes draw = record {
 -- a removal of an image changes its place and its own place in removed, a sweep incoming and removed
 pub removal_changes : (key : StoreKey) (draw : PodId) → ChangesAt (is_removal_place key draw) (removes_at key draw)
 removal_changes key draw = record {
-  moves = λ from to h. or_first (spot_eq from (image_spot key)) (spot_eq from (away_spot draw)) (and_left (spot_eq from (image_spot key)) (spot_eq to (away_spot draw)) (or_false _ h));
+  moves = λ from to h. or_left (spot_eq from (image_spot key)) (spot_eq from (away_spot draw)) (and_left (spot_eq from (image_spot key)) (spot_eq to (away_spot draw)) (or_nothing _ h));
   removes = λ spot h. or_last (spot_eq spot (image_spot key)) (spot_eq spot (away_spot draw)) h;
   fills = filled;
 }
@@ -103,14 +101,14 @@ removal_changes key draw = record {
     filled (RemoveDirIn i) spot is h = at_spot (is_removal_place key draw) i.spot spot is (or_last (spot_eq i.spot (image_spot key)) (spot_eq i.spot (away_spot draw)) h)
     filled request spot is h = cc
 
-pub sweep_changes : ChangesAt is_swept_place sweeps
+pub sweep_changes : ChangesAt is_swept_place sweeps_store
 sweep_changes = record {
-  moves = λ from to h. or_first (is_in from.area area.Incoming) (is_in from.area area.Removed) (and_left (is_in from.area area.Incoming) (is_in to.area area.Removed) h);
+  moves = λ from to h. or_left (is_in from.area area.Incoming) (is_in from.area area.Removed) (and_left (is_in from.area area.Incoming) (is_in to.area area.Removed) h);
   removes = λ spot h. or_last (is_in spot.area area.Incoming) (is_in spot.area area.Removed) h;
   fills = filled;
 }
   where
-    filled : (request : Request) (spot : Spot) → changed_in request ≡ Some spot → sweeps request ≡ true → is_swept_place spot ≡ true
+    filled : (request : Request) (spot : Spot) → changed_in request ≡ Some spot → sweeps_store request ≡ true → is_swept_place spot ≡ true
     filled (MakeDirIn i) spot is h = cc
     filled (MakeFileIn i) spot is h = cc
     filled (AppendIn i piece) spot is h = cc
@@ -119,10 +117,10 @@ sweep_changes = record {
     filled request spot is h = cc
 
 -- a prepare changes the places of its own pod
-pub prepare_changes : (draw : PodId) → ChangesAt (is_pod_place draw) (prepares_pod draw)
+pub prepare_changes : (draw : PodId) → ChangesAt (is_making_spot draw) (prepares_pod draw)
 prepare_changes draw = record { moves = λ from to h. moved from to h; removes = λ spot h. let clash : false ≡ true = h in cc; fills = filled }
   where
-    moved : (from to : Spot) → prepares_pod draw (MoveFolder from to) ≡ true → is_pod_place draw from ≡ true
+    moved : (from to : Spot) → prepares_pod draw (MoveFolder from to) ≡ true → is_making_spot draw from ≡ true
     moved from to h = by (spot_eq from (pod_at area.Embryo draw)) (spot_eq to (pod_at area.Prepare draw)) (spot_eq from (pod_at area.Prepare draw)) (spot_eq to (pod_at area.Prepared draw)) (spot_eq from (pod_at area.Prepared draw)) h
       where
         by : (a b c d e : Bool) → (((a && b) || ((c && d) || false)) || false) ≡ true → (a || (c || e)) ≡ true
@@ -130,12 +128,12 @@ prepare_changes draw = record { moves = λ from to h. moved from to h; removes =
         by false b true d e h = refl
         by false b false d e h = cc
 
-    there : (spot place : Spot) → ◌≡◌ {A = Option Spot} (Some spot) (Some place) → ((spot_eq spot (pod_at area.Prepare draw) || false) || false) ≡ true → is_pod_place draw place ≡ true
+    there : (spot place : Spot) → ◌≡◌ {A = Option Spot} (Some spot) (Some place) → ((spot_eq spot (pod_at area.Prepare draw) || false) || false) ≡ true → is_making_spot draw place ≡ true
     there spot place is h =
-        at_spot (is_pod_place draw) spot place is (or_last (spot_eq spot (pod_at area.Embryo draw)) (spot_eq spot (pod_at area.Prepare draw) || spot_eq spot (pod_at area.Prepared draw))
-        (or_first (spot_eq spot (pod_at area.Prepare draw)) (spot_eq spot (pod_at area.Prepared draw)) (or_false _ (or_false _ h))))
+        at_spot (is_making_spot draw) spot place is (or_last (spot_eq spot (pod_at area.Embryo draw)) (spot_eq spot (pod_at area.Prepare draw) || spot_eq spot (pod_at area.Prepared draw))
+        (or_left (spot_eq spot (pod_at area.Prepare draw)) (spot_eq spot (pod_at area.Prepared draw)) (or_nothing _ (or_nothing _ h))))
 
-    filled : (request : Request) (spot : Spot) → changed_in request ≡ Some spot → prepares_pod draw request ≡ true → is_pod_place draw spot ≡ true
+    filled : (request : Request) (spot : Spot) → changed_in request ≡ Some spot → prepares_pod draw request ≡ true → is_making_spot draw spot ≡ true
     filled (MakeDirIn i) spot is h = there i.spot spot is h
     filled (MakeFileIn i) spot is h = there i.spot spot is h
     filled (AppendIn i piece) spot is h = there i.spot spot is h
@@ -146,7 +144,7 @@ prepare_changes draw = record { moves = λ from to h. moved from to h; removes =
 -- a run of a prepared pod, and of a new one, those of that pod
 pub claim_changes : (pod : PodId) → ChangesAt (is_pod_spot pod) (runs_prepared pod)
 claim_changes pod = record {
-  moves = λ from to h. its_place pod area.Prepared from refl (sym (one_location (in_prepared pod) from (and_left (spot_eq (in_prepared pod) from) (spot_eq (in_run pod) to) (or_false _ h))));
+  moves = λ from to h. its_place pod area.Prepared from refl (sym (one_location (in_prepared pod) from (and_left (spot_eq (in_prepared pod) from) (spot_eq (in_run pod) to) (or_nothing _ h))));
   removes = λ spot h. cc;
   fills = filled;
 }
@@ -189,7 +187,7 @@ run_changes draw = record { moves = λ from to h. moved from to h; removes = λ 
     either_of false b h = inr h
 
     filled : (request : Request) (spot : Spot) → changed_in request ≡ Some spot → makes_and_runs draw request ≡ true → is_pod_spot draw spot ≡ true
-    filled (MakeDirIn i) spot is h = made i.spot spot is (or_false _ (or_false _ h))
+    filled (MakeDirIn i) spot is h = made i.spot spot is (or_nothing _ (or_nothing _ h))
     filled (MakeFileIn i) spot is h = noted i.spot spot is (either_of (spot_eq i.spot (pod_at area.Prepare draw)) (spot_eq i.spot (in_run draw)) h)
     filled (AppendIn i piece) spot is h = noted i.spot spot is (either_of (spot_eq i.spot (pod_at area.Prepare draw)) (spot_eq i.spot (in_run draw)) h)
     filled (RemoveFileIn i) spot is h = cc

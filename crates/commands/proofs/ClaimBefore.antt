@@ -1,6 +1,7 @@
 -- Where nobody else steps, what refused a claim was so before.
 use Rattle.std.proofs.Common.{◌≡◌, ◌⊎◌, inl, inr, ℕ, Bool, true, false, not, ◌&&◌, ◌||◌, ◌==◌, cond, bytes_eq, codes, Option, Some, None, is_some, List, [], ◌∷◌, ◌++◌, option_to_list, refl, sym, ap, subst, ◌∙◌, append_assoc}
 use Rattle.std.specs.List.{list_any, AllByRecursion}
+use Rattle.plain_laws.proofs.Texts.{same_bytes}
 use Rattle.dir_model.specs.declared.area.Area.{Area}
 use Rattle.dir_model.specs.declared.area.Area.TheVariants as area
 use Rattle.dir_model.specs.declared.area.Phase.{Phase}
@@ -23,19 +24,18 @@ use Rattle.dir_model.specs.Trace.{state_after, state_next, entries_kept, entry_m
 use Rattle.dir_model.specs.Trees.{is_file_entry, has_file}
 use Rattle.dir_model.proofs.Lists.{all_left, or_map, same_rest, same_self}
 use Rattle.dir_model.proofs.Moments.{at_grown, at_weaker}
-use Rattle.dir_rules.proofs.Looks.{same_bytes}
-use Rattle.dir_rules.specs.Standing.{is_of}
+use Rattle.dir_rules.specs.Standing.{is_spot_of_pod}
 use Rattle.lifecycle.specs.declared.machine.PodState.{PodState}
 use Rattle.lifecycle.specs.declared.machine.PodState.TheVariants as state
 use Rattle.lifecycle.specs.declared.machine.Transition.{Transition}
 use Rattle.lifecycle.specs.declared.machine.Transition.TheVariants as turn
-use Rattle.lifecycle.specs.PodMachine.{pod_state, pod_state_from, pod_state_next, pod_phase, phase_of_state, exists, is_owner, owner_of, turned, enabled, leads, if_so, arrival, transition, undeleted, deleted_from}
+use Rattle.lifecycle.specs.PodMachine.{pod_state, pod_state_from, pod_state_next, pod_phase, phase_of_state, exists, is_owner, owner_of, after_transition, enabled, leads, transition_if, arrival, transition, undeleted, deleted_from}
 use Rattle.lifecycle.specs.Executions.{IsConforming}
 use Rattle.lifecycle.proofs.Phases.{stands_exists}
 use Rattle.lifecycle.proofs.Stays.{machine_append}
 use Rattle.phase_read.specs.Exact.{AtOwnEvent, IsNowhere}
 use Rattle.phase_read.specs.Read.{pod_spot}
-use Rattle.pod_locks.specs.ClaimCauses.{LacksManifest, HeldByAnother, WasWrong, is_lock}
+use Rattle.pod_locks.specs.ClaimCauses.{IsPreparedWithoutManifest, PreparedHeldByAnother, WasWrongToClaim, is_lock}
 use Rattle.pod_locks.specs.Elsewhere.{is_owned_phase, IsOwnedElsewhere}
 use Rattle.pod_locks.specs.ClaimRequests.{in_prepared}
 use Rattle.pod_locks.specs.Work.{Grew, MovedNothing, is_ok_move}
@@ -64,7 +64,7 @@ none_back turn.End me x keeps may is = cc
 none_back turn.Remove me x keeps may is = cc
 none_back t me x keeps may is = cc
 
-none_stays : (o : Option Transition) (me : ℕ) (x : PodState) → is_no_removal o ≡ true → phase_of_state (turned o me x) ≡ None → phase_of_state x ≡ None
+none_stays : (o : Option Transition) (me : ℕ) (x : PodState) → is_no_removal o ≡ true → phase_of_state (after_transition o me x) ≡ None → phase_of_state x ≡ None
 none_stays None me x keeps is = is
 none_stays (Some t) me x keeps is = by (enabled t me x) refl is
   where
@@ -72,7 +72,7 @@ none_stays (Some t) me x keeps is = by (enabled t me x) refl is
     by true may is = none_back t me x keeps may is
     by false may is = is
 
-kept_if : (b : Bool) (t : Transition) → is_no_removal (Some t) ≡ true → is_no_removal (if_so b t) ≡ true
+kept_if : (b : Bool) (t : Transition) → is_no_removal (Some t) ≡ true → is_no_removal (transition_if b t) ≡ true
 kept_if true t is = is
 kept_if false t is = refl
 
@@ -101,7 +101,7 @@ is_calm _ = false
 abbrev Still : ℕ → PodState → PodState → Type 0
 Still me before x = (x ≡ before) ⊎ ((x ≡ state.Deleting me (deleted_from before)) × (undeleted (deleted_from before) ≡ before))
 
-calm_turn : (o : Option Transition) (me : ℕ) (x : PodState) → is_calm o ≡ true → is_owner me x ≡ false → Still me x (turned o me x)
+calm_turn : (o : Option Transition) (me : ℕ) (x : PodState) → is_calm o ≡ true → is_owner me x ≡ false → Still me x (after_transition o me x)
 calm_turn None me x calm free = inl refl
 calm_turn (Some turn.BeginDelete) me state.ExitedGarbage calm free = inr (refl, refl)
 calm_turn (Some turn.BeginDelete) me state.Garbage calm free = inr (refl, refl)
@@ -112,16 +112,16 @@ calm_turn (Some turn.End) me (state.Deleting owner from) calm free = inl (ap (λ
 calm_turn (Some turn.End) me x calm free = inl refl
 calm_turn (Some t) me x calm free = cc
 
-calm_deleting : (o : Option Transition) (me : ℕ) (from : Area) → is_calm o ≡ true → (turned o me (state.Deleting me from) ≡ state.Deleting me from) ⊎ (turned o me (state.Deleting me from) ≡ undeleted from)
+calm_deleting : (o : Option Transition) (me : ℕ) (from : Area) → is_calm o ≡ true → (after_transition o me (state.Deleting me from) ≡ state.Deleting me from) ⊎ (after_transition o me (state.Deleting me from) ≡ undeleted from)
 calm_deleting None me from calm = inl refl
 calm_deleting (Some turn.BeginDelete) me from calm = inl refl
 calm_deleting (Some turn.End) me from calm = inr (ap (λ b. cond b (undeleted from) (state.Deleting me from)) (same_self me))
 calm_deleting (Some t) me from calm = cc
 
-calm_still : (o : Option Transition) (me : ℕ) (before x : PodState) → is_calm o ≡ true → is_owner me before ≡ false → Still me before x → Still me before (turned o me x)
-calm_still o me before x calm free (inl same) = subst (λ (y : PodState). Still me before (turned o me y)) (sym same) (calm_turn o me before calm free)
+calm_still : (o : Option Transition) (me : ℕ) (before x : PodState) → is_calm o ≡ true → is_owner me before ≡ false → Still me before x → Still me before (after_transition o me x)
+calm_still o me before x calm free (inl same) = subst (λ (y : PodState). Still me before (after_transition o me y)) (sym same) (calm_turn o me before calm free)
 calm_still o me before x calm free (inr d) =
-    subst (λ (y : PodState). Still me before (turned o me y)) (sym d.0)
+    subst (λ (y : PodState). Still me before (after_transition o me y)) (sym d.0)
     (elim (calm_deleting o me (deleted_from before) calm) [ inl same ↦ inr (same, d.1) | inr back ↦ inl (back ∙ d.1) ])
 
 -- a step that makes, moves and removes no folder
@@ -131,7 +131,7 @@ is_calm_step (MoveFolder from to) Done = false
 is_calm_step (RemoveFolder spot) Done = false
 is_calm_step request reply = true
 
-calm_if : (b : Bool) (t : Transition) → is_calm (Some t) ≡ true → is_calm (if_so b t) ≡ true
+calm_if : (b : Bool) (t : Transition) → is_calm (Some t) ≡ true → is_calm (transition_if b t) ≡ true
 calm_if true t is = is
 calm_if false t is = refl
 
@@ -179,7 +179,7 @@ module _ (pod : PodId) (me : ℕ) where
   still_all before s x (e ∷ es) free own calm y =
       let next = calm_still (transition u s.namespace x me e.request e.reply) me before x (calm_transition u s.namespace x me e.request e.reply calm.0) free y in
       still_all before (state_next s e) (pod_state_next u s.namespace x e) es free own.1 calm.1
-      (subst (λ (p : ℕ). Still me before (turned (transition u s.namespace x p e.request e.reply) p x)) (sym own.0) next)
+      (subst (λ (p : ℕ). Still me before (after_transition (transition u s.namespace x p e.request e.reply) p x)) (sym own.0) next)
 
   begin_all : (es : List Event) → Mine es → AllByRecursion (λ e. (is_foreign me e || opens e.request) ≡ true) es → AreCalm es
   begin_all [] own asked = tt
@@ -191,7 +191,7 @@ module _ (pod : PodId) (me : ℕ) where
 
   no_removal : (n : Namespace) (x : PodState) (request : Request) (reply : Reply) → (is_kill request || in_process (runs_prepared pod) request) ≡ true → is_no_removal (transition u n x me request reply) ≡ true
   no_removal n x (MakeFolder spot) Done h = cc
-  no_removal n x (MoveFolder from to) Done h = kept_arrival (is_of u to) to.area
+  no_removal n x (MoveFolder from to) Done h = kept_arrival (is_spot_of_pod u to) to.area
   no_removal n x (RemoveFolder spot) Done h = cc
   no_removal n x (TryLock handle Exclusive) Done h = kept_if _ turn.BeginDelete refl
   no_removal n x (TryLock handle Shared) Done h = refl
@@ -249,7 +249,7 @@ module _ (pod : PodId) {me : ℕ} {old begun ended new : List Event} (r : Refuse
   still_event : {P : List Event → Type 0} → is_owner me (pod_state its old) ≡ false → MovedNothing me begun ended → (at : AtOwnEvent me begun ended P) → Still me (pod_state its old) (pod_state its (at.before ++ at.step ∷ []))
   still_event {P} free moved at = still_at free moved (at.before ++ at.step ∷ []) (at.later ++ at.step ∷ []) at.rest (ap (λ (h : List Event). h ++ at.step ∷ []) at.begins ∙ append_assoc begun at.later (at.step ∷ [])) at.ends
 
-  pub wrong_before : (p : Phase) → IsConforming old → OwnsNothing me (state_after old).namespace → MovedNothing me begun ended → WasWrong pod p me begun ended → (is_owned_phase p ≡ true → (a : Area) × AtOwnEvent me begun ended (IsOwnedElsewhere me pod p a)) → HasPhaseNow pod p old
+  pub wrong_before : (p : Phase) → IsConforming old → OwnsNothing me (state_after old).namespace → MovedNothing me begun ended → WasWrongToClaim pod p me begun ended → (is_owned_phase p ≡ true → (a : Area) × AtOwnEvent me begun ended (IsOwnedElsewhere me pod p a)) → HasPhaseNow pod p old
   wrong_before p conforming idle moved was met = has_phase_now pod old conforming p (by (is_owned_phase p) refl)
     where
       free : is_owner me (pod_state its old) ≡ false
@@ -303,7 +303,7 @@ module _ (pod : PodId) {me : ℕ} {old begun ended new : List Event} (r : Refuse
         (subst (λ (es : List TreeEntry). has_file es k (codes "pod") ≡ true) (sym (none_taken s request reply h)) is)) x.1,
   )
 
-  pub lacked_before : AtOwnStep me begun ended (LacksManifest pod) → LacksManifest pod (state_after old)
+  pub lacked_before : AtOwnStep me begun ended (IsPreparedWithoutManifest pod) → IsPreparedWithoutManifest pod (state_after old)
   lacked_before at =
       let k = at.holds.folder in
       let there : AtOwnStep me begun ended (Lacks k) = record { before = at.before; step = at.step; later = at.later; rest = at.rest; begins = at.begins; ends = at.ends; own = at.own; holds = (at.holds.there, at.holds.without) } in
@@ -311,7 +311,7 @@ module _ (pod : PodId) {me : ℕ} {old begun ended new : List Event} (r : Refuse
       record { folder = k; there = x.0; without = x.1 }
 
   -- its lock
-  pub lock_before : (which : Which) → HeldByAnother pod which me begun ended → IsClaimHeld pod which me (state_after old)
+  pub lock_before : (which : Which) → PreparedHeldByAnother pod which me begun ended → IsClaimHeld pod which me (state_after old)
   lock_before which b =
       let last = at_grown b.held in
       let front = at_grown b.found in

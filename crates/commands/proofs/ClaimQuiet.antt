@@ -1,6 +1,7 @@
 -- Where nobody else steps, a pod that was claimed waited in prepared before, and is left in run.
 use Rattle.std.proofs.Common.{◌≡◌, ◌⊎◌, inl, inr, ℕ, Bool, true, false, ◌&&◌, ◌||◌, Option, Some, None, is_some, List, [], ◌∷◌, ◌++◌, refl, sym, ap, subst, ◌∙◌, append_assoc}
-use Rattle.dir_model.specs.declared.area.Area.{Area}
+use Rattle.plain_laws.proofs.Texts.{same_bytes}
+use Rattle.plain_laws.proofs.Booleans.{or_nothing}
 use Rattle.dir_model.specs.declared.area.Area.TheVariants as area
 use Rattle.dir_model.specs.declared.area.Phase.TheVariants as phase
 use Rattle.dir_model.specs.declared.event.Event.{Event}
@@ -18,18 +19,17 @@ use Rattle.dir_model.specs.State.{DirState, spot_eq, folder_at}
 use Rattle.dir_model.specs.Trace.{state_after, namespace_replied}
 use Rattle.dir_model.proofs.Lists.{and_left, and_right}
 use Rattle.dir_model.proofs.Moments.{some_number}
-use Rattle.dir_rules.proofs.Looks.{same_bytes}
 use Rattle.folder_contents.proofs.Spots.{one_location}
 use Rattle.lifecycle.specs.declared.machine.PodState.TheVariants as state
-use Rattle.lifecycle.specs.PodMachine.{pod_state, arrival, is_place}
+use Rattle.lifecycle.specs.PodMachine.{pod_state, arrival}
 use Rattle.lifecycle.proofs.Opens.{prepared_is}
 use Rattle.lifecycle.proofs.Phases.{stands_exists}
 use Rattle.lifecycle.proofs.Places.{moved_away}
 use Rattle.pod_locks.specs.ClaimRequests.{in_prepared, in_run, claims}
 use Rattle.pod_locks.specs.Work.{Grew, TookBoth}
 use Rattle.pod_locks.proofs.Traces.{grown_more, grown_call}
+use Rattle.pod_locks.proofs.Outcomes.{place_waiting}
 use Rattle.commands.proofs.OwnSteps.{in_process, back_from, same_folders}
-use Rattle.commands.proofs.LateTurns.{or_false}
 use Rattle.commands.specs.RunPrepared.{runs_prepared}
 use Rattle.lifecycle.specs.Executions.{IsConforming}
 use Rattle.commands.specs.ClaimTable.{claim_error}
@@ -41,7 +41,7 @@ use Rattle.commands.proofs.Passing.{Leaves, is_unmarked, is_past, left_in_run, s
 -- its move
 claim_moves : (pod : PodId) (from to : Spot) → runs_prepared pod (MoveFolder from to) ≡ true → (from ≡ in_prepared pod) × (to ≡ in_run pod)
 claim_moves pod from to h =
-    let both = or_false (spot_eq (in_prepared pod) from && spot_eq (in_run pod) to) h in (
+    let both = or_nothing (spot_eq (in_prepared pod) from && spot_eq (in_run pod) to) h in (
       sym (one_location (in_prepared pod) from (and_left (spot_eq (in_prepared pod) from) (spot_eq (in_run pod) to) both)),
       sym (one_location (in_run pod) to (and_right (spot_eq (in_prepared pod) from) (spot_eq (in_run pod) to) both)),
     )
@@ -73,17 +73,13 @@ module _ (pod : PodId) (me : ℕ) where
   pub folder_back : (k : ℕ) (s : DirState) (request : Request) (reply : Reply) → (is_kill request || asks request) ≡ true → folder_at (namespace_replied s.namespace me request reply) here ≡ Some k → folder_at s.namespace here ≡ Some k
   folder_back k s (MakeFolder spot) reply h at = cc
   folder_back k s (MoveFolder from to) Done h at =
-      let is = claim_moves pod from to (or_false (runs_prepared pod (MoveFolder from to)) h) in
+      let is = claim_moves pod from to (or_nothing (runs_prepared pod (MoveFolder from to)) h) in
       let off : spot_eq to here ≡ false = subst (λ (x : Spot). spot_eq x here ≡ false) (sym is.1) refl in
       let from_here : spot_eq from here ≡ true = subst (λ (x : Spot). spot_eq x here ≡ true) (sym is.0) (same_bytes u) in
       let clash : None ≡ Some k = sym (moved_away s.namespace here from to off from_here) ∙ at in cc
   folder_back k s (MoveFolder from to) reply h at = at
   folder_back k s (RemoveFolder gone) reply h at = cc
   folder_back k s request reply h at = ap (λ (fs : List (Option Spot)). folder_at (record s.namespace { folders = fs }) here) (sym (same_folders me s.namespace request reply refl (λ handle. refl))) ∙ at
-
-prepared_alone : (a : Area) → is_place a state.Prepared ≡ true → a ≡ area.Prepared
-prepared_alone area.Prepared is = refl
-prepared_alone a is = cc
 
 -- the move of a claim, in its process
 pub record ClaimMove (pod : PodId) (me : ℕ) (old new : List Event) : Type 0 where
@@ -131,7 +127,7 @@ claimed_passed pod own {me} {old} {begun} {claimed} {ended} {new} ext quiet firs
     record {
       folder = k.0;
       stood = stood;
-      waited = λ conforming. phase_at pod old conforming state.Prepared phase.Prepared area.Prepared refl prepared_alone
+      waited = λ conforming. phase_at pod old conforming state.Prepared phase.Prepared area.Prepared refl place_waiting
           (prepared_is (pod_state (pod_text pod.bytes) old) (stands_exists (pod_text pod.bytes) old (in_prepared pod) conforming (same_bytes (pod_text pod.bytes)) (ap (λ (o : Option ℕ). is_some o) stood)).1);
       free = free;
       left = left_in_run pod (runs_prepared pod) (claim_leaves pod) me old new m.before m.later (in_prepared pod) ext quiet m.meanwhile m.begins m.moved finish.run k.0 (is_past finish) k.1;

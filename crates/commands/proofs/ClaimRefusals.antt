@@ -9,11 +9,11 @@ use Rattle.pod_locks.specs.declared.claim_error.ClaimError.{ClaimError}
 use Rattle.pod_locks.specs.declared.claim_error.ClaimError.TheVariants as claim
 use Rattle.pod_locks.specs.ClaimCauses.{ClaimCause, HadBothAlone}
 use Rattle.lifecycle.specs.Executions.{IsConforming}
-use Rattle.pod_locks.specs.Claims.{RefusedByAnother, IsFreeThroughout, IsFailure}
+use Rattle.pod_locks.specs.Claims.{ClaimRefusedByAnother, IsFreeThroughout, IsClaimFailure}
 use Rattle.pod_locks.specs.Elsewhere.{MetOwner}
 use Rattle.pod_locks.specs.ClaimHolding.{MayClaim}
 use Rattle.pod_locks.specs.ClaimRequests.{claims}
-use Rattle.pod_locks.specs.Work.{Grew, Leaves, MovedNothing, TookBoth}
+use Rattle.pod_locks.specs.Work.{Grew, WhereObservedKnew, MovedNothing, TookBoth}
 use Rattle.command_outcomes.specs.declared.refusal.Refusal.{Refusal}
 use Rattle.command_outcomes.specs.declared.refusal.Refusal.TheVariants.{NoPod, WrongPhase, PodBusy, DirFault, SpawnFault}
 use Rattle.command_outcomes.specs.Moments.{Answer, Inside, dir_seen, SpawnerSeen}
@@ -59,7 +59,7 @@ module _ (seen observed : Bool) (pod : PodId) (address : List ℕ) (a c : DirAt)
   pub claimed_says : (b : DirAt) (owned : Owned) → IsOwned pod a.local owned → b.process ≡ a.process → (seen ≡ true → ExtendsBy (claims pod) a b) → (seen ≡ true → TookBoth pod owned.own a.process a.trace b.trace) → (seen ≡ true → HadBothAlone pod a.process a.trace b.trace) → (seen ≡ true → Grew b.trace c.trace) → RunSays seen observed owned address [] b c s s' answer → Says
   claimed_says b owned is same asked took alone then says = record { from = a; to = c; begins = refl; ends = refl; so = inl (record { claimed = b; owned = owned; is_owned = is; same = same; asked = asked; took = took; alone = alone; then = then; says = says }) }
 
-  pub unclaimed_says : (e : ClaimError) → answer ≡ Err (claim_refusal pod e) → ClaimCause seen pod e a c → (seen ≡ true → MovedNothing a.process a.trace c.trace) → Leaves seen MayClaim a (λ known. RefusedByAnother pod e a c) → Leaves seen MayClaim a (λ known. MetOwner pod e a c) →
-      Leaves seen MayClaim a (λ known. IsConforming c.trace → IsFreeThroughout pod a c → IsFailure e) → s' ≡ s → Says
+  pub unclaimed_says : (e : ClaimError) → answer ≡ Err (claim_refusal pod e) → ClaimCause seen pod e a c → (seen ≡ true → MovedNothing a.process a.trace c.trace) → WhereObservedKnew seen MayClaim a (λ known. ClaimRefusedByAnother pod e a c) → WhereObservedKnew seen MayClaim a (λ known. MetOwner pod e a c) →
+      WhereObservedKnew seen MayClaim a (λ known. IsConforming c.trace → IsFreeThroughout pod a c → IsClaimFailure e) → s' ≡ s → Says
   unclaimed_says e is cause still another owner complete unasked =
       record { from = a; to = c; begins = refl; ends = refl; so = inr (record { error = e; is = is; cause = cause; still = still; another = another; owner = owner; complete = complete; unasked = unasked }) }

@@ -1,6 +1,7 @@
 -- Where nobody else steps, a claim is refused for what the state before asks for.
 use Rattle.std.proofs.Common.{◌≡◌, ◌&&◌, ◌==◌, ◌||◌, ℕ, Bool, true, false, not, cond, bytes_eq, codes, Option, Some, None, is_some, List, [], ◌∷◌, refl, sym, ap, subst, ◌∙◌}
 use Rattle.std.specs.List.{list_any}
+use Rattle.plain_laws.proofs.Booleans.{or_nothing}
 use Rattle.dir_model.specs.declared.area.Area.TheVariants as area
 use Rattle.dir_model.specs.declared.area.Phase.{Phase}
 use Rattle.dir_model.specs.declared.area.Phase.TheVariants as kind
@@ -32,7 +33,7 @@ use Rattle.folder_contents.proofs.Spots.{one_location}
 use Rattle.phase_read.specs.Sequential.{sequential_read}
 use Rattle.pod_locks.specs.declared.claim_error.ClaimError.{ClaimError}
 use Rattle.pod_locks.specs.declared.claim_error.ClaimError.TheVariants.{NoPod, WrongPhase, NoManifest, Busy}
-use Rattle.pod_locks.specs.ClaimCauses.{is_prepared, is_lock, is_held_elsewhere, LacksManifest, OpensThere, HeldByAnother, HadAlone, HadBothAlone, HadClaim}
+use Rattle.pod_locks.specs.ClaimCauses.{is_prepared, is_lock, is_held_elsewhere, IsPreparedWithoutManifest, OpensThere, PreparedHeldByAnother, HadAlone, HadBothAlone, HadClaimBefore}
 use Rattle.pod_locks.specs.ClaimRequests.{in_prepared, in_run}
 use Rattle.pod_locks.specs.Work.{Grew}
 use Rattle.pod_locks.proofs.Times.{at_part}
@@ -46,7 +47,6 @@ use Rattle.commands.specs.RunQuiet.{IsClaimHeld}
 use Rattle.commands.proofs.ClaimQuiet.{folder_back}
 use Rattle.commands.proofs.FolderItems.{changed, any_replied}
 use Rattle.commands.proofs.GcTable.{held_at}
-use Rattle.commands.proofs.LateTurns.{or_false}
 use Rattle.commands.proofs.Openings.{free_before}
 use Rattle.commands.proofs.OwnSteps.{in_process, back_at}
 use Rattle.commands.proofs.RmTable.{none_read, prepared_read}
@@ -89,7 +89,7 @@ module _ (me : ℕ) (pod : PodId) (s : DirState) where
 pub wrong_why : (me : ℕ) (pod : PodId) (p : Phase) (h : List Event) → is_prepared p ≡ false → HasPhaseNow pod p h → IsWhy pod (WrongPhase p) me (state_after h)
 wrong_why me pod p h wrong has = ap (found_error me pod (state_after h)) has.reads ∙ ap (λ (b : Bool). cond b (waiting_error me pod (state_after h)) (Some (WrongPhase p))) wrong
 
-pub lacking_why : (me : ℕ) (pod : PodId) (h : List Event) → IsConforming h → LacksManifest pod (state_after h) → IsWhy pod NoManifest me (state_after h)
+pub lacking_why : (me : ℕ) (pod : PodId) (h : List Event) → IsConforming h → IsPreparedWithoutManifest pod (state_after h) → IsWhy pod NoManifest me (state_after h)
 lacking_why me pod h conforming lacks =
     let s = state_after h in
     waits_why me pod s (Some NoManifest) (prepared_read pod h conforming (ap (λ (o : Option ℕ). is_some o) lacks.there)) (with_manifest me pod s lacks.folder lacks.there false lacks.without)
@@ -109,10 +109,10 @@ module _ (pod : PodId) {me : ℕ} {old new : List Event} (ext : Extends (in_proc
   off : (request : Request) → (is_kill request || in_process (runs_prepared pod) request) ≡ true → (inner : Inner) → changed request ≡ Some inner → spot_eq inner.spot (in_prepared pod) ≡ false
   off (MakeFileIn a) h inner is =
       let same : a ≡ inner = let e : Some a ≡ Some inner = is in cc in
-      subst (λ (i : Inner). spot_eq i.spot (in_prepared pod) ≡ false) same (apart a.spot (or_false (runs_prepared pod (MakeFileIn a)) h))
+      subst (λ (i : Inner). spot_eq i.spot (in_prepared pod) ≡ false) same (apart a.spot (or_nothing (runs_prepared pod (MakeFileIn a)) h))
   off (AppendIn a piece) h inner is =
       let same : a ≡ inner = let e : Some a ≡ Some inner = is in cc in
-      subst (λ (i : Inner). spot_eq i.spot (in_prepared pod) ≡ false) same (apart a.spot (or_false (runs_prepared pod (AppendIn a piece)) h))
+      subst (λ (i : Inner). spot_eq i.spot (in_prepared pod) ≡ false) same (apart a.spot (or_nothing (runs_prepared pod (AppendIn a piece)) h))
   off (MakeDirIn a) h inner is = cc
   off (RemoveFileIn a) h inner is = cc
   off (RemoveDirIn a) h inner is = cc
@@ -174,7 +174,7 @@ module _ (pod : PodId) {me : ℕ} {old new : List Event} (ext : Extends (in_proc
   one j k p q = let e : Some j ≡ Some k = sym p ∙ q in cc
 
   -- another process held a lock
-  pub busy_why : (which : Which) {begun ended : List Event} → Grew old begun → Grew ended new → HeldByAnother pod which me begun ended → HadClaim pod which me begun ended → IsClaimHeld pod which me s → IsWhy pod (Busy pod which) me s
+  pub busy_why : (which : Which) {begun ended : List Event} → Grew old begun → Grew ended new → PreparedHeldByAnother pod which me begun ended → HadClaimBefore pod which me begun ended → IsClaimHeld pod which me s → IsWhy pod (Busy pod which) me s
   busy_why Claim {begun} {ended} first last h had held =
       let g = at_grown h.held in
       let has = has_before h.folder (at_part first refl (grown_more (record { more = g.0; grown = g.1 }) last) h.found) in

@@ -1,6 +1,7 @@
 -- A pod that was claimed and then run: what the process knows and has open, from call to call.
-use Rattle.std.proofs.Common.{◌≡◌, ℕ, ◌==◌, Bool, true, false, not, ◌&&◌, ◌||◌, cond, List, [], ◌∷◌, ◌++◌, filter, Ok, Err, Result, refl, sym, ap, subst, ◌∙◌, arith}
+use Rattle.std.proofs.Common.{◌≡◌, ℕ, ◌==◌, Bool, true, false, not, ◌||◌, cond, List, [], ◌∷◌, ◌++◌, filter, Ok, Err, Result, refl, sym, ap, subst, ◌∙◌, arith}
 use Rattle.std.specs.List.{list_any}
+use Rattle.plain_laws.proofs.Booleans.{never_both, never_deletes}
 use Rattle.dir_model.specs.declared.area.Area.TheVariants.{Embryo}
 use Rattle.dir_model.specs.declared.intent.Intent.{Intent}
 use Rattle.dir_model.specs.declared.opening.Holding.{Holding}
@@ -10,7 +11,7 @@ use Rattle.dir_model.specs.declared.request.Request.TheVariants.{Close}
 use Rattle.dir_model.specs.declared.spot.Handle.{Handle}
 use Rattle.dir_model.specs.declared.spot.Spot.{Spot}
 use Rattle.dir_model.specs.declared.spot.Which.TheVariants.{Own}
-use Rattle.dir_model.specs.Local.{Local, IsActive, IsOpen, is_number, has_own_open, without}
+use Rattle.dir_model.specs.Local.{Local, IsActive, IsOpen, is_handle_of, has_own_open, without}
 use Rattle.dir_model.specs.Pods.{pod_text}
 use Rattle.dir_model.proofs.Chains.{and_more, extends_wider}
 use Rattle.dir_model.proofs.Lists.{same_self}
@@ -20,20 +21,20 @@ use Rattle.dir_rules.specs.LockRules.{may_close}
 use Rattle.dir_rules.specs.Standing.{is_run_prepared, is_gate_shared, gives_up, holds_own, intends}
 use Rattle.dir_trait.specs.DirCalls.{DirAt, ExtendsBy}
 use Rattle.dir_trait.specs.Knowledge.{Knows, LookedInto}
-use Rattle.folder_building.specs.Work.{Worked}
+use Rattle.dir_trait.specs.Effects.{OnlyAsks, LeavesOpen}
 use Rattle.pod_locks.specs.declared.owned.Owned.{Owned}
 use Rattle.pod_locks.specs.Running.{IsOwned, RunsPod}
 use Rattle.pod_locks.specs.ClaimRequests.{claims}
-use Rattle.pod_locks.specs.ClaimHolding.{MayClaim, and_lock, with_pod}
+use Rattle.pod_locks.specs.ClaimHolding.{MayClaim, and_prepared_lock, with_pod}
 use Rattle.pod_locks.specs.declared.claim_error.ClaimError.{ClaimError}
 use Rattle.pod_locks.specs.Claims.{HasPod, and_owned}
-use Rattle.pod_locks.specs.Work.{Leaves}
+use Rattle.pod_locks.specs.Work.{WhereObservedKnew}
 use Rattle.pod_locks.specs.Work as claiming
 use Rattle.pod_locks.proofs.ClaimSeen.{runs_pod}
-use Rattle.stage1.specs.Keeping.{IsFresh, KeepsToEnd}
-use Rattle.stage1.specs.Runs.{Went, closes, runs_and_closes}
+use Rattle.stage1.specs.Keeping.{RunsWithoutNotes, KeepsToEnd}
+use Rattle.stage1.specs.Runs.{closes, runs_and_closes}
 use Rattle.stage1.specs.Runs as stage1
-use Rattle.command_outcomes.specs.Conforming.{begun, StaysConforming}
+use Rattle.command_outcomes.specs.Conforming.{seen_at_begin, StaysConforming}
 use Rattle.command_outcomes.specs.Moments.{dir_seen}
 use Rattle.commands.specs.RunPrepared.{runs_prepared, CanClaim}
 
@@ -43,13 +44,13 @@ and_holding m h = record m { holdings = m.holdings ++ h ∷ [] }
 
 pub given_back : (m : Local) (h : Holding) (own : Handle) → m.holdings ≡ [] → h.handle ≡ own → without (and_holding m h) own ≡ m
 given_back m h own none is =
-    ap (λ (hs : List Holding). record m { holdings = filter (λ (x : Holding). not (is_number own x)) (hs ++ h ∷ []) }) none
+    ap (λ (hs : List Holding). record m { holdings = filter (λ (x : Holding). not (is_handle_of own x)) (hs ++ h ∷ []) }) none
     ∙ (ap (λ (b : Bool). record m { holdings = cond (not b) (h ∷ []) [] }) (subst (λ (x : Handle). (x.number == own.number) ≡ true) (sym is) (same_self own.number))
     ∙ ap (λ (hs : List Holding). record m { holdings = hs }) (sym none))
 
 pub is_open : (m : Local) (h : Holding) (own : Handle) → m.holdings ≡ [] → h.handle ≡ own → IsOpen (and_holding m h) own
 is_open m h own none is =
-    ap (λ (hs : List Holding). list_any (is_number own) (hs ++ h ∷ [])) none
+    ap (λ (hs : List Holding). list_any (is_handle_of own) (hs ++ h ∷ [])) none
     ∙ ap (λ (b : Bool). b || false) (subst (λ (x : Handle). (x.number == own.number) ≡ true) (sym is) (same_self own.number))
 
 pub still_active : (m : Local) (h : Holding) → IsActive m → IsActive (and_holding m h)
@@ -59,11 +60,11 @@ pub none_open : (m : Local) (name : List ℕ) → m.holdings ≡ [] → has_own_
 none_open m name none = subst (λ (hs : List Holding). has_own_open (record m { holdings = hs }) name ≡ false) (sym none) refl
 
 -- what is open after a claim
-pub claimed_went : {observed : Bool} {a b : DirAt} (m : Local) (pod : PodId) (r : Result Owned ClaimError) (owned : Owned) → r ≡ Ok owned → claiming.Went observed 66 pod (and_owned m pod r) a b → claiming.Went observed 66 pod (and_lock m pod Own owned.own) a b
-claimed_went {observed} {a} {b} m pod r owned is w = subst (λ (x : Result Owned ClaimError). claiming.Went observed 66 pod (and_owned m pod x) a b) is w
+pub claimed_went : {observed : Bool} {a b : DirAt} (m : Local) (pod : PodId) (r : Result Owned ClaimError) (owned : Owned) → r ≡ Ok owned → claiming.WentClaiming observed 66 pod (and_owned m pod r) a b → claiming.WentClaiming observed 66 pod (and_prepared_lock m pod Own owned.own) a b
+claimed_went {observed} {a} {b} m pod r owned is w = subst (λ (x : Result Owned ClaimError). claiming.WentClaiming observed 66 pod (and_owned m pod x) a b) is w
 
-pub unclaimed_went : {observed : Bool} {a b : DirAt} (m : Local) (pod : PodId) (r : Result Owned ClaimError) (e : ClaimError) → r ≡ Err e → claiming.Went observed 66 pod (and_owned m pod r) a b → claiming.Went observed 66 pod m a b
-unclaimed_went {observed} {a} {b} m pod r e is w = subst (λ (x : Result Owned ClaimError). claiming.Went observed 66 pod (and_owned m pod x) a b) is w
+pub unclaimed_went : {observed : Bool} {a b : DirAt} (m : Local) (pod : PodId) (r : Result Owned ClaimError) (e : ClaimError) → r ≡ Err e → claiming.WentClaiming observed 66 pod (and_owned m pod r) a b → claiming.WentClaiming observed 66 pod m a b
+unclaimed_went {observed} {a} {b} m pod r e is w = subst (λ (x : Result Owned ClaimError). claiming.WentClaiming observed 66 pod (and_owned m pod x) a b) is w
 
 -- its requests
 claims_in : (pod : PodId) (r : Request) → claims pod r ≡ true → runs_prepared pod r ≡ true
@@ -81,8 +82,8 @@ runs_in pod own r is = by (closes own r) (claims pod r) (closes_claims pod own r
     by false true so h = refl
     by false false so h = h
 
-pub claimed_worked : {observed : Bool} {a b c : DirAt} {m : Local} (pod : PodId) (owned : Owned) (h : Holding) → IsOwned pod m owned → h.handle ≡ owned.own → a.local.holdings ≡ [] → claiming.Went observed 66 pod (and_holding a.local h) a b →
-    Went observed (runs_and_closes owned.pod owned.own) (without b.local owned.own) b c → Worked observed (runs_prepared pod) a c
+pub claimed_worked : {observed : Bool} {a b c : DirAt} {m : Local} (pod : PodId) (owned : Owned) (h : Holding) → IsOwned pod m owned → h.handle ≡ owned.own → a.local.holdings ≡ [] → claiming.WentClaiming observed 66 pod (and_holding a.local h) a b →
+    LeavesOpen observed (runs_and_closes owned.pod owned.own) (without b.local owned.own) b c → OnlyAsks observed (runs_prepared pod) a c
 claimed_worked {observed} {a} {b} {c} pod owned h own is none w v = record {
   same = v.same ∙ w.same;
   faults = omega (arith, w.faults, v.faults);
@@ -90,30 +91,22 @@ claimed_worked {observed} {a} {b} {c} pod owned h own is none w v = record {
   extends = λ t. and_more (extends_wider (claims_in pod) (w.extends t)) w.same (extends_wider (runs_in pod owned.own) (subst (λ (p : PodId). ExtendsBy (runs_and_closes p owned.own) b c) own.is (v.extends t)));
 }
 
-pub unclaimed_worked : {observed : Bool} {a b : DirAt} (pod : PodId) → claiming.Went observed 66 pod a.local a b → Worked observed (runs_prepared pod) a b
+pub unclaimed_worked : {observed : Bool} {a b : DirAt} (pod : PodId) → claiming.WentClaiming observed 66 pod a.local a b → OnlyAsks observed (runs_prepared pod) a b
 unclaimed_worked pod w = record { same = w.same; faults = w.faults; local = w.local_is; extends = λ t. extends_wider (claims_in pod) (w.extends t) }
 
 -- it keeps the local rules
 abbrev looked_at : Intent → List Spot → Seen
-looked_at intent free = record (begun intent) { standing = record (begun intent).standing { looked = free ++ (begun intent).standing.looked } }
+looked_at intent free = record (seen_at_begin intent) { standing = record (seen_at_begin intent).standing { looked = free ++ (seen_at_begin intent).standing.looked } }
 
-never_both : (b c : Bool) → not ((b && false) && c) ≡ true
-never_both true c = refl
-never_both false c = refl
-
-never_deletes : (b : Bool) → ((b && false) || false) ≡ false
-never_deletes true = refl
-never_deletes false = refl
-
-fresh_at : (pod : PodId) (own : Handle) (intent : Intent) (free : List Spot) → IsFresh pod (with_pod pod own (looked_at intent free))
+fresh_at : (pod : PodId) (own : Handle) (intent : Intent) (free : List Spot) → RunsWithoutNotes pod (with_pod pod own (looked_at intent free))
 fresh_at pod own intent free = record { runs_it = runs_pod pod own (looked_at intent free); spares_it = never_deletes _; none = refl }
 
-pub may_begin : (intent : Intent) → is_run_prepared intent.kind ≡ true → MayClaim (begun intent)
-may_begin intent is = record { began = is; apart = refl; cleared = refl }
+pub may_begin : (intent : Intent) → is_run_prepared intent.kind ≡ true → MayClaim (seen_at_begin intent)
+may_begin intent is = record { began = is; apart = refl; seen_unowned_under_claim = refl }
 
-module _ (pod : PodId) (own : Handle) (intent : Intent) (known : Seen) (looked : Looked (begun intent) known) where
-  fresh_claimed : IsFresh pod (with_pod pod own known)
-  fresh_claimed = subst (λ (s : Seen). IsFresh pod (with_pod pod own s)) (sym looked.same) (fresh_at pod own intent looked.free)
+module _ (pod : PodId) (own : Handle) (intent : Intent) (known : Seen) (looked : Looked (seen_at_begin intent) known) where
+  fresh_claimed : RunsWithoutNotes pod (with_pod pod own known)
+  fresh_claimed = subst (λ (s : Seen). RunsWithoutNotes pod (with_pod pod own s)) (sym looked.same) (fresh_at pod own intent looked.free)
 
   may_give : may_close (with_pod pod own known).standing own ≡ true
   may_give = subst (λ (s : Seen). may_close (with_pod pod own s).standing own ≡ true) (sym looked.same) (never_both (gives_up (is_gate_shared Embryo) own (with_pod pod own (looked_at intent looked.free)).standing.holdings) (intends (λ i. holds_own (pod_text i.draw.bytes) (with_pod pod own (looked_at intent looked.free)).standing) (with_pod pod own (looked_at intent looked.free)).standing.intent))
@@ -126,17 +119,17 @@ module _ (pod : PodId) (own : Handle) (intent : Intent) (known : Seen) (looked :
       let x = keeps (with_pod pod own known) knows fresh_claimed may_give in
       record { known = x.known; knows = record { tied = x.knows.tied; handles = x.knows.handles }; kept = x.kept ∙ was_kept }
 
-pub claimed_keeps : {observed : Bool} {m : Local} (pod : PodId) (owned : Owned) (intent : Intent) (a b c : DirAt) → IsOwned pod m owned → observed ≡ true → is_run_prepared intent.kind ≡ true → Leaves observed MayClaim a (λ s. HasPod pod owned.own s b) →
+pub claimed_keeps : {observed : Bool} {m : Local} (pod : PodId) (owned : Owned) (intent : Intent) (a b c : DirAt) → IsOwned pod m owned → observed ≡ true → is_run_prepared intent.kind ≡ true → WhereObservedKnew observed MayClaim a (λ s. HasPod pod owned.own s b) →
     KeepsToEnd owned.pod owned.own b c → StaysConforming intent (dir_seen observed a) (dir_seen observed c)
 claimed_keeps {observed} pod owned intent a b c own t is held keeps k =
-    let h = held t (begun intent) (may_begin intent is) (record { tied = k.tied; handles = k.handles }) in
+    let h = held t (seen_at_begin intent) (may_begin intent is) (record { tied = k.tied; handles = k.handles }) in
     ends_so pod owned.own intent h.known h.looked observed a b c h.knows (subst (λ (p : PodId). KeepsToEnd p owned.own b c) own.is keeps) k
 
-pub unclaimed_keeps : {observed : Bool} (intent : Intent) (a b : DirAt) → observed ≡ true → is_run_prepared intent.kind ≡ true → Leaves observed MayClaim a (λ s. LookedInto s b) → StaysConforming intent (dir_seen observed a) (dir_seen observed b)
+pub unclaimed_keeps : {observed : Bool} (intent : Intent) (a b : DirAt) → observed ≡ true → is_run_prepared intent.kind ≡ true → WhereObservedKnew observed MayClaim a (λ s. LookedInto s b) → StaysConforming intent (dir_seen observed a) (dir_seen observed b)
 unclaimed_keeps {observed} intent a b t is left k =
-    let l = left t (begun intent) (may_begin intent is) (record { tied = k.tied; handles = k.handles }) in
+    let l = left t (seen_at_begin intent) (may_begin intent is) (record { tied = k.tied; handles = k.handles }) in
     record { known = l.known; knows = record { tied = l.knows.tied; handles = l.knows.handles }; kept = ap (λ (s : Seen). s.kept) l.looked.same }
 
 -- it runs the pod that it owns
-pub owned_runs : {observed : Bool} {m : Local} (pod : PodId) (owned : Owned) (a b : DirAt) → IsOwned pod m owned → (observed ≡ true → CanClaim a) → Leaves observed MayClaim a (λ s. RunsPod pod b) → observed ≡ true → RunsPod owned.pod b
+pub owned_runs : {observed : Bool} {m : Local} (pod : PodId) (owned : Owned) (a b : DirAt) → IsOwned pod m owned → (observed ≡ true → CanClaim a) → WhereObservedKnew observed MayClaim a (λ s. RunsPod pod b) → observed ≡ true → RunsPod owned.pod b
 owned_runs pod owned a b is can runs t = subst (λ (p : PodId). RunsPod p b) (sym is.is) (let x = can t in runs t x.0 x.2 x.1)

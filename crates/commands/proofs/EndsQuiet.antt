@@ -1,6 +1,7 @@
 -- Where nobody else steps: of a pod that was run to its end by a whole process, the marks and the statuses stand in its folder in the end.
 use Rattle.std.proofs.Common.{arith, ◌≡◌, ◌≤◌, ◌⊎◌, inl, inr, ℕ, ◌+◌, Bool, true, false, not, ◌||◌, Some, List, ◌∷◌, ◌++◌, refl, sym, ap, subst, ◌∙◌, append_assoc}
 use Rattle.std.specs.List.{AllByRecursion}
+use Rattle.plain_laws.proofs.Booleans.{clash}
 use Rattle.dir_model.specs.declared.event.Event.{Event}
 use Rattle.dir_model.specs.declared.intent.Intent.{Intent}
 use Rattle.dir_model.specs.declared.item.Inner.{Inner}
@@ -21,7 +22,6 @@ use Rattle.dir_model.proofs.Lists.{all_right, and_left, and_right, or_last, same
 use Rattle.dir_trait.specs.DirCalls.{DirAt}
 use Rattle.folder_building.specs.Making.{inner_at}
 use Rattle.folder_building.specs.Work.{either}
-use Rattle.lifecycle.proofs.Handles.{clash}
 use Rattle.pod_locks.specs.ClaimRequests.{in_run}
 use Rattle.pod_locks.specs.Work.{Grew}
 use Rattle.pod_locks.proofs.Traces.{grown_more, grown_call}

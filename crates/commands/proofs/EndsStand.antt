@@ -1,6 +1,7 @@
 -- Where nobody else steps: the marks and the statuses of the apps of a pod that was run stand in its folder in the end.
 use Rattle.std.proofs.Common.{arith, ◌≡◌, ◌≤◌, ◌⊎◌, inl, inr, ℕ, ◌+◌, Bool, true, false, not, ◌&&◌, ◌||◌, ◌==◌, bytes_eq, Some, List, [], ◌∷◌, ◌++◌, refl, sym, ap, subst, ◌∙◌, append_assoc}
 use Rattle.std.specs.List.{AllByRecursion}
+use Rattle.plain_laws.proofs.Texts.{same_bytes, same_text}
 use Rattle.dir_model.specs.declared.event.Event.{Event}
 use Rattle.dir_model.specs.declared.item.Inner.{Inner}
 use Rattle.dir_model.specs.declared.pod.PodId.{PodId}
@@ -14,19 +15,16 @@ use Rattle.dir_model.specs.State.{DirState, empty_state, folder_at, spot_eq}
 use Rattle.dir_model.specs.Trace.{state_after, states_next}
 use Rattle.dir_model.specs.Trees.{content, has_file, is_apps_own}
 use Rattle.dir_model.proofs.Chains.{states_next-append, run_from-right}
-use Rattle.dir_model.proofs.Lists.{all_right, and_left, and_right, and_both, same_self}
+use Rattle.dir_model.proofs.Lists.{all_right, and_left, and_right, and_both, same_self, same_number}
 use Rattle.dir_model.proofs.Spots.{spot_self}
-use Rattle.dir_rules.proofs.Looks.{same_bytes}
 use Rattle.dir_rules.specs.Seen.{inner_eq}
 use Rattle.dir_trait.specs.DirCalls.{DirAt}
 use Rattle.folder_building.specs.Making.{inner_at}
 use Rattle.folder_contents.proofs.Spots.{one_location}
-use Rattle.lifecycle.proofs.Handles.{nat_same}
-use Rattle.lifecycle.proofs.Places.{name_same}
 use Rattle.manifests.specs.declared.runtime_app.RuntimeApp.{RuntimeApp}
 use Rattle.pod_locks.specs.ClaimRequests.{in_run}
 use Rattle.stage1.specs.declared.start.AppStart.{AppStart}
-use Rattle.stage1.specs.AppPlaces.{root_of}
+use Rattle.stage1.specs.AppPlaces.{app_root_of}
 use Rattle.stage1.specs.Starts.{AreStarts}
 use Rattle.commands.proofs.OwnSteps.{in_process}
 use Rattle.spawner.specs.declared.call.RootPlace.{RootPlace}
@@ -36,7 +34,7 @@ use Rattle.stage1.specs.Beginnings.{AreMarked}
 use Rattle.stage1.specs.Notes.{mark_inner, status_inner, status_path, status_text, makes_own_mark, makes_status, writes_status, MadeMark, WroteStatus}
 use Rattle.stage1.specs.Runs.{AreEnds, AreWrittenAll}
 use Rattle.stage1.proofs.Appends.{count, count_more}
-use Rattle.commands.specs.RunQuiet.{HasEnded}
+use Rattle.commands.specs.RunQuiet.{FolderShowsEnd}
 use Rattle.commands.proofs.NotesStand.{RemovesNothing, file_stands, bytes_stand}
 use Rattle.commands.proofs.Passing.{Leaves}
 use Rattle.commands.proofs.Unowned.{IsOutside, mark_outside, status_outside, never_owned}
@@ -45,7 +43,7 @@ use Rattle.commands.proofs.Unowned.{IsOutside, mark_outside, status_outside, nev
 inner_is : (a b : Inner) → inner_eq a b ≡ true → a ≡ b
 inner_is a b h =
     let spots : a.spot ≡ b.spot = one_location a.spot b.spot (and_left (spot_eq a.spot b.spot) (bytes_eq a.path b.path) h) in
-    let paths : a.path ≡ b.path = name_same a.path b.path (and_right (spot_eq a.spot b.spot) (bytes_eq a.path b.path) h) in
+    let paths : a.path ≡ b.path = same_text a.path b.path (and_right (spot_eq a.spot b.spot) (bytes_eq a.path b.path) h) in
     ap (λ (x : Spot). inner_at x a.path) spots ∙ ap (λ (p : List ℕ). inner_at b.spot p) paths
 
 mark_request : (root : RootPlace) (request : Request) → makes_own_mark root request ≡ true → request ≡ MakeFileIn (mark_inner root)
@@ -59,7 +57,7 @@ status_request root request h = cc
 write_request : (root : RootPlace) (status : ℕ) (request : Request) → writes_status root status request ≡ true → request ≡ AppendIn (status_inner root) (status_text status)
 write_request root status (AppendIn i piece) h =
     ap (λ (x : Inner). AppendIn x piece) (inner_is i (status_inner root) (and_left (inner_eq i (status_inner root)) (bytes_eq piece (status_text status)) h))
-    ∙ ap (λ (p : List ℕ). AppendIn (status_inner root) p) (name_same piece (status_text status) (and_right (inner_eq i (status_inner root)) (bytes_eq piece (status_text status)) h))
+    ∙ ap (λ (p : List ℕ). AppendIn (status_inner root) p) (same_text piece (status_text status) (and_right (inner_eq i (status_inner root)) (bytes_eq piece (status_text status)) h))
 write_request root status request h = cc
 
 is_own : (o kill : Bool) → not (not o || kill) ≡ true → o ≡ true
@@ -73,7 +71,7 @@ was_done reply h = cc
 did_is : (me : ℕ) (ask : Request → Bool) (request : Request) → ((other : Request) → ask other ≡ true → other ≡ request) → (e : Event) → did me ask e ≡ true → e ≡ event me request Done
 did_is me ask request only e h =
     let rest : (ask e.request && is_done e.reply) ≡ true = and_right (not (is_foreign me e)) (ask e.request && is_done e.reply) h in
-    let mine : e.process ≡ me = nat_same e.process me (is_own (e.process == me) (is_kill e.request) (and_left (not (is_foreign me e)) (ask e.request && is_done e.reply) h)) in
+    let mine : e.process ≡ me = same_number e.process me (is_own (e.process == me) (is_kill e.request) (and_left (not (is_foreign me e)) (ask e.request && is_done e.reply) h)) in
     ap (λ (p : ℕ). event p e.request e.reply) mine
     ∙ (ap (λ (r : Request). event me r e.reply) (only e.request (and_left (ask e.request) (is_done e.reply) rest))
     ∙ ap (λ (r : Reply). event me request r) (was_done e.reply (and_right (ask e.request) (is_done e.reply) rest)))
@@ -98,11 +96,11 @@ in_either (x ∷ old) more (y ∷ b) e a is = elim (in_either old more b e a (sa
 
 -- each start's root is that of its name in the pod
 abbrev pub ArePlaced : PodId → List AppStart → Type 0
-ArePlaced pod starts = AllByRecursion (λ app. app.root ≡ root_of pod app.name) starts
+ArePlaced pod starts = AllByRecursion (λ app. app.root ≡ app_root_of pod app.name) starts
 
 pub are_placed : (pod : PodId) (address token : List ℕ) (apps : List RuntimeApp) (roots : _) (starts : List AppStart) → AreStarts pod address token apps roots starts → ArePlaced pod starts
 are_placed pod address token [] [] [] are = tt
-are_placed pod address token (app ∷ apps) (root ∷ roots) (start ∷ starts) are = (are.0.place ∙ ap (root_of pod) (sym are.0.name), are_placed pod address token apps roots starts are.1)
+are_placed pod address token (app ∷ apps) (root ∷ roots) (start ∷ starts) are = (are.0.place ∙ ap (app_root_of pod) (sym are.0.name), are_placed pod address token apps roots starts are.1)
 are_placed pod address token _ _ _ are = absurd are
 
 module _ (pod : PodId) (asks : Request → Bool) (l : Leaves (in_run pod) asks) (none : RemovesNothing asks) (me : ℕ) (old new rest : List Event) (grown : new ≡ old ++ rest) (run : IsRun new)
@@ -156,15 +154,15 @@ module _ (pod : PodId) (asks : Request → Bool) (l : Leaves (in_run pod) asks) 
     widened : (b : List Event) (e x : Event) (a : List Event) → e ≡ x → d.trace ≡ b ++ e ∷ a → new ≡ b ++ x ∷ (a ++ later)
     widened b e x a same parted = goes ∙ (ap (λ (h : List Event). h ++ later) parted ∙ (append_assoc b (e ∷ a) later ∙ ap (λ (y : Event). b ++ y ∷ (a ++ later)) same))
 
-    mark_stands : (name : List ℕ) → MadeMark (root_of pod name) d → has_file (state_after new).entries k (start_mark name) ≡ true
+    mark_stands : (name : List ℕ) → MadeMark (app_root_of pod name) d → has_file (state_after new).entries k (start_mark name) ≡ true
     mark_stands name m =
-        let root = root_of pod name in
+        let root = app_root_of pod name in
         let is = did_is d.process (makes_own_mark root) (MakeFileIn (mark_inner root)) (mark_request root) m.1 m.4 in
         made (start_mark name) (mark_outside name) m.0 (m.2 ++ later) (widened m.0 m.1 (event me (MakeFileIn (mark_inner root)) Done) m.2 (is ∙ ap (λ (p : ℕ). event p (MakeFileIn (mark_inner root)) Done) mine) m.3)
 
-    status_stands : (name : List ℕ) (status : ℕ) → WroteStatus (root_of pod name) status d → (has_file (state_after new).entries k (status_path name) ≡ true) × (content (state_after new).entries k (status_path name) ≡ status_text status)
+    status_stands : (name : List ℕ) (status : ℕ) → WroteStatus (app_root_of pod name) status d → (has_file (state_after new).entries k (status_path name) ≡ true) × (content (state_after new).entries k (status_path name) ≡ status_text status)
     status_stands name status m =
-        let root = root_of pod name in
+        let root = app_root_of pod name in
         let i = status_inner root in
         let is = did_is d.process (makes_status root) (MakeFileIn i) (status_request root) m.1 m.4 in
         let wide = widened m.0 m.1 (event me (MakeFileIn i) Done) m.2 (is ∙ ap (λ (p : ℕ). event p (MakeFileIn i) Done) mine) m.3 in
@@ -174,11 +172,11 @@ module _ (pod : PodId) (asks : Request → Bool) (l : Leaves (in_run pod) asks) 
         ap (λ (h : List Event). h ++ later) w.3 ∙ (append_assoc w.0 (w.1 ∷ w.2) later ∙ ap (λ (y : Event). w.0 ++ y ∷ (w.2 ++ later)) (wrote ∙ ap (λ (p : ℕ). event p (AppendIn i (status_text status)) Done) mine)) in
         (made (status_path name) (status_outside name) m.0 (m.2 ++ later) wide, written (status_path name) (status_outside name) m.0 (m.2 ++ later) wide (status_text status) w.0 (w.2 ++ later) parted)
 
-    pub each_stands : (starts : List AppStart) (statuses : List ℕ) (ends : List AppEnd) → ArePlaced pod starts → AreEnds starts statuses ends → AreMarked d starts → AreWrittenAll d starts statuses → AllByRecursion (HasEnded k (state_after new)) ends
+    pub each_stands : (starts : List AppStart) (statuses : List ℕ) (ends : List AppEnd) → ArePlaced pod starts → AreEnds starts statuses ends → AreMarked d starts → AreWrittenAll d starts statuses → AllByRecursion (FolderShowsEnd k (state_after new)) ends
     each_stands [] [] [] placed are marked wrote = tt
     each_stands (app ∷ starts) (status ∷ statuses) (end ∷ ends) placed are marked wrote =
         let mark = mark_stands app.name (subst (λ (r : RootPlace). MadeMark r d) placed.0 marked.0.made) in
         let note = status_stands app.name status (subst (λ (r : RootPlace). WroteStatus r status d) placed.0 wrote.0) in
-        (subst (λ (e : AppEnd). HasEnded k (state_after new) e) (sym are.0) (record { marked = mark; noted = note.0; status = note.1 }), each_stands starts statuses ends placed.1 are.1 marked.1 wrote.1)
+        (subst (λ (e : AppEnd). FolderShowsEnd k (state_after new) e) (sym are.0) (record { marked = mark; noted = note.0; status = note.1 }), each_stands starts statuses ends placed.1 are.1 marked.1 wrote.1)
     each_stands [] _ _ placed are marked wrote = absurd are
     each_stands (app ∷ starts) _ _ placed are marked wrote = absurd are

@@ -4,6 +4,8 @@ use Rattle.std.specs.Prelude.{slice_index_or}
 use Rattle.std.specs.List.{All, AllByRecursion, cons_option, flat_map, slice_get}
 use Rattle.std.proofs.lemmas.Grind.{common_steps}
 use Rattle.std.proofs.lemmas.List.Elements.{All-head, All-tail}
+use Rattle.plain_laws.proofs.Lists.{head_of, tail_of, at_place}
+use Rattle.plain_laws.proofs.Fronts.{not_cut}
 use Rattle.sha2.specs.Sha512.{sha512}
 use Rattle.ac_types.specs.declared.store_key.StoreKey.{StoreKey}
 use Rattle.ac_types.specs.Ids.{id_text}
@@ -18,7 +20,7 @@ use Rattle.dir_model.specs.Trace.{state_after}
 use Rattle.dir_model.specs.Trees.{app_root}
 use Rattle.dir_model.proofs.Lists.{all_left, all_right}
 use Rattle.dir_trait.specs.DirCalls.{DirAt}
-use Rattle.dir_files.specs.Reads.{AreTold, IsPiece, IsShort, Reads, WasMissing, file_at}
+use Rattle.dir_files.specs.Reads.{AreTold, IsPiece, IsShort, HasReadSoFar, WasMissing, file_at}
 use Rattle.folder_building.specs.declared.plan.PlanEntry.{PlanEntry}
 use Rattle.folder_building.specs.declared.plan.Content.TheVariants.{Copied, Directory}
 use Rattle.folder_building.specs.Sources.{in_image, in_images}
@@ -27,21 +29,20 @@ use Rattle.folder_building.specs.ImagePlans.{given_file}
 use Rattle.gate_reading.proofs.PlainPaths.{plain_rootfs}
 use Rattle.image_reading.specs.Places.{IsPresent, image_inner}
 use Rattle.manifests.specs.declared.runtime_app.RuntimeApp.{RuntimeApp}
-use Rattle.folder_building.specs.Materialized.{below}
-use Rattle.folder_building.specs.TreePlans.{content_of, entry_at as plan_entry}
+use Rattle.folder_building.specs.Materialized.{prefixed_path}
+use Rattle.folder_building.specs.TreePlans.{content_of, plan_entry_at as plan_entry}
 use Rattle.path_map.specs.declared.entry.Entry.{Entry}
 use Rattle.path_map.specs.declared.entry.Entry.TheVariants.{Dir, File, Link}
 use Rattle.path_map.specs.declared.entry.Meta.{Meta}
 use Rattle.path_map.specs.Entries.{Entries, IsPathMap, entry_at}
 use Rattle.path_map.proofs.EachEntries.{all_in_list}
-use Rattle.pod_build.specs.Origins.{IsOriginAt, origin_path, path_in}
+use Rattle.pod_build.specs.Origins.{IsOriginAt, origin_path, path_in_folder}
 use Rattle.pod_plan.specs.Choices.{AreTrees}
 use Rattle.pod_plan.specs.declared.pod_app.PodApp.{PodApp}
 use Rattle.pod_plan.specs.PodFiles.{shared_directories}
-use Rattle.pod_plan.specs.PodPlans.{app_entries, head_entries, image_at, image_of, pod_entries, root_entries}
-use Rattle.pod_plan.specs.Plans.{app_with, apps_with, folders}
-use Rattle.pod_plan.specs.Roots.{AreRoots, IsRoot, node_key}
-use Rattle.pod_plan.proofs.Zips.{head_of, tail_of}
+use Rattle.pod_plan.specs.PodPlans.{app_entries, pod_head_entries, image_at, image_of, pod_entries, root_entries}
+use Rattle.pod_plan.specs.Plans.{app_with_root, apps_with, folders}
+use Rattle.pod_plan.specs.Roots.{AreImageRoots, IsRootAsRead, node_key}
 use Rattle.render.specs.Assembly.{IsAssembly, own_whitelist}
 use Rattle.render.specs.Layers.{is_file_at, source_at}
 use Rattle.render.specs.declared.rendering.Rendering.{Rendering}
@@ -50,7 +51,7 @@ use Rattle.standing_images.proofs.Before.{told_before}
 use Rattle.standing_images.proofs.Pieces.{ArePieces, IsFront, all_told, is_front}
 use Rattle.tree_digest.specs.declared.line.ListingLine.{ListingLine}
 use Rattle.tree_digest.specs.Listings.{lines_of}
-use Rattle.commands.specs.PrepareTable.{CanCopy, CanCopyAll, CanCopyRoot, HasBytes, HasSources, LacksBytes, LacksFile, root_file}
+use Rattle.commands.specs.PrepareTable.{CanCopy, CanCopyAll, CanCopyRoot, HasBytes, RootHasSources, LacksBytes, LacksSourceFile, root_file}
 use Rattle.commands.proofs.NodesStand.{node_stands}
 use Rattle.commands.proofs.Parts.{Part, held_wider}
 use Rattle.commands.proofs.RootsBefore.{entries_before}
@@ -58,18 +59,10 @@ use Rattle.commands.proofs.RootsBefore.{entries_before}
 front_within : (bytes file : List ℕ) → bytes ≡ take (length bytes) file → length bytes ≤ length file
 front_within bytes file first = let e = ap length first in grind (arith, common_steps)
 
-cut_past : (n : ℕ) (file : List ℕ) → length (take n file) < n → take n file ≡ file
-cut_past n file within = grind (arith, common_steps)
-
 whole_front : (bytes file : List ℕ) → bytes ≡ take (suc (length bytes)) file → bytes ≡ file
 whole_front bytes file first =
     let e : length bytes ≡ length (take (suc (length bytes)) file) = ap length first in
-    first ∙ cut_past (suc (length bytes)) file (omega (arith, e))
-
--- the element at a place
-at_place : {X : Type 0} (before rest : List X) (x : X) → slice_get (before ++ x ∷ rest) (length before) ≡ Some x
-at_place [] rest x = refl
-at_place (y ∷ before) rest x = at_place before rest x
+    first ∙ not_cut (suc (length bytes)) file (omega (arith, e))
 
 -- the folder of an image, by its place
 folder_there : (images : List Stored) (i : ℕ) → i < length images → slice_get (folders images) i ≡ Some (id_text (key_at images i).bytes)
@@ -112,7 +105,7 @@ module _ (old new : DirAt) (stay : ImagesStay old.trace new.trace) {begun ended 
         whole_front read f.file f.front ∙ sym same
 
     -- the pieces that were read are of that file
-    are_pieces : {bytes : List ℕ} (r : Reads here begun ended bytes) → ArePieces found r.pieces
+    are_pieces : {bytes : List ℕ} (r : HasReadSoFar here begun ended bytes) → ArePieces found r.pieces
     are_pieces r =
         all_told old.process here old.trace new.trace found
         (λ at room piece step. told_before old.process old.trace new.trace stay key (root_file file) (IsPiece at room piece) (plain_rootfs file) step)
@@ -203,7 +196,7 @@ module _ (old new : DirAt) (stay : ImagesStay old.trace new.trace) {begun ended 
     no_directories (place ∷ paths) f = no_directories paths (past (plan_entry place Directory) (map (λ place. plan_entry place Directory) paths) f (λ l. l))
 
     pub plan_first : (now : ℕ) (token text : List ℕ) (apps : List PodApp) → First (pod_entries now token text fs apps) → First (flat_map (app_entries fs) apps)
-    plan_first now token text apps f = by (part_or (head_entries now token) (flat_map (app_entries fs) apps ++ last ∷ []) f)
+    plan_first now token text apps f = by (part_or (pod_head_entries now token) (flat_map (app_entries fs) apps ++ last ∷ []) f)
       where
         last : PlanEntry
         last = given_file (codes "pod") text
@@ -212,24 +205,24 @@ module _ (old new : DirAt) (stay : ImagesStay old.trace new.trace) {begun ended 
         ends (inl g) = g
         ends (inr g) = absurd (first_none (past last [] g.1 (λ l. l)))
 
-        by : First (head_entries now token) ⊎ (AllByRecursion Had (head_entries now token) × First (flat_map (app_entries fs) apps ++ last ∷ [])) → First (flat_map (app_entries fs) apps)
+        by : First (pod_head_entries now token) ⊎ (AllByRecursion Had (pod_head_entries now token) × First (flat_map (app_entries fs) apps ++ last ∷ [])) → First (flat_map (app_entries fs) apps)
         by (inl g) = absurd (no_directories shared_directories (past _ _ (past _ _ g (λ l. l)) (λ l. l)))
         by (inr g) = ends (part_or (flat_map (app_entries fs) apps) (last ∷ []) g.1)
 
     -- the root of an app
     module _ (tree : DepTree) (place : ℕ) (known : place < length images) (made : dependency_tree images place ≡ Ok tree.nodes)
-        (root : _) (is : IsRoot true images start end tree root) (named : RuntimeApp) (manifest : List ℕ) where
+        (root : _) (is : IsRootAsRead true images start end tree root) (named : RuntimeApp) (manifest : List ℕ) where
       abbrev app : PodApp
-      app = app_with named manifest root
+      app = app_with_root named manifest root
 
       abbrev r : Rendering
       r = root.rendering
 
-      abbrev sourced : HasSources images tree r s
+      abbrev sourced : RootHasSources images tree r s
       sourced = record {
         root = record {
           own = is.rendered.own;
-          each = λ n below. entries_before old new stay p true refl (node_key images tree.nodes n) (is.rendered.own n) (is.rendered.read n below);
+          each = λ n prefixed_path. entries_before old new stay p true refl (node_key images tree.nodes n) (is.rendered.own n) (is.rendered.read n prefixed_path);
           few = is.rendered.few;
           rendered = is.rendered.rendering;
         };
@@ -237,7 +230,7 @@ module _ (old new : DirAt) (stay : ImagesStay old.trace new.trace) {begun ended 
       }
 
       abbrev copied : List ℕ → ℕ → List ℕ → PlanEntry
-      copied file size sha = plan_entry (below (app_root app.name) file) (Copied (record { folder = image_of fs app file; path = root_file file }) size sha)
+      copied file size sha = plan_entry (prefixed_path (app_root app.name) file) (Copied (record { folder = image_of fs app file; path = root_file file }) size sha)
 
       abbrev Listed : List ℕ × Entry → Type 0
       Listed e = entry_at r.map e.0 ≡ Some e.1
@@ -278,7 +271,7 @@ module _ (old new : DirAt) (stay : ImagesStay old.trace new.trace) {begun ended 
       can_copy_all (e ∷ m) listed had = by (λ more. can_copy_all m (All-tail Listed e m listed) more) e.1 (All-head Listed e m listed) had
         where
           by : (AllByRecursion Had (root_entries fs app (lines_of m)) → CanCopyAll images r s m) → (entry : Entry) → entry_at r.map e.0 ≡ Some entry
-              → AllByRecursion Had (cons_option (option_map (plan_entry (below (app_root app.name) e.0)) (content_of (image_of fs app e.0) (below (codes "rootfs") e.0) entry)) (root_entries fs app (lines_of m)))
+              → AllByRecursion Had (cons_option (option_map (plan_entry (prefixed_path (app_root app.name) e.0)) (content_of (image_of fs app e.0) (prefixed_path (codes "rootfs") e.0) entry)) (root_entries fs app (lines_of m)))
               → CanCopy images r s e.0 entry × CanCopyAll images r s m
           by rest (Dir meta) there had = (tt, rest had.1)
           by rest (File meta size sha) there had = (can_copy e.0 meta size sha there had.0, rest had.1)
@@ -338,7 +331,7 @@ module _ (old new : DirAt) (stay : ImagesStay old.trace new.trace) {begun ended 
           here_or rest meta size sha kind there (inr g) = next (subst (λ (x : Entry). CanCopy images r s e.0 x) (sym kind) (can_copy e.0 meta size sha there g.0)) (rest g.1)
 
           by : (First others → LacksIn m) → (entry : Entry) → e.1 ≡ entry → entry_at r.map e.0 ≡ Some entry
-              → First (cons_option (option_map (plan_entry (below (app_root app.name) e.0)) (content_of (image_of fs app e.0) (below (codes "rootfs") e.0) entry)) others) → LacksIn (e ∷ m)
+              → First (cons_option (option_map (plan_entry (prefixed_path (app_root app.name) e.0)) (content_of (image_of fs app e.0) (prefixed_path (codes "rootfs") e.0) entry)) others) → LacksIn (e ∷ m)
           by rest (Dir meta) kind there f = next (subst (λ (x : Entry). CanCopy images r s e.0 x) (sym kind) tt) (rest (past _ others f (λ l. l)))
           by rest (File meta size sha) kind there f = here_or rest meta size sha kind there (head_or (copied e.0 size sha) others f)
           by rest (Link meta target) kind there f = next (subst (λ (x : Entry). CanCopy images r s e.0 x) (sym kind) tt) (rest f)
@@ -346,7 +339,7 @@ module _ (old new : DirAt) (stay : ImagesStay old.trace new.trace) {begun ended 
       all_listed : All Listed r.map
       all_listed = all_in_list (λ file entry. entry_at r.map file ≡ Some entry) r.map (root_map tree r.map (own_whitelist tree.nodes images) is.rendered.own is.rendered.rendering).rising (λ file entry there. there)
 
-      lacks_file : LacksIn r.map → LacksFile images path s tree
+      lacks_file : LacksIn r.map → LacksSourceFile images path s tree
       lacks_file l =
           let x = from_image l.file (ap is_file_at l.wanted) in
           record {
@@ -366,11 +359,11 @@ module _ (old new : DirAt) (stay : ImagesStay old.trace new.trace) {begun ended 
             stands = x.stands;
             from = x.from;
             listed = x.listed ∙ l.wanted;
-            is = l.from ∙ ap (λ (o : Option (List ℕ)). path_in o (root_file l.file)) x.folder;
+            is = l.from ∙ ap (λ (o : Option (List ℕ)). path_in_folder o (root_file l.file)) x.folder;
             lacks = lacks_bytes (node_key images tree.nodes x.node) l.file l.size l.sha (l.lacks (inner_of x.node l.file) (ap (in_image (root_file l.file)) x.folder));
           }
 
-      app_lacks : First (app_entries fs app) → LacksFile images path s tree
+      app_lacks : First (app_entries fs app) → LacksSourceFile images path s tree
       app_lacks f =
           lacks_file (lacks_first r.map all_listed (subst (λ (ls : List ListingLine). First (root_entries fs app ls)) is.listing
           (past _ _ (past _ _ (past _ _ (past _ _ (past _ _ f (λ l. l)) (λ l. l)) (λ l. l)) (λ l. l)) (λ l. l))))
@@ -385,9 +378,9 @@ module _ (old new : DirAt) (stay : ImagesStay old.trace new.trace) {begun ended 
       pub after : List DepTree
       pub split : trees ≡ before ++ tree ∷ after
       pub earlier : AllByRecursion (CanCopyRoot images s) before
-      pub lacks : LacksFile images path s tree
+      pub lacks : LacksSourceFile images path s tree
 
-    pub apps_first : (manifests : List (List ℕ)) (picks : List ℕ) (named : List RuntimeApp) (roots : _) (ts : List DepTree) → All (λ i. i < length images) picks → AreTrees images picks ts → AreRoots true images start end ts roots
+    pub apps_first : (manifests : List (List ℕ)) (picks : List ℕ) (named : List RuntimeApp) (roots : _) (ts : List DepTree) → All (λ i. i < length images) picks → AreTrees images picks ts → AreImageRoots true images start end ts roots
         → First (flat_map (app_entries fs) (apps_with manifests picks named roots)) → FirstTree ts
     apps_first manifests [] named roots ts within are rooted f = absurd (first_none f)
     apps_first manifests (k ∷ picks) [] roots ts within are rooted f = absurd (first_none f)
@@ -402,7 +395,7 @@ module _ (old new : DirAt) (stay : ImagesStay old.trace new.trace) {begun ended 
         manifest = slice_index_or manifests k []
 
         one : PodApp
-        one = app_with a manifest root
+        one = app_with_root a manifest root
 
         known : k < length images
         known = All-head (λ i. i < length images) k picks within
@@ -427,9 +420,9 @@ module _ (old new : DirAt) (stay : ImagesStay old.trace new.trace) {begun ended 
     pub plan_copied : (now : ℕ) (token text : List ℕ) (apps : List PodApp) → AllByRecursion Had (pod_entries now token text fs apps) → AllByRecursion Had (flat_map (app_entries fs) apps)
     plan_copied now token text apps had =
         let last : PlanEntry = given_file (codes "pod") text in
-        all_left Had (flat_map (app_entries fs) apps) (last ∷ []) (all_right Had (head_entries now token) (flat_map (app_entries fs) apps ++ last ∷ []) had)
+        all_left Had (flat_map (app_entries fs) apps) (last ∷ []) (all_right Had (pod_head_entries now token) (flat_map (app_entries fs) apps ++ last ∷ []) had)
 
-    pub apps_copied : (manifests : List (List ℕ)) (picks : List ℕ) (named : List RuntimeApp) (roots : _) (ts : List DepTree) → length named ≡ length picks → All (λ i. i < length images) picks → AreTrees images picks ts → AreRoots true images start end ts roots
+    pub apps_copied : (manifests : List (List ℕ)) (picks : List ℕ) (named : List RuntimeApp) (roots : _) (ts : List DepTree) → length named ≡ length picks → All (λ i. i < length images) picks → AreTrees images picks ts → AreImageRoots true images start end ts roots
         → AllByRecursion Had (flat_map (app_entries fs) (apps_with manifests picks named roots)) → AllByRecursion (CanCopyRoot images s) ts
     apps_copied manifests [] named roots [] many within are rooted had = tt
     apps_copied manifests [] named roots (t ∷ ts) many within are rooted had = cc
@@ -438,7 +431,7 @@ module _ (old new : DirAt) (stay : ImagesStay old.trace new.trace) {begun ended 
     apps_copied manifests (k ∷ picks) (a ∷ named) [] (t ∷ ts) many within are rooted had = absurd rooted
     apps_copied manifests (k ∷ picks) (a ∷ named) (root ∷ roots) (t ∷ ts) many within are rooted had =
         let manifest : List ℕ = slice_index_or manifests k [] in
-        let first = app_entries fs (app_with a manifest root) in
+        let first = app_entries fs (app_with_root a manifest root) in
         let others = flat_map (app_entries fs) (apps_with manifests picks named roots) in
         let known = All-head (λ i. i < length images) k picks within in
         let made = head_of (dependency_tree images k) (Ok t.nodes) (map (dependency_tree images) picks) (map (λ (x : DepTree). Ok x.nodes) ts) are in

@@ -1,7 +1,7 @@
 -- The first element of a list that isn't good.
 use Rattle.std.proofs.Common.{◌≡◌, List, [], ◌∷◌, ◌++◌, sym, subst}
 use Rattle.std.specs.List.{AllByRecursion}
-use Rattle.pod_plan.proofs.Zips.{head_of, tail_of}
+use Rattle.plain_laws.proofs.Lists.{head_of, tail_of}
 
 -- it is one
 pub first_bad : {X : Type 0} (Good : X → Type 0) (front back : List X) (a b : X) (xs ys : List X) → front ++ a ∷ xs ≡ back ++ b ∷ ys → (Good a → ⊥) → (Good b → ⊥) → AllByRecursion Good front → AllByRecursion Good back → a ≡ b

@@ -1,5 +1,6 @@
 -- What a step does in other folders leaves what a pod's folder in run holds, and starts no app of it.
 use Rattle.std.proofs.Common.{◌≡◌, ℕ, Bool, true, false, ◌&&◌, ◌==◌, cond, Option, Some, None, option_to_list, List, [], ◌++◌, drop, length, take, append-nil, refl, ap, ◌∙◌}
+use Rattle.plain_laws.proofs.Booleans.{clash}
 use Rattle.dir_model.specs.declared.pod.PodId.{PodId}
 use Rattle.dir_model.specs.declared.request.Reply.{Reply}
 use Rattle.dir_model.specs.declared.request.Reply.TheVariants.{Done, Refused}
@@ -14,11 +15,10 @@ use Rattle.dir_model.specs.Calls.{event}
 use Rattle.dir_model.specs.State.{DirState, Namespace, folder_at, spot_eq}
 use Rattle.dir_model.specs.Trace.{app_started, entries_kept, entry_made, is_mark, marked_app, placed, state_next}
 use Rattle.dir_model.specs.Trees.{app_root, is_apps_own, is_within, mark_prefix}
-use Rattle.dir_model.proofs.Lists.{any_last_not}
+use Rattle.dir_model.proofs.Lists.{any_last_not, same_number}
 use Rattle.dir_rules.specs.declared.seen.Entry.{Entry}
 use Rattle.folder_contents.specs.Entries.{entries_in}
 use Rattle.folder_contents.proofs.Entries.{placed_away, removed_away}
-use Rattle.lifecycle.proofs.Handles.{clash, nat_same}
 use Rattle.lifecycle.proofs.Numbers.{one_spot}
 use Rattle.pod_files.specs.Places.{run_spot}
 use Rattle.commands.proofs.StartsTold.{Holds}
@@ -56,7 +56,7 @@ module _ (here : Spot) (k : ℕ) where
     where
       by : (b : Bool) → (j == k) ≡ b → b ≡ false
       by false e = refl
-      by true e = clash (spot_eq here spot) (one_spot n here spot k at (found ∙ ap Some (nat_same j k e))) apart
+      by true e = clash (spot_eq here spot) (one_spot n here spot k at (found ∙ ap Some (same_number j k e))) apart
 
   apps_on : (n : Namespace) (apps : List StartedApp) (request : Request) (reply : Reply) (path : List ℕ) → folder_at n here ≡ Some k → Spares here request → is_apps_own (apps ++ option_to_list (app_started n request reply)) k path ≡ is_apps_own apps k path
   apps_on n apps (MakeFileIn i) Done path at spares = runs (is_run_or_later i.spot.area)

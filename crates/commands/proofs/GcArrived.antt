@@ -27,9 +27,9 @@ use Rattle.pod_gc.specs.declared.ages.Times.{Times}
 use Rattle.pod_gc.specs.declared.line.Deed.TheVariants.{Moved}
 use Rattle.pod_gc.specs.declared.line.GcLine.{GcLine}
 use Rattle.pod_gc.specs.Requests.{sweeps}
-use Rattle.pod_gc.specs.Told.{IsTold, TellsShown}
+use Rattle.pod_gc.specs.Told.{IsLineOfTurn, TellsShown}
 use Rattle.command_outcomes.specs.Meanwhile.{Meanwhile}
-use Rattle.commands.specs.Gc.{Sweeps}
+use Rattle.commands.specs.Gc.{SweepsByPasses}
 use Rattle.commands.proofs.OwnSteps.{in_process, back_from}
 use Rattle.commands.proofs.OneNumber.{one_number}
 use Rattle.commands.proofs.GcQuiet.{each_shown, stood_back}
@@ -84,12 +84,12 @@ pub record Arrived (pod : PodId) (from to : Area) (old new : List Event) : Type 
 abbrev pub ArrivesSo : List Event → List Event → GcLine → Type 0
 ArrivesSo old new line = (pod : PodId) (to : Area) → line.pod ≡ Some pod → line.deed ≡ Moved to → Arrived pod line.place to old new
 
-module _ (times : Times) (lines : List GcLine) {me : ℕ} {old new : List Event} (ext : Extends (in_process (sweeps times.now)) me old new) (quiet : Quiet me old new) (m : Meanwhile (Sweeps times lines) me old new) (conforming : IsConforming new) where
+module _ (times : Times) (lines : List GcLine) {me : ℕ} {old new : List Event} (ext : Extends (in_process (sweeps times.now)) me old new) (quiet : Quiet me old new) (m : Meanwhile (SweepsByPasses times lines) me old new) (conforming : IsConforming new) where
   to_new : Grew old new
   to_new = record { more = quiet.more; grown = quiet.grown }
 
   -- of one turn
-  pub turn_arrives : {Can : Type 0} (here : Area) → is_stage here ≡ true → (ls : List GcLine) (a b : List Event) → Grew old a → Grew b new → (t : TellsShown Can times here ls me a b) → (line : GcLine) → (x : IsTold Can times here t.names line me t.listed b) → (to : Area) → line.deed ≡ Moved to
+  pub turn_arrives : {Can : Type 0} (here : Area) → is_stage here ≡ true → (ls : List GcLine) (a b : List Event) → Grew old a → Grew b new → (t : TellsShown Can times here ls me a b) → (line : GcLine) → (x : IsLineOfTurn Can times here t.names line me t.listed b) → (to : Area) → line.deed ≡ Moved to
       → (y : MovedBy (pod_spot x.shown here) (pod_spot x.shown to) x.from x.upto) × (folder_at (state_after old).namespace (pod_spot x.shown here) ≡ Some y.folder)
   turn_arrives {Can} here stage ls a b to_a from_b t line x to deed =
       let c = x.dealt.cause.moved to deed in
@@ -102,7 +102,7 @@ module _ (times : Times) (lines : List GcLine) {me : ℕ} {old new : List Event}
       let one : k.0 ≡ y.folder = one_number new conforming (pod_spot x.shown here) stage old y.before to_new (grown_more y.rest last) k.0 y.folder k.1 y.was in
       (y, k.1 ∙ ap Some one)
 
-  told_arrives : {Can : Type 0} (here : Area) → is_stage here ≡ true → (ls : List GcLine) (a b : List Event) → Grew old a → Grew b new → (t : TellsShown Can times here ls me a b) → (line : GcLine) → IsTold Can times here t.names line me t.listed b → ArrivesSo old new line
+  told_arrives : {Can : Type 0} (here : Area) → is_stage here ≡ true → (ls : List GcLine) (a b : List Event) → Grew old a → Grew b new → (t : TellsShown Can times here ls me a b) → (line : GcLine) → IsLineOfTurn Can times here t.names line me t.listed b → ArrivesSo old new line
   told_arrives {Can} here stage ls a b to_a from_b t line x pod to is deed =
       let same : x.shown ≡ pod = let e : Some x.shown ≡ Some pod = sym x.pod_is ∙ is in cc in
       let z = turn_arrives here stage ls a b to_a from_b t line x to deed in

@@ -1,6 +1,7 @@
 -- Where nobody else steps, a pod that a sweep found in a garbage place stood there before, or a line says that it was moved there.
 use Rattle.std.proofs.Common.{◌≡◌, ◌⊎◌, inl, inr, ◌&&◌, ◌||◌, ◌==◌, ℕ, Bool, true, false, cond, bytes_eq, Option, Some, None, List, [], ◌∷◌, ◌++◌, refl, sym, ap, subst, ◌∙◌}
 use Rattle.std.specs.List.{AllByRecursion}
+use Rattle.plain_laws.proofs.Texts.{same_bytes}
 use Rattle.dir_model.specs.declared.area.Area.{Area}
 use Rattle.dir_model.specs.declared.area.Area.TheVariants as area
 use Rattle.dir_model.specs.declared.event.Event.{Event}
@@ -9,18 +10,17 @@ use Rattle.dir_model.specs.declared.request.Request.{Request}
 use Rattle.dir_model.specs.declared.request.Reply.{Reply}
 use Rattle.dir_model.specs.Areas.{rank, is_stage}
 use Rattle.dir_model.specs.Calls.{is_kill, Extends}
-use Rattle.dir_model.specs.Pods.{pod_text, pod_of}
+use Rattle.dir_model.specs.Pods.{pod_text, pod_of_text}
 use Rattle.dir_model.specs.Quiet.{Quiet}
 use Rattle.dir_model.specs.State.{DirState, stands}
 use Rattle.dir_model.specs.Trace.{state_after, namespace_replied}
 use Rattle.dir_model.proofs.Lists.{and_left, all_right}
-use Rattle.dir_rules.proofs.Looks.{same_bytes}
-use Rattle.dir_rules.specs.Standing.{is_of, is_garbage}
+use Rattle.dir_rules.specs.Standing.{is_spot_of_pod}
 use Rattle.lifecycle.specs.declared.machine.PodState.{PodState}
 use Rattle.lifecycle.specs.declared.machine.PodState.TheVariants as state
 use Rattle.lifecycle.specs.declared.machine.Transition.{Transition}
 use Rattle.lifecycle.specs.declared.machine.Transition.TheVariants as turn
-use Rattle.lifecycle.specs.PodMachine.{pod_state, is_place, enabled, leads, undeleted, turned, transition, exists}
+use Rattle.lifecycle.specs.PodMachine.{pod_state, is_area_of_state, enabled, leads, undeleted, after_transition, transition, exists}
 use Rattle.lifecycle.specs.Executions.{IsConforming}
 use Rattle.lifecycle.proofs.Draws.{conforming_left}
 use Rattle.lifecycle.proofs.Phases.{exists_stands, stands_exists}
@@ -35,11 +35,12 @@ use Rattle.pod_gc.specs.declared.line.Deed.TheVariants.{Moved, Deleted, Kept, Bu
 use Rattle.pod_gc.specs.declared.line.GcLine.{GcLine}
 use Rattle.pod_gc.specs.Requests.{goes_to, moves_pods, sweeps}
 use Rattle.pod_gc.specs.Sweeping.{MaySweepAll}
-use Rattle.pod_gc.specs.Told.{Knew, IsTold, TellsShown, Passed, ArePassed, places}
+use Rattle.pod_gc.specs.Told.{Knew, IsLineOfTurn, TellsShown, PassedOverPods, ArePassed, places}
+use Rattle.pod_gc.proofs.Deleting.{place_garbage}
 use Rattle.command_outcomes.specs.Meanwhile.{Meanwhile}
-use Rattle.commands.specs.Gc.{Sweeps}
+use Rattle.commands.specs.Gc.{SweepsByPasses}
 use Rattle.commands.specs.GcLines.{HasLine}
-use Rattle.commands.specs.RemovalQuiet.{leaves_there, StandsAfter, SaysMoved, CameSo}
+use Rattle.commands.specs.RemovalQuiet.{leaves_there, StandsAfter, SaysMoved, StoodOrWasMoved}
 use Rattle.commands.proofs.OwnSteps.{in_process, history_from, forward}
 use Rattle.commands.proofs.LateTurns.{is_late, late_turn, sweeps_late}
 use Rattle.commands.proofs.GcQuiet.{shown_grown, passes_grown, each_line, each_shown, moved_apart, stood_back}
@@ -84,7 +85,7 @@ module _ (to : Area) (me : ℕ) where
   aim_led turn.End x late may is = cc
   aim_led t x late may is = cc
 
-  aim_back : (o : Option Transition) (x : PodState) → is_late o ≡ true → aim (turned o me x) ≡ Some to → aim x ≡ Some to
+  aim_back : (o : Option Transition) (x : PodState) → is_late o ≡ true → aim (after_transition o me x) ≡ Some to → aim x ≡ Some to
   aim_back None x late is = is
   aim_back (Some t) x late is = by (enabled t me x) refl is
     where
@@ -92,7 +93,7 @@ module _ (to : Area) (me : ℕ) where
       by true may w = aim_led t x late may w
       by false may w = w
 
-aims_there : (here : Area) (x : PodState) → is_garbage_place here ≡ true → is_place here x ≡ true → aim x ≡ Some here
+aims_there : (here : Area) (x : PodState) → is_garbage_place here ≡ true → is_area_of_state here x ≡ true → aim x ≡ Some here
 aims_there area.ExitedGarbage state.ExitedGarbage garbage at = refl
 aims_there area.ExitedGarbage (state.Deleting owner area.ExitedGarbage) garbage at = refl
 aims_there area.Garbage state.Garbage garbage at = refl
@@ -106,7 +107,7 @@ aims_exist state.Gone to is = cc
 aims_exist x to is = refl
 
 -- from where it comes
-comes_from : (place : Area) (x : PodState) (to : Area) → is_place place x ≡ true → aim x ≡ Some to → (place ≡ to) ⊎ ((moves_pods place ≡ true) × (goes_to place ≡ to))
+comes_from : (place : Area) (x : PodState) (to : Area) → is_area_of_state place x ≡ true → aim x ≡ Some to → (place ≡ to) ⊎ ((moves_pods place ≡ true) × (goes_to place ≡ to))
 comes_from area.Embryo (state.Embryo maker) to at is = let e : area.Garbage ≡ to = cc in inr (refl, e)
 comes_from area.Prepare (state.Preparing owner) to at is = let e : area.Garbage ≡ to = cc in inr (refl, e)
 comes_from area.Prepare state.AbortedPrepare to at is = let e : area.Garbage ≡ to = cc in inr (refl, e)
@@ -120,11 +121,6 @@ comes_from area.Garbage (state.Deleting owner area.ExitedGarbage) to at is = cc
 comes_from area.Garbage (state.Deleting owner from) to at is = let e : area.Garbage ≡ to = cc in inl e
 comes_from place x to at is = cc
 
-garbage_is : (a : Area) → is_garbage_place a ≡ true → is_garbage a ≡ true
-garbage_is area.ExitedGarbage is = refl
-garbage_is area.Garbage is = refl
-garbage_is a is = cc
-
 moved_not : (a : Area) {X : Type 0} → moves_pods a ≡ true → is_garbage_place a ≡ true → X
 moved_not area.ExitedGarbage moves garbage = cc
 moved_not area.Garbage moves garbage = cc
@@ -137,14 +133,14 @@ MovesOn line = (pod : PodId) → line.pod ≡ Some pod → moves_pods line.place
 pub line_at : (P : GcLine → Type 0) (lines before : List GcLine) (line : GcLine) (after : List GcLine) → lines ≡ before ++ line ∷ after → AllByRecursion P lines → P line
 line_at P lines before line after are all = (all_right P before (line ∷ after) (subst (λ (l : List GcLine). AllByRecursion P l) are all)).0
 
-module _ (times : Times) (lines : List GcLine) {me : ℕ} {old new : List Event} (ext : Extends (in_process (sweeps times.now)) me old new) (quiet : Quiet me old new) (m : Meanwhile (Sweeps times lines) me old new) (conforming : IsConforming new) where
+module _ (times : Times) (lines : List GcLine) {me : ℕ} {old new : List Event} (ext : Extends (in_process (sweeps times.now)) me old new) (quiet : Quiet me old new) (m : Meanwhile (SweepsByPasses times lines) me old new) (conforming : IsConforming new) where
   abbrev asks : Request → Bool
   asks = in_process (sweeps times.now)
 
   conforms : (h : List Event) → Grew h new → IsConforming h
   conforms h more = conforming_left h more.more (subst IsConforming more.grown conforming)
 
-  told_on : {Can : Type 0} {here : Area} {names : List (List ℕ)} (a b : List Event) (line : GcLine) → IsTold Can times here names line me a b → MovesOn line
+  told_on : {Can : Type 0} {here : Area} {names : List (List ℕ)} (a b : List Event) (line : GcLine) → IsLineOfTurn Can times here names line me a b → MovesOn line
   told_on {Can} {here} {names} a b line x pod is moves goes = by line.deed refl
     where
       moved_here : moves_pods here ≡ true
@@ -180,7 +176,7 @@ module _ (times : Times) (lines : List GcLine) {me : ℕ} {old new : List Event}
         by false is = refl
         by true is =
             let one = one_folder h (pod_spot pod here) (pod_spot pod place) (conforms h from_h) stage place_stage refl there is in
-            let clash : true ≡ false = sym (and_left (rank here == rank place) _ one) ∙ moved_apart place here moves (garbage_is here garbage) in cc
+            let clash : true ≡ false = sym (and_left (rank here == rank place) _ one) ∙ moved_apart place here moves (place_garbage here garbage) in cc
 
     not_back : stands (state_after h).namespace (pod_spot pod here) ≡ true → stands (state_after new).namespace (pod_spot pod place) ≡ true → ⊥
     not_back there ends =
@@ -217,11 +213,11 @@ module _ (times : Times) (lines : List GcLine) {me : ℕ} {old new : List Event}
   rest = grown_more (passes_grown May times others first.others me first.between m.ended first.rest) finish
 
   -- a pod in embryo has a line there, or stays
-  embryo_line : (name : List ℕ) (pod : PodId) → pod_of name ≡ Some pod → stands (state_after old).namespace (record { area = area.Embryo; name = name }) ≡ true
+  embryo_line : (name : List ℕ) (pod : PodId) → pod_of_text name ≡ Some pod → stands (state_after old).namespace (record { area = area.Embryo; name = name }) ≡ true
       → HasLine area.Embryo pod lines ⊎ (stands (state_after new).namespace (record { area = area.Embryo; name = name }) ≡ true)
   embryo_line name pod its there = by first.first (begun_stands times lines ext quiet m conforming (record { area = area.Embryo; name = name }) there)
     where
-      by : Passed May times area.Embryo first.own me m.begun first.between → stands (state_after m.begun).namespace (record { area = area.Embryo; name = name }) ≡ true
+      by : PassedOverPods May times area.Embryo first.own me m.begun first.between → stands (state_after m.begun).namespace (record { area = area.Embryo; name = name }) ≡ true
           → HasLine area.Embryo pod lines ⊎ (stands (state_after new).namespace (record { area = area.Embryo; name = name }) ≡ true)
       by (inl g) begun =
           let last = grown_more (grown_by g.gives_back) rest in
@@ -234,11 +230,11 @@ module _ (times : Times) (lines : List GcLine) {me : ℕ} {old new : List Event}
           let ended = later_leaves times ext quiet May conforming name pod its area.Embryo refl others (r, (r, (r, (r, (r, tt))))) first.others first.between m.ended (grown_more to_begun (grown_by w.only)) finish first.rest between in
           inr (finished times lines ext quiet m conforming area.Embryo name pod its ended)
 
-  told_came : {Can : Type 0} (here : Area) → is_stage here ≡ true → (ls : List GcLine) (a b : List Event) → Grew old a → Grew b new → (t : TellsShown Can times here ls me a b) → (line : GcLine) → IsTold Can times here t.names line me t.listed b → CameSo lines old line
+  told_came : {Can : Type 0} (here : Area) → is_stage here ≡ true → (ls : List GcLine) (a b : List Event) → Grew old a → Grew b new → (t : TellsShown Can times here ls me a b) → (line : GcLine) → IsLineOfTurn Can times here t.names line me t.listed b → StoodOrWasMoved lines old line
   told_came {Can} here stage ls a b to_a from_b t line x pod is garbage =
       let same : x.shown ≡ pod = let e : Some x.shown ≡ Some pod = sym x.pod_is ∙ is in cc in
       let u = pod_text x.shown.bytes in
-      let its : (p : Area) → is_stage p ≡ true → is_of u (pod_spot x.shown p) ≡ true = λ p at. ap (λ c. c && bytes_eq u u) at ∙ same_bytes u in
+      let its : (p : Area) → is_stage p ≡ true → is_spot_of_pod u (pod_spot x.shown p) ≡ true = λ p at. ap (λ c. c && bytes_eq u u) at ∙ same_bytes u in
       let aside : is_garbage_place here ≡ true = sym (ap is_garbage_place x.place_is) ∙ garbage in
       let to_h : Grew old t.listed = grown_more to_a (grown_by t.only_lists) in
       let from_h : Grew t.listed new = grown_more (grown_by t.tells.only) from_b in
@@ -266,5 +262,5 @@ module _ (times : Times) (lines : List GcLine) {me : ℕ} {old new : List Event}
         ]
       ]
 
-  pub gc_came : AllByRecursion (CameSo lines old) lines
-  gc_came = each_shown times lines ext quiet m (CameSo lines old) (λ Can can here stage ls a b to_a from_b t line x. told_came here stage ls a b to_a from_b t line x) (λ pod is garbage. cc)
+  pub gc_came : AllByRecursion (StoodOrWasMoved lines old) lines
+  gc_came = each_shown times lines ext quiet m (StoodOrWasMoved lines old) (λ Can can here stage ls a b to_a from_b t line x. told_came here stage ls a b to_a from_b t line x) (λ pod is garbage. cc)

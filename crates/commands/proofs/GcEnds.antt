@@ -11,7 +11,7 @@ use Rattle.dir_model.specs.declared.request.Request.TheVariants.{MakeFolder, Mov
 use Rattle.dir_model.specs.declared.request.Reply.{Reply}
 use Rattle.dir_model.specs.Areas.{rank, is_stage}
 use Rattle.dir_model.specs.Calls.{is_kill, is_finish, Extends}
-use Rattle.dir_model.specs.Pods.{pod_of}
+use Rattle.dir_model.specs.Pods.{pod_of_text}
 use Rattle.dir_model.specs.Quiet.{Quiet}
 use Rattle.dir_model.specs.State.{DirState, stands}
 use Rattle.dir_model.specs.Trace.{state_after, namespace_replied}
@@ -28,9 +28,9 @@ use Rattle.pod_gc.specs.declared.line.GcLine.{GcLine}
 use Rattle.pod_gc.specs.Requests.{looks_over, sweeps}
 use Rattle.pod_gc.specs.Deeds.{is_let_be}
 use Rattle.pod_gc.specs.Sweeping.{MaySweepAll}
-use Rattle.pod_gc.specs.Told.{Knew, IsTold, TellsShown, Passed, ArePassed, places}
+use Rattle.pod_gc.specs.Told.{Knew, IsLineOfTurn, TellsShown, PassedOverPods, ArePassed, places}
 use Rattle.command_outcomes.specs.Meanwhile.{Meanwhile}
-use Rattle.commands.specs.Gc.{Sweeps}
+use Rattle.commands.specs.Gc.{SweepsByPasses}
 use Rattle.commands.specs.RemovalQuiet.{leaves_there, StandsAfter}
 use Rattle.commands.proofs.OwnSteps.{in_process, quiet_part, forward, same_folders}
 use Rattle.commands.proofs.LateTurns.{sweeps_late}
@@ -59,11 +59,11 @@ Differ (here ∷ ps) = (is_stage here ≡ true) × AllByRecursion (λ (y : Area)
 
 -- what stands at this place at one moment stands there at another
 abbrev pub Keeps : Area → List Event → List Event → Type 0
-Keeps here b c = (name : List ℕ) (pod : PodId) → pod_of name ≡ Some pod → stands (state_after b).namespace (record { area = here; name = name }) ≡ true → stands (state_after c).namespace (record { area = here; name = name }) ≡ true
+Keeps here b c = (name : List ℕ) (pod : PodId) → pod_of_text name ≡ Some pod → stands (state_after b).namespace (record { area = here; name = name }) ≡ true → stands (state_after c).namespace (record { area = here; name = name }) ≡ true
 
 module _ (times : Times) {me : ℕ} {old new : List Event} (ext : Extends (in_process (sweeps times.now)) me old new) (quiet : Quiet me old new) where
   -- to the end of its pass
-  module _ {Can : Type 0} (here : Area) (stage : is_stage here ≡ true) (ls : List GcLine) (a b : List Event) (to_a : Grew old a) (from_b : Grew b new) (t : TellsShown Can times here ls me a b) (line : GcLine) (x : IsTold Can times here t.names line me t.listed b) where
+  module _ {Can : Type 0} (here : Area) (stage : is_stage here ≡ true) (ls : List GcLine) (a b : List Event) (to_a : Grew old a) (from_b : Grew b new) (t : TellsShown Can times here ls me a b) (line : GcLine) (x : IsLineOfTurn Can times here t.names line me t.listed b) where
     abbrev spot : Spot
     spot = pod_spot x.shown here
 
@@ -95,7 +95,7 @@ module _ (times : Times) {me : ℕ} {old new : List Event} (ext : Extends (in_pr
 
   -- and over the passes that follow
   module _ (Can : Type 0) (conforming : IsConforming new) where
-    pub later_leaves : (name : List ℕ) (pod : PodId) (its : pod_of name ≡ Some pod) (place : Area) (stage : is_stage place ≡ true) (ps : List Area) → AllByRecursion (λ (y : Area). (is_stage y ≡ true) × ((rank place == rank y) ≡ false)) ps → (ls : List GcLine) (a b : List Event) → Grew old a → Grew b new
+    pub later_leaves : (name : List ℕ) (pod : PodId) (its : pod_of_text name ≡ Some pod) (place : Area) (stage : is_stage place ≡ true) (ps : List Area) → AllByRecursion (λ (y : Area). (is_stage y ≡ true) × ((rank place == rank y) ≡ false)) ps → (ls : List GcLine) (a b : List Event) → Grew old a → Grew b new
         → ArePassed Can times ps ls me a b → stands (state_after a).namespace (record { area = place; name = name }) ≡ true → stands (state_after b).namespace (record { area = place; name = name }) ≡ true
     later_leaves name pod its place stage [] apart ls a b to_a from_b x there = subst (λ (h : List Event). stands (state_after h).namespace (record { area = place; name = name }) ≡ true) (sym x.1) there
     later_leaves name pod its place stage (here ∷ ps) apart ls a b to_a from_b x there =
@@ -105,9 +105,9 @@ module _ (times : Times) {me : ℕ} {old new : List Event} (ext : Extends (in_pr
         (passes_over Can times me old new quiet conforming name pod its place stage here x.own a x.between apart.0.0 apart.0.1 x.first to_a (grown_more rest from_b) there)
 
     shown_leaves : (here : Area) → is_stage here ≡ true → (ls : List GcLine) (a b : List Event) → Grew old a → Grew b new → TellsShown Can times here ls me a b → Keeps here b new → AllByRecursion (StandsAfter new) ls
-    shown_leaves here stage ls a b to_a from_b t keeps = all_weaker (λ l. IsTold Can times here t.names l me t.listed b) (StandsAfter new) told ls t.tells.each
+    shown_leaves here stage ls a b to_a from_b t keeps = all_weaker (λ l. IsLineOfTurn Can times here t.names l me t.listed b) (StandsAfter new) told ls t.tells.each
       where
-        told : (line : GcLine) → IsTold Can times here t.names line me t.listed b → StandsAfter new line
+        told : (line : GcLine) → IsLineOfTurn Can times here t.names line me t.listed b → StandsAfter new line
         told line x pod is leaves =
             let same : x.shown ≡ pod = let e : Some x.shown ≡ Some pod = sym x.pod_is ∙ is in cc in
             let back = text_back x.name x.shown x.name_is in
@@ -115,7 +115,7 @@ module _ (times : Times) {me : ℕ} {old new : List Event} (ext : Extends (in_pr
             let ends = subst (λ (n : List ℕ). stands (state_after new).namespace (record { area = here; name = n }) ≡ true) (sym back) (keeps x.name x.shown x.name_is there) in
             subst (λ (p : Area). stands (state_after new).namespace (pod_spot pod p) ≡ true) (sym x.place_is) (subst (λ (q : PodId). stands (state_after new).namespace (pod_spot q here) ≡ true) same ends)
 
-    passed_leaves : (here : Area) → is_stage here ≡ true → (ls : List GcLine) (a b : List Event) → Grew old a → Grew b new → Passed Can times here ls me a b → Keeps here b new → AllByRecursion (StandsAfter new) ls
+    passed_leaves : (here : Area) → is_stage here ≡ true → (ls : List GcLine) (a b : List Event) → Grew old a → Grew b new → PassedOverPods Can times here ls me a b → Keeps here b new → AllByRecursion (StandsAfter new) ls
     passed_leaves area.Embryo stage ls a b to_a from_b (inl g) keeps =
         let to_locked = grown_more to_a (grown_by g.takes_gate) in
         shown_leaves area.Embryo stage ls g.locked g.done to_locked (grown_more (grown_by g.gives_back) from_b) g.tells
@@ -131,7 +131,7 @@ module _ (times : Times) {me : ℕ} {old new : List Event} (ext : Extends (in_pr
         let own = passed_leaves here differ.0 x.own a x.between to_a (grown_more rest from_b) x.first (λ name pod its there. keeps here name pod its (later_leaves name pod its here differ.0 ps differ.1 x.others x.between b to_between from_b x.rest there)) in
         subst (λ (l : List GcLine). AllByRecursion (StandsAfter new) l) (sym x.lines_are) (all_both (StandsAfter new) x.own x.others own (passes_leave ps differ.2 x.others x.between b to_between from_b x.rest keeps))
 
-module _ (times : Times) (lines : List GcLine) {me : ℕ} {old new : List Event} (ext : Extends (in_process (sweeps times.now)) me old new) (quiet : Quiet me old new) (m : Meanwhile (Sweeps times lines) me old new) (conforming : IsConforming new) where
+module _ (times : Times) (lines : List GcLine) {me : ℕ} {old new : List Event} (ext : Extends (in_process (sweeps times.now)) me old new) (quiet : Quiet me old new) (m : Meanwhile (SweepsByPasses times lines) me old new) (conforming : IsConforming new) where
   before : Grew old m.begun
   before = record { more = m.begins.more; grown = m.begins.grown }
 

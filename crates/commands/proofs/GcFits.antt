@@ -18,9 +18,9 @@ use Rattle.pod_gc.specs.declared.line.Deed.{Deed}
 use Rattle.pod_gc.specs.declared.line.Deed.TheVariants.{Moved, Deleted, Kept, Busy, BusyGate, Left}
 use Rattle.pod_gc.specs.declared.line.GcLine.{GcLine}
 use Rattle.pod_gc.specs.Requests.{goes_to, moves_pods, sweeps}
-use Rattle.pod_gc.specs.Told.{IsTold, TellsShown}
+use Rattle.pod_gc.specs.Told.{IsLineOfTurn, TellsShown}
 use Rattle.command_outcomes.specs.Meanwhile.{Meanwhile}
-use Rattle.commands.specs.Gc.{Sweeps}
+use Rattle.commands.specs.Gc.{SweepsByPasses}
 use Rattle.commands.specs.RemovalQuiet.{may_say, SaysFitting}
 use Rattle.commands.proofs.OwnSteps.{in_process}
 use Rattle.commands.proofs.GcLeft.{told_left}
@@ -30,8 +30,8 @@ use Rattle.commands.proofs.GcQuiet.{each_shown, each_line}
 abbrev pub BusyByOwn : GcLine → Type 0
 BusyByOwn line = (which : Which) → line.deed ≡ Busy which → is_garbage_place line.place ≡ true → which ≡ Own
 
-module _ (times : Times) (lines : List GcLine) {me : ℕ} {old new : List Event} (ext : Extends (in_process (sweeps times.now)) me old new) (quiet : Quiet me old new) (m : Meanwhile (Sweeps times lines) me old new) where
-  told_fits : {Can : Type 0} (here : Area) → is_stage here ≡ true → (ls : List GcLine) (a b : List Event) → Grew old a → Grew b new → (t : TellsShown Can times here ls me a b) → (line : GcLine) → IsTold Can times here t.names line me t.listed b → SaysFitting line
+module _ (times : Times) (lines : List GcLine) {me : ℕ} {old new : List Event} (ext : Extends (in_process (sweeps times.now)) me old new) (quiet : Quiet me old new) (m : Meanwhile (SweepsByPasses times lines) me old new) where
+  told_fits : {Can : Type 0} (here : Area) → is_stage here ≡ true → (ls : List GcLine) (a b : List Event) → Grew old a → Grew b new → (t : TellsShown Can times here ls me a b) → (line : GcLine) → IsLineOfTurn Can times here t.names line me t.listed b → SaysFitting line
   told_fits {Can} here stage ls a b to_a from_b t line x pod is = ap (λ (p : Area). may_say p line.deed) x.place_is ∙ by line.deed refl
     where
       by : (d : Deed) → line.deed ≡ d → may_say here line.deed ≡ true
@@ -47,7 +47,7 @@ module _ (times : Times) (lines : List GcLine) {me : ℕ} {old new : List Event}
           let prepared : here ≡ area.Prepared = sym x.place_is ∙ (told_left times lines ext quiet m here stage ls a b to_a from_b t line x pod is deed).0 in
           ap (may_say here) deed ∙ ap (is_in area.Prepared) prepared
 
-  told_own : {Can : Type 0} {here : Area} {names : List (List ℕ)} (a b : List Event) (line : GcLine) → IsTold Can times here names line me a b → BusyByOwn line
+  told_own : {Can : Type 0} {here : Area} {names : List (List ℕ)} (a b : List Event) (line : GcLine) → IsLineOfTurn Can times here names line me a b → BusyByOwn line
   told_own {Can} {here} {names} a b line x which deed garbage = x.dealt.let_be.own which deed (ap is_garbage_place (sym x.place_is) ∙ garbage)
 
   pub gc_own : AllByRecursion BusyByOwn lines

@@ -1,6 +1,7 @@
 -- Where nobody else steps, a pod that a sweep moved had a phase before that allows it.
 use Rattle.std.proofs.Common.{◌≡◌, ◌⊎◌, inl, inr, ℕ, Bool, true, false, ◌&&◌, ◌==◌, cond, bytes_eq, Option, Some, None, List, [], ◌∷◌, ◌++◌, refl, sym, ap, subst, ◌∙◌}
 use Rattle.std.specs.List.{AllByRecursion}
+use Rattle.plain_laws.proofs.Texts.{same_bytes}
 use Rattle.dir_model.specs.declared.area.Area.{Area}
 use Rattle.dir_model.specs.declared.area.Area.TheVariants as area
 use Rattle.dir_model.specs.declared.area.Phase.{Phase}
@@ -17,13 +18,12 @@ use Rattle.dir_model.specs.State.{Namespace}
 use Rattle.dir_model.specs.Trace.{state_after}
 use Rattle.dir_model.proofs.Allowed.{allowed_reply}
 use Rattle.dir_model.proofs.Lists.{all_weaker}
-use Rattle.dir_rules.proofs.Looks.{same_bytes}
-use Rattle.dir_rules.specs.Standing.{is_of}
+use Rattle.dir_rules.specs.Standing.{is_spot_of_pod}
 use Rattle.lifecycle.specs.declared.machine.PodState.{PodState}
 use Rattle.lifecycle.specs.declared.machine.PodState.TheVariants as state
 use Rattle.lifecycle.specs.declared.machine.Transition.{Transition}
 use Rattle.lifecycle.specs.declared.machine.Transition.TheVariants as turn
-use Rattle.lifecycle.specs.PodMachine.{pod_state, phase_of_state, is_owner, is_place, enabled, leads, undeleted, turned, transition}
+use Rattle.lifecycle.specs.PodMachine.{pod_state, phase_of_state, is_owner, is_area_of_state, enabled, leads, undeleted, after_transition, transition}
 use Rattle.lifecycle.specs.Executions.{IsConforming}
 use Rattle.lifecycle.proofs.Draws.{conforming_left}
 use Rattle.lifecycle.proofs.Phases.{enabled_each, stands_exists}
@@ -35,11 +35,11 @@ use Rattle.pod_locks.specs.Causes.{Did}
 use Rattle.pod_gc.specs.declared.ages.Times.{Times}
 use Rattle.pod_gc.specs.declared.line.GcLine.{GcLine}
 use Rattle.pod_gc.specs.Requests.{goes_to, moves_pods, sweeps}
-use Rattle.pod_gc.specs.Told.{IsTold}
+use Rattle.pod_gc.specs.Told.{IsLineOfTurn}
 use Rattle.command_outcomes.specs.Meanwhile.{Meanwhile}
-use Rattle.commands.specs.Gc.{Sweeps}
+use Rattle.commands.specs.Gc.{SweepsByPasses}
 use Rattle.commands.specs.RemovalQuiet.{swept_phase, SweptAsBefore, GoneAfter}
-use Rattle.commands.specs.RemovalHistory.{IsDeletedSo, IsRemovedBetween}
+use Rattle.commands.specs.RemovalHistory.{IsDeletedForGood, ExistedThenGone}
 use Rattle.commands.proofs.OwnSteps.{in_process, history_from}
 use Rattle.commands.proofs.LateTurns.{is_late, late_turn, sweeps_late}
 use Rattle.pod_gc.proofs.Rounds.{garbage_stage}
@@ -100,7 +100,7 @@ module _ (p : Phase) (swept : is_swept p ≡ true) (me : ℕ) where
   before_turn turn.End x late may w = cc
   before_turn t x late may w = cc
 
-  was_back : (o : Option Transition) (x : PodState) → is_late o ≡ true → Was (turned o me x) → Was x
+  was_back : (o : Option Transition) (x : PodState) → is_late o ≡ true → Was (after_transition o me x) → Was x
   was_back None x late w = w
   was_back (Some t) x late w = by (enabled t me x) refl w
     where
@@ -113,7 +113,7 @@ abbrev turn_to : Area → Transition
 turn_to area.Run = turn.Mark
 turn_to _ = turn.Sweep
 
-swept_state : (place : Area) (me : ℕ) (x : PodState) → moves_pods place ≡ true → is_place place x ≡ true → enabled (turn_to place) me x ≡ true → phase_of_state x ≡ Some (swept_phase place)
+swept_state : (place : Area) (me : ℕ) (x : PodState) → moves_pods place ≡ true → is_area_of_state place x ≡ true → enabled (turn_to place) me x ≡ true → phase_of_state x ≡ Some (swept_phase place)
 swept_state area.Embryo me (state.Embryo maker) moves at may = refl
 swept_state area.Prepare me state.AbortedPrepare moves at may = refl
 swept_state area.Prepared me state.Prepared moves at may = refl
@@ -155,7 +155,7 @@ moved_then pod place me old new moves did conforming = by s.own
     by (inl took) =
         let then : IsConforming (s.before ++ e ∷ []) = subst IsConforming took.grown (conforming_left did.each.1 did.each.4.more (subst IsConforming did.each.4.grown conforming)) in
         let there = (stands_from (state_after s.before) me (pod_spot pod place) (pod_spot pod (goes_to place)) (allowed_reply (state_after s.before) me (MoveFolder (pod_spot pod place) (pod_spot pod (goes_to place))) Done took.allowed)).0 in
-        let its : is_of u (pod_spot pod place) ≡ true = ap (λ b. b && bytes_eq u u) (move_stage place moves) ∙ same_bytes u in
+        let its : is_spot_of_pod u (pod_spot pod place) ≡ true = ap (λ b. b && bytes_eq u u) (move_stage place moves) ∙ same_bytes u in
         let at = (stands_exists u s.before (pod_spot pod place) (conforming_left s.before (e ∷ []) then) its there).1 in
         let may = enabled_each u s.before e [] then (turn_to place) (goes_turn place pod (state_after s.before).namespace (pod_state u s.before) me) in
         record {
@@ -166,26 +166,26 @@ moved_then pod place me old new moves did conforming = by s.own
         }
 
 -- a pod that it calls deleted was there, and is gone, whatever others did
-module _ (times : Times) (lines : List GcLine) {me : ℕ} {old new : List Event} (m : Meanwhile (Sweeps times lines) me old new) (conforming : IsConforming new) where
-  told_deleted : {Can : Type 0} {here : Area} {names : List (List ℕ)} (a b : List Event) → Grew old a → Grew b new → (line : GcLine) → IsTold Can times here names line me a b → IsDeletedSo old new line
+module _ (times : Times) (lines : List GcLine) {me : ℕ} {old new : List Event} (m : Meanwhile (SweepsByPasses times lines) me old new) (conforming : IsConforming new) where
+  told_deleted : {Can : Type 0} {here : Area} {names : List (List ℕ)} (a b : List Event) → Grew old a → Grew b new → (line : GcLine) → IsLineOfTurn Can times here names line me a b → IsDeletedForGood old new line
   told_deleted {Can} {here} {names} a b to_a from_b line x pod is deed =
       let same : x.shown ≡ pod = let e : Some x.shown ≡ Some pod = sym x.pod_is ∙ is in cc in
       let u = pod_text x.shown.bytes in
       let c = x.dealt.cause.deleted deed in
       let last = grown_more (grown_by x.last) from_b in
-      let its : is_of u (pod_spot x.shown here) ≡ true = ap (λ b. b && bytes_eq u u) (garbage_stage here c.0) ∙ same_bytes u in
+      let its : is_spot_of_pod u (pod_spot x.shown here) ≡ true = ap (λ b. b && bytes_eq u u) (garbage_stage here c.0) ∙ same_bytes u in
       let then = conforming_left x.upto last.more (subst IsConforming last.grown conforming) in
       let gone = gone_after u x.upto new last (did_remove u (pod_spot x.shown here) me x.from x.upto its c.1 then) in
       let there = did_exist x.shown (pod_spot x.shown here) me x.from x.upto its c.1 then in
-      subst (λ (p : PodId). IsRemovedBetween p old new) same (record {
+      subst (λ (p : PodId). ExistedThenGone p old new) same (record {
         existed = record { then = there.then; first = grown_more (grown_more to_a (grown_by x.first)) there.first; last = grown_more there.last last; was = there.was };
         gone = record { is = gone; nowhere = gone_nowhere x.shown new conforming gone };
       })
 
-  pub gc_deleted : AllByRecursion (IsDeletedSo old new) lines
-  gc_deleted = lines_told times lines m (IsDeletedSo old new) (λ Can can here names a b to_a from_b line x. told_deleted a b to_a from_b line x) (λ pod is deed. cc)
+  pub gc_deleted : AllByRecursion (IsDeletedForGood old new) lines
+  gc_deleted = lines_told times lines m (IsDeletedForGood old new) (λ Can can here names a b to_a from_b line x. told_deleted a b to_a from_b line x) (λ pod is deed. cc)
 
-module _ (times : Times) (lines : List GcLine) {me : ℕ} {old new : List Event} (ext : Extends (in_process (sweeps times.now)) me old new) (quiet : Quiet me old new) (m : Meanwhile (Sweeps times lines) me old new) (idle : OwnsNothing me (state_after old).namespace) (conforming : IsConforming new) where
+module _ (times : Times) (lines : List GcLine) {me : ℕ} {old new : List Event} (ext : Extends (in_process (sweeps times.now)) me old new) (quiet : Quiet me old new) (m : Meanwhile (SweepsByPasses times lines) me old new) (idle : OwnsNothing me (state_after old).namespace) (conforming : IsConforming new) where
   before : IsConforming old
   before = conforming_left old quiet.more (subst IsConforming quiet.grown conforming)
 
@@ -198,7 +198,7 @@ module _ (times : Times) (lines : List GcLine) {me : ℕ} {old new : List Event}
         | inr held ↦ absurd (owns_nothing u me old before idle (held_owner me (pod_state u old) held))
       ]
 
-  told_swept : {Can : Type 0} {here : Area} {names : List (List ℕ)} (a b : List Event) → Grew old a → Grew b new → (line : GcLine) → IsTold Can times here names line me a b → SweptAsBefore old line
+  told_swept : {Can : Type 0} {here : Area} {names : List (List ℕ)} (a b : List Event) → Grew old a → Grew b new → (line : GcLine) → IsLineOfTurn Can times here names line me a b → SweptAsBefore old line
   told_swept {Can} {here} {names} a b to_a from_b line x pod to is deed =
       let same : x.shown ≡ pod = let e : Some x.shown ≡ Some pod = sym x.pod_is ∙ is in cc in
       let c = x.dealt.cause.moved to deed in
@@ -210,7 +210,7 @@ module _ (times : Times) (lines : List GcLine) {me : ℕ} {old new : List Event}
       (subst (λ (a : Area). phase_of_state (pod_state (pod_text pod.bytes) old) ≡ Some (swept_phase a)) (sym x.place_is) (subst (λ (q : PodId). phase_of_state (pod_state (pod_text q.bytes) old) ≡ Some (swept_phase here)) same has))
 
   pub gc_gone : AllByRecursion (GoneAfter new) lines
-  gc_gone = all_weaker (IsDeletedSo old new) (GoneAfter new) (λ line x pod is deed. (x pod is deed).gone) lines (gc_deleted times lines m conforming)
+  gc_gone = all_weaker (IsDeletedForGood old new) (GoneAfter new) (λ line x pod is deed. (x pod is deed).gone) lines (gc_deleted times lines m conforming)
 
   pub gc_had : AllByRecursion (SweptAsBefore old) lines
   gc_had = each_line times lines ext quiet m (SweptAsBefore old) (λ Can can here names a b to_a from_b line x. told_swept a b to_a from_b line x) (λ pod to is deed. cc)

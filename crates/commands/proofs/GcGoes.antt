@@ -17,7 +17,7 @@ use Rattle.dir_model.specs.declared.request.Reply.TheVariants.{Done}
 use Rattle.dir_model.specs.Areas.{rank, is_stage}
 use Rattle.dir_model.specs.Calls.{is_kill, Extends}
 use Rattle.dir_model.specs.Listings.{has_name}
-use Rattle.dir_model.specs.Pods.{pod_of}
+use Rattle.dir_model.specs.Pods.{pod_of_text}
 use Rattle.dir_model.specs.Quiet.{Quiet}
 use Rattle.dir_model.specs.State.{DirState, is_at, spot_eq, stands}
 use Rattle.dir_model.specs.Trace.{moved, state_after, namespace_replied}
@@ -31,13 +31,13 @@ use Rattle.pod_locks.specs.Causes.{Did}
 use Rattle.pod_gc.specs.declared.ages.Times.{Times}
 use Rattle.pod_gc.specs.declared.line.Deed.TheVariants.{Moved}
 use Rattle.pod_gc.specs.declared.line.GcLine.{GcLine}
-use Rattle.pod_gc.specs.Requests.{goes_to, moves_pods, moves_on, sweeps}
+use Rattle.pod_gc.specs.Requests.{goes_to, moves_pods, puts_aside_only, sweeps}
 use Rattle.pod_gc.specs.Sweeping.{MaySweepAll}
-use Rattle.pod_gc.specs.Told.{Knew, deals_with_some, IsTold, TellsShown, Passed, ArePassed, places}
+use Rattle.pod_gc.specs.Told.{Knew, deals_with_pods, IsLineOfTurn, TellsShown, PassedOverPods, ArePassed, places}
 use Rattle.command_outcomes.specs.Meanwhile.{Meanwhile}
-use Rattle.commands.specs.Gc.{Sweeps}
+use Rattle.commands.specs.Gc.{SweepsByPasses}
 use Rattle.commands.specs.GcLines.{HasLine}
-use Rattle.commands.specs.RemovalQuiet.{GoesOnSo}
+use Rattle.commands.specs.RemovalQuiet.{HasLineWhereMoved}
 use Rattle.commands.proofs.OwnSteps.{in_process, forward, same_folders}
 use Rattle.commands.proofs.GcQuiet.{shown_grown, passed_grown, passes_grown}
 use Rattle.pod_lookup.proofs.Names.{text_back}
@@ -67,7 +67,7 @@ moved_stays s spot from to me at there =
     ap (λ (o : Option ℕ). is_some o) (position_from-zero (is_at spot) gs) ∙ found_from (is_at spot) 0 gs (any_moved spot from to fs at any)
 
 -- nor does what else moves the pod
-pub on_leaves : (pod : PodId) (here to : Area) (me : ℕ) (s : DirState) (request : Request) (reply : Reply) → (is_kill request || moves_on pod here to request) ≡ true → stands s.namespace (pod_spot pod to) ≡ true → stands (namespace_replied s.namespace me request reply) (pod_spot pod to) ≡ true
+pub on_leaves : (pod : PodId) (here to : Area) (me : ℕ) (s : DirState) (request : Request) (reply : Reply) → (is_kill request || puts_aside_only pod here to request) ≡ true → stands s.namespace (pod_spot pod to) ≡ true → stands (namespace_replied s.namespace me request reply) (pod_spot pod to) ≡ true
 on_leaves pod here to me s (MakeFolder new) reply h there = cc
 on_leaves pod here to me s (MoveFolder a b) Done h there = moved_stays s (pod_spot pod to) a b me (spot_turn (pod_spot pod to) b (and_right (spot_eq (pod_spot pod here) a) (spot_eq (pod_spot pod to) b) h)) there
 on_leaves pod here to me s (MoveFolder a b) reply h there = there
@@ -75,11 +75,11 @@ on_leaves pod here to me s (RemoveFolder gone) reply h there = cc
 on_leaves pod here to me s request reply h there = ap (λ (fs : List (Option Spot)). stands (record s.namespace { folders = fs }) (pod_spot pod to)) (same_folders me s.namespace request reply refl (λ handle. refl)) ∙ there
 
 -- and so until the end of the pass
-module _ {Can : Type 0} {times : Times} {here : Area} {ls : List GcLine} {me : ℕ} {old a b new : List Event} (stage : is_stage here ≡ true) (quiet : Quiet me old new) (to_a : Grew old a) (from_b : Grew b new) (t : TellsShown Can times here ls me a b) {line : GcLine} (x : IsTold Can times here t.names line me t.listed b) (to : Area) (deed : line.deed ≡ Moved to) where
+module _ {Can : Type 0} {times : Times} {here : Area} {ls : List GcLine} {me : ℕ} {old a b new : List Event} (stage : is_stage here ≡ true) (quiet : Quiet me old new) (to_a : Grew old a) (from_b : Grew b new) (t : TellsShown Can times here ls me a b) {line : GcLine} (x : IsLineOfTurn Can times here t.names line me t.listed b) (to : Area) (deed : line.deed ≡ Moved to) where
   abbrev there_spot : Spot
   there_spot = pod_spot x.shown to
 
-  turn : Extends (moves_on x.shown here to) me x.from x.upto
+  turn : Extends (puts_aside_only x.shown here to) me x.from x.upto
   turn = x.dealt.let_be.moved to deed
 
   did : Did (MoveFolder (pod_spot x.shown here) there_spot) Done me x.from x.upto
@@ -90,14 +90,14 @@ module _ {Can : Type 0} {times : Times} {here : Area} {ls : List GcLine} {me : �
 
   pub stands_upto : Grew x.upto new → stands (state_after x.upto).namespace there_spot ≡ true
   stands_upto rest =
-      forward (λ s. stands s.namespace there_spot ≡ true) (moves_on x.shown here to) me (λ s request reply h q. on_leaves x.shown here to me s request reply h q) did.each.1
+      forward (λ s. stands s.namespace there_spot ≡ true) (puts_aside_only x.shown here to) me (λ s request reply h q. on_leaves x.shown here to me s request reply h q) did.each.1
       (grown_more did.each.2 (grown_call did.each.3)) did.each.4 turn (quiet_between quiet first (grown_by turn) rest) (moved_stands me (pod_spot x.shown here) there_spot did.each.0 did.each.1 did.each.3)
 
   pub stands_on : stands (state_after b).namespace there_spot ≡ true
   stands_on =
       let sorted = subst (λ (ns : List (List ℕ)). IsStrictlySortedBy (slice_cmp nat_cmp) ns) x.names_are t.ordered in
       let unshown = subst (λ (n : List ℕ). has_name x.later n ≡ false) (sym (text_back x.name x.shown x.name_is)) (later_apart x.earlier x.name x.later sorted) in
-      forward (λ s. stands s.namespace there_spot ≡ true) (deals_with_some times.now here x.later) me (λ s request reply h q. stays times.now here stage x.later there_spot unshown me s request reply h q) x.upto
+      forward (λ s. stands s.namespace there_spot ≡ true) (deals_with_pods times.now here x.later) me (λ s request reply h q. stays times.now here stage x.later there_spot unshown me s request reply h q) x.upto
       grown_none (grown_by x.last) x.last (quiet_between quiet (grown_more first (grown_by turn)) (grown_by x.last) from_b) (stands_upto (turn_before stage quiet to_a from_b t x))
 
 goes_stage : (here : Area) → is_stage (goes_to here) ≡ true
@@ -122,9 +122,9 @@ AllLieAhead (here ∷ ps) = (is_stage here ≡ true) × (moves_pods here ≡ tru
 module _ (Can : Type 0) (times : Times) (me : ℕ) (old new : List Event) (quiet : Quiet me old new) (conforming : IsConforming new) (lines : List GcLine) where
   -- what stands at this moment where this pass moves it has a line there
   abbrev HasItsLine : Area → List Event → Type 0
-  HasItsLine here b = moves_pods here ≡ true → (name : List ℕ) (pod : PodId) → pod_of name ≡ Some pod → stands (state_after b).namespace (record { area = goes_to here; name = name }) ≡ true → HasLine (goes_to here) pod lines
+  HasItsLine here b = moves_pods here ≡ true → (name : List ℕ) (pod : PodId) → pod_of_text name ≡ Some pod → stands (state_after b).namespace (record { area = goes_to here; name = name }) ≡ true → HasLine (goes_to here) pod lines
 
-  told_goes : (here : Area) → is_stage here ≡ true → (ls : List GcLine) (a b : List Event) → Grew old a → Grew b new → (t : TellsShown Can times here ls me a b) → HasItsLine here b → (line : GcLine) → IsTold Can times here t.names line me t.listed b → GoesOnSo lines line
+  told_goes : (here : Area) → is_stage here ≡ true → (ls : List GcLine) (a b : List Event) → Grew old a → Grew b new → (t : TellsShown Can times here ls me a b) → HasItsLine here b → (line : GcLine) → IsLineOfTurn Can times here t.names line me t.listed b → HasLineWhereMoved lines line
   told_goes here stage ls a b to_a from_b t its line x pod to is deed =
       let same : x.shown ≡ pod = let e : Some x.shown ≡ Some pod = sym x.pod_is ∙ is in cc in
       let c = x.dealt.cause.moved to deed in
@@ -133,19 +133,19 @@ module _ (Can : Type 0) (times : Times) (me : ℕ) (old new : List Event) (quiet
       let has = its c.0 x.name x.shown x.name_is (subst (λ (p : Area). stands (state_after b).namespace (record { area = p; name = x.name }) ≡ true) c.1 named) in
       subst (λ (p : Area). HasLine p pod lines) (sym c.1) (subst (λ (q : PodId). HasLine (goes_to here) q lines) same has)
 
-  shown_goes : (here : Area) → is_stage here ≡ true → (ls : List GcLine) (a b : List Event) → Grew old a → Grew b new → TellsShown Can times here ls me a b → HasItsLine here b → AllByRecursion (GoesOnSo lines) ls
-  shown_goes here stage ls a b to_a from_b t its = all_weaker (λ l. IsTold Can times here t.names l me t.listed b) (GoesOnSo lines) (λ l x. told_goes here stage ls a b to_a from_b t its l x) ls t.tells.each
+  shown_goes : (here : Area) → is_stage here ≡ true → (ls : List GcLine) (a b : List Event) → Grew old a → Grew b new → TellsShown Can times here ls me a b → HasItsLine here b → AllByRecursion (HasLineWhereMoved lines) ls
+  shown_goes here stage ls a b to_a from_b t its = all_weaker (λ l. IsLineOfTurn Can times here t.names l me t.listed b) (HasLineWhereMoved lines) (λ l x. told_goes here stage ls a b to_a from_b t its l x) ls t.tells.each
 
-  passed_goes : (here : Area) → is_stage here ≡ true → (ls : List GcLine) (a b : List Event) → Grew old a → Grew b new → Passed Can times here ls me a b → HasItsLine here b → AllByRecursion (GoesOnSo lines) ls
+  passed_goes : (here : Area) → is_stage here ≡ true → (ls : List GcLine) (a b : List Event) → Grew old a → Grew b new → PassedOverPods Can times here ls me a b → HasItsLine here b → AllByRecursion (HasLineWhereMoved lines) ls
   passed_goes area.Embryo stage ls a b to_a from_b (inl g) its =
       let to_locked = grown_more to_a (grown_by g.takes_gate) in
       shown_goes area.Embryo stage ls g.locked g.done to_locked (grown_more (grown_by g.gives_back) from_b) g.tells
       (λ moves name pod is there. its moves name pod is (closed Can times me old new quiet conforming name pod is area.Garbage refl g.gate g.done b g.gives_back (grown_more to_locked (shown_grown g.tells)) from_b there))
-  passed_goes area.Embryo stage ls a b to_a from_b (inr w) its = subst (λ (l : List GcLine). AllByRecursion (GoesOnSo lines) l) (sym w.line_is) (λ pod to is deed. cc, tt)
+  passed_goes area.Embryo stage ls a b to_a from_b (inr w) its = subst (λ (l : List GcLine). AllByRecursion (HasLineWhereMoved lines) l) (sym w.line_is) (λ pod to is deed. cc, tt)
   passed_goes here stage ls a b to_a from_b t its = shown_goes here stage ls a b to_a from_b t its
 
-  pub passes_go : (ps : List Area) → AllLieAhead ps → (ls : List GcLine) (a b : List Event) → Grew old a → Grew b new → ArePassed Can times ps ls me a b → ((place : Area) (pod : PodId) → HasLine place pod ls → HasLine place pod lines) → AllByRecursion (GoesOnSo lines) ls
-  passes_go [] ahead ls a b to_a from_b x whole = subst (λ (l : List GcLine). AllByRecursion (GoesOnSo lines) l) (sym x.0) tt
+  pub passes_go : (ps : List Area) → AllLieAhead ps → (ls : List GcLine) (a b : List Event) → Grew old a → Grew b new → ArePassed Can times ps ls me a b → ((place : Area) (pod : PodId) → HasLine place pod ls → HasLine place pod lines) → AllByRecursion (HasLineWhereMoved lines) ls
+  passes_go [] ahead ls a b to_a from_b x whole = subst (λ (l : List GcLine). AllByRecursion (HasLineWhereMoved lines) l) (sym x.0) tt
   passes_go (here ∷ ps) ahead ls a b to_a from_b x whole =
       let rest = passes_grown Can times ps x.others me x.between b x.rest in
       let to_between = grown_more to_a (passed_grown Can times here x.own me a x.between x.first) in
@@ -158,8 +158,8 @@ module _ (Can : Type 0) (times : Times) (me : ℕ) (old new : List Event) (quiet
         | inl has ↦ more (goes_to here) pod has
         | inr gate ↦ goes_apart here gate.0
       ] in
-      subst (λ (l : List GcLine). AllByRecursion (GoesOnSo lines) l) (sym x.lines_are)
-      (all_both (GoesOnSo lines) x.own x.others (passed_goes here ahead.0 x.own a x.between to_a (grown_more rest from_b) x.first its) (passes_go ps ahead.2 x.others x.between b to_between from_b x.rest more))
+      subst (λ (l : List GcLine). AllByRecursion (HasLineWhereMoved lines) l) (sym x.lines_are)
+      (all_both (HasLineWhereMoved lines) x.own x.others (passed_goes here ahead.0 x.own a x.between to_a (grown_more rest from_b) x.first its) (passes_go ps ahead.2 x.others x.between b to_between from_b x.rest more))
 
 all_ahead : AllLieAhead places
 all_ahead =
@@ -171,8 +171,8 @@ all_ahead =
     let prepare : AllLieAhead (area.Prepare ∷ area.Prepared ∷ area.Run ∷ area.ExitedGarbage ∷ area.Garbage ∷ []) = (refl, λ moves. record { skipped = area.Prepared ∷ area.Run ∷ area.ExitedGarbage ∷ []; rest = []; are = refl; others = (r, (r, (r, tt))) }, prepared) in
     (refl, λ moves. record { skipped = area.Prepare ∷ area.Prepared ∷ area.Run ∷ area.ExitedGarbage ∷ []; rest = []; are = refl; others = (r, (r, (r, (r, tt)))) }, prepare)
 
-module _ (times : Times) (lines : List GcLine) {me : ℕ} {old new : List Event} (ext : Extends (in_process (sweeps times.now)) me old new) (quiet : Quiet me old new) (m : Meanwhile (Sweeps times lines) me old new) (conforming : IsConforming new) where
-  pub gc_goes : AllByRecursion (GoesOnSo lines) lines
+module _ (times : Times) (lines : List GcLine) {me : ℕ} {old new : List Event} (ext : Extends (in_process (sweeps times.now)) me old new) (quiet : Quiet me old new) (m : Meanwhile (SweepsByPasses times lines) me old new) (conforming : IsConforming new) where
+  pub gc_goes : AllByRecursion (HasLineWhereMoved lines) lines
   gc_goes =
       passes_go (Knew (MaySweepAll times.now times.expire) m.so.from) times me old new quiet conforming lines places all_ahead lines m.begun m.ended (record { more = m.begins.more; grown = m.begins.grown }) (record { more = m.finishes.more; grown = m.finishes.grown }) m.so.swept
       (λ place pod has. has)

@@ -15,16 +15,16 @@ use Rattle.dir_model.specs.State.{DirState, folder_at, stands}
 use Rattle.dir_model.specs.Trace.{state_after}
 use Rattle.dir_model.specs.Trees.{has_file}
 use Rattle.phase_read.specs.Read.{pod_spot}
-use Rattle.pod_locks.specs.ClaimCauses.{LacksManifest}
+use Rattle.pod_locks.specs.ClaimCauses.{IsPreparedWithoutManifest}
 use Rattle.pod_locks.specs.Work.{Grew}
 use Rattle.pod_locks.proofs.Traces.{grown_more}
 use Rattle.pod_gc.specs.declared.ages.Times.{Times}
 use Rattle.pod_gc.specs.declared.line.GcLine.{GcLine}
 use Rattle.pod_gc.specs.Requests.{sweeps}
 use Rattle.pod_gc.specs.Deeds.{IsGoneFrom}
-use Rattle.pod_gc.specs.Told.{IsTold, TellsShown}
+use Rattle.pod_gc.specs.Told.{IsLineOfTurn, TellsShown}
 use Rattle.command_outcomes.specs.Meanwhile.{Meanwhile}
-use Rattle.commands.specs.Gc.{Sweeps}
+use Rattle.commands.specs.Gc.{SweepsByPasses}
 use Rattle.commands.specs.RemovalQuiet.{LeftAsBefore}
 use Rattle.commands.proofs.OwnSteps.{in_process, back_from}
 use Rattle.commands.proofs.LateTurns.{or_either, sweeps_late, exited_rank, garbage_rank}
@@ -44,15 +44,15 @@ unclaimed true is = cc
 unclaimed false is = refl
 
 -- it stands there, and Claim can't be opened
-lacks_then : (pod : PodId) (s : DirState) → IsGoneFrom pod area.Prepared s → stands s.namespace (pod_spot pod area.Prepared) ≡ true → LacksManifest pod s
+lacks_then : (pod : PodId) (s : DirState) → IsGoneFrom pod area.Prepared s → stands s.namespace (pod_spot pod area.Prepared) ≡ true → IsPreparedWithoutManifest pod s
 lacks_then pod s gone there = by (folder_at s.namespace (pod_spot pod area.Prepared)) refl gone there
   where
-    by : (o : Option ℕ) → folder_at s.namespace (pod_spot pod area.Prepared) ≡ o → refused_in (open_refusal Claim) s.entries o ≡ Some Missing → is_some o ≡ true → LacksManifest pod s
+    by : (o : Option ℕ) → folder_at s.namespace (pod_spot pod area.Prepared) ≡ o → refused_in (open_refusal Claim) s.entries o ≡ Some Missing → is_some o ≡ true → IsPreparedWithoutManifest pod s
     by None at gone there = cc
     by (Some k) at gone there = record { folder = k; there = at; without = unclaimed (has_file s.entries k (codes "pod")) gone }
 
-module _ (times : Times) (lines : List GcLine) {me : ℕ} {old new : List Event} (ext : Extends (in_process (sweeps times.now)) me old new) (quiet : Quiet me old new) (m : Meanwhile (Sweeps times lines) me old new) where
-  pub told_left : {Can : Type 0} (here : Area) → is_stage here ≡ true → (ls : List GcLine) (a b : List Event) → Grew old a → Grew b new → (t : TellsShown Can times here ls me a b) → (line : GcLine) → IsTold Can times here t.names line me t.listed b → LeftAsBefore old line
+module _ (times : Times) (lines : List GcLine) {me : ℕ} {old new : List Event} (ext : Extends (in_process (sweeps times.now)) me old new) (quiet : Quiet me old new) (m : Meanwhile (SweepsByPasses times lines) me old new) where
+  pub told_left : {Can : Type 0} (here : Area) → is_stage here ≡ true → (ls : List GcLine) (a b : List Event) → Grew old a → Grew b new → (t : TellsShown Can times here ls me a b) → (line : GcLine) → IsLineOfTurn Can times here t.names line me t.listed b → LeftAsBefore old line
   told_left {Can} here stage ls a b to_a from_b t line x pod is deed =
       let same : x.shown ≡ pod = let e : Some x.shown ≡ Some pod = sym x.pod_is ∙ is in cc in
       let first = turn_after stage quiet to_a from_b t x in
@@ -70,10 +70,10 @@ module _ (times : Times) (lines : List GcLine) {me : ℕ} {old new : List Event}
       let aside = sweeps_aside times.now in
       let before = back_from (Lacks asks aside x.shown lacks.folder me) (in_process asks) me (λ s request reply h y. lacks_back asks aside x.shown lacks.folder me s request reply h y) then
       (grown_more first to_then) (grown_more from_then last) ext quiet (lacks.there, lacks.without) in
-      let lacked : LacksManifest x.shown (state_after old) = record { folder = lacks.folder; there = before.0; without = before.1 } in
-      (x.place_is ∙ found.0, subst (λ (q : PodId). LacksManifest q (state_after old)) same lacked)
+      let lacked : IsPreparedWithoutManifest x.shown (state_after old) = record { folder = lacks.folder; there = before.0; without = before.1 } in
+      (x.place_is ∙ found.0, subst (λ (q : PodId). IsPreparedWithoutManifest q (state_after old)) same lacked)
     where
-      by : (p : Area) → here ≡ p → (s : DirState) → IsGoneFrom x.shown p s → stands s.namespace (pod_spot x.shown p) ≡ true → (p ≡ area.Prepared) × LacksManifest x.shown s
+      by : (p : Area) → here ≡ p → (s : DirState) → IsGoneFrom x.shown p s → stands s.namespace (pod_spot x.shown p) ≡ true → (p ≡ area.Prepared) × IsPreparedWithoutManifest x.shown s
       by area.Prepared at s gone there = (refl, lacks_then x.shown s gone there)
       by p at s gone there = let clash : false ≡ true = sym gone ∙ there in cc
 

@@ -8,12 +8,12 @@ use Rattle.dir_model.specs.declared.area.Area.{Area}
 use Rattle.dir_model.specs.declared.area.Area.TheVariants as area
 use Rattle.dir_model.specs.declared.event.Event.{Event}
 use Rattle.dir_model.specs.declared.pod.PodId.{PodId}
-use Rattle.dir_model.specs.Pods.{pod_of}
+use Rattle.dir_model.specs.Pods.{pod_of_text}
 use Rattle.dir_model.proofs.Lists.{all_right, all_weaker}
 use Rattle.dir_rules.specs.Standing.{is_in}
 use Rattle.pod_gc.specs.declared.ages.Times.{Times}
 use Rattle.pod_gc.specs.declared.line.GcLine.{GcLine}
-use Rattle.pod_gc.specs.Told.{and_pod, pods_of, IsTold, Passed}
+use Rattle.pod_gc.specs.Told.{and_pod, pods_of, IsLineOfTurn, PassedOverPods}
 use Rattle.commands.specs.Gc.{subject_text}
 use Rattle.commands.specs.GcLines.{HasLine}
 use Rattle.pod_lookup.proofs.Names.{text_back}
@@ -73,25 +73,25 @@ pub of_line : (P : GcLine → Type 0) {place : Area} {pod : PodId} {lines : List
 of_line P has all = (all_right P has.before (has.line ∷ has.after) (subst (λ (l : List GcLine). AllByRecursion P l) has.are all)).0
 
 -- the lines of a pass are of its place
-pub passed_place : (Can : Type 0) (times : Times) (here : Area) (lines : List GcLine) (me : ℕ) (a b : List Event) → Passed Can times here lines me a b → AllByRecursion (λ (l : GcLine). l.place ≡ here) lines
-passed_place Can times area.Embryo lines me a b (inl g) = all_weaker (λ l. IsTold Can times area.Embryo g.tells.names l me g.tells.listed g.done) (λ (l : GcLine). l.place ≡ area.Embryo) (λ l x. x.place_is) lines g.tells.tells.each
+pub passed_place : (Can : Type 0) (times : Times) (here : Area) (lines : List GcLine) (me : ℕ) (a b : List Event) → PassedOverPods Can times here lines me a b → AllByRecursion (λ (l : GcLine). l.place ≡ here) lines
+passed_place Can times area.Embryo lines me a b (inl g) = all_weaker (λ l. IsLineOfTurn Can times area.Embryo g.tells.names l me g.tells.listed g.done) (λ (l : GcLine). l.place ≡ area.Embryo) (λ l x. x.place_is) lines g.tells.tells.each
 passed_place Can times area.Embryo lines me a b (inr w) = subst (λ (l : List GcLine). AllByRecursion (λ (x : GcLine). x.place ≡ area.Embryo) l) (sym w.line_is) (refl, tt)
-passed_place Can times here lines me a b t = all_weaker (λ l. IsTold Can times here t.names l me t.listed b) (λ (l : GcLine). l.place ≡ here) (λ l x. x.place_is) lines t.tells.each
+passed_place Can times here lines me a b t = all_weaker (λ l. IsLineOfTurn Can times here t.names l me t.listed b) (λ (l : GcLine). l.place ≡ here) (λ l x. x.place_is) lines t.tells.each
 
 -- a pod whose name ascends has a line after those before it
 
-abbrev subjects : List GcLine → List (List ℕ)
+abbrev pub subjects : List GcLine → List (List ℕ)
 subjects ls = map (λ (l : GcLine). subject_text l.pod l.place) ls
 
-subject_is : (l : GcLine) (n : List ℕ) (p : PodId) → pod_of n ≡ Some p → l.pod ≡ Some p → subject_text l.pod l.place ≡ n
+subject_is : (l : GcLine) (n : List ℕ) (p : PodId) → pod_of_text n ≡ Some p → l.pod ≡ Some p → subject_text l.pod l.place ≡ n
 subject_is l n p named is = ap (λ (o : Option PodId). subject_text o l.place) is ∙ text_back n p named
 
 all_subjects : (P : List ℕ → Type 0) (ns : List (List ℕ)) (ls : List GcLine) → map (λ (l : GcLine). l.pod) ls ≡ map (λ (p : PodId). Some p) (pods_of ns) → AllByRecursion P ns → AllByRecursion P (subjects ls)
 all_subjects P [] [] are all = tt
 all_subjects P [] (l ∷ ls) are all = cc
-all_subjects P (n ∷ ns) ls are all = by (pod_of n) refl ls are (λ rest is. all_subjects P ns rest is all.1)
+all_subjects P (n ∷ ns) ls are all = by (pod_of_text n) refl ls are (λ rest is. all_subjects P ns rest is all.1)
   where
-    by : (o : Option PodId) → pod_of n ≡ o → (ls : List GcLine) → map (λ (l : GcLine). l.pod) ls ≡ map (λ (p : PodId). Some p) (and_pod o (pods_of ns))
+    by : (o : Option PodId) → pod_of_text n ≡ o → (ls : List GcLine) → map (λ (l : GcLine). l.pod) ls ≡ map (λ (p : PodId). Some p) (and_pod o (pods_of ns))
         → ((rest : List GcLine) → map (λ (l : GcLine). l.pod) rest ≡ map (λ (p : PodId). Some p) (pods_of ns) → AllByRecursion P (subjects rest)) → AllByRecursion P (subjects ls)
     by None named ls are go = go ls are
     by (Some p) named [] are go = cc
@@ -104,9 +104,9 @@ pub subjects_ascend : (ns : List (List ℕ)) (ls : List GcLine) → map (λ (l :
 unfolding IsStrictlySortedBy
 subjects_ascend [] [] are sorted = tt
 subjects_ascend [] (l ∷ ls) are sorted = cc
-subjects_ascend (n ∷ ns) ls are sorted = by (pod_of n) refl ls are (λ rest is. subjects_ascend ns rest is sorted.1)
+subjects_ascend (n ∷ ns) ls are sorted = by (pod_of_text n) refl ls are (λ rest is. subjects_ascend ns rest is sorted.1)
   where
-    by : (o : Option PodId) → pod_of n ≡ o → (ls : List GcLine) → map (λ (l : GcLine). l.pod) ls ≡ map (λ (p : PodId). Some p) (and_pod o (pods_of ns))
+    by : (o : Option PodId) → pod_of_text n ≡ o → (ls : List GcLine) → map (λ (l : GcLine). l.pod) ls ≡ map (λ (p : PodId). Some p) (and_pod o (pods_of ns))
         → ((rest : List GcLine) → map (λ (l : GcLine). l.pod) rest ≡ map (λ (p : PodId). Some p) (pods_of ns) → IsStrictlySortedBy (slice_cmp nat_cmp) (subjects rest)) → IsStrictlySortedBy (slice_cmp nat_cmp) (subjects ls)
     by None named ls are go = go ls are
     by (Some p) named [] are go = cc

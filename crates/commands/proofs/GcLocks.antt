@@ -27,16 +27,16 @@ use Rattle.pod_locks.specs.ClaimCauses.{is_lock}
 use Rattle.pod_locks.specs.Work.{Grew}
 use Rattle.pod_locks.proofs.Times.{at_part}
 use Rattle.pod_locks.proofs.Traces.{grown_more}
-use Rattle.pod_locks.specs.Causes.{OpensAt, is_held_against, HeldByAnother, FreeOfOthers}
+use Rattle.pod_locks.specs.Causes.{OpensAt, is_held_against, PodHeldByAnother, FreeOfOthers}
 use Rattle.pod_gc.specs.declared.ages.Times.{Times}
 use Rattle.pod_gc.specs.declared.line.Deed.{Deed}
 use Rattle.pod_gc.specs.declared.line.Deed.TheVariants.{Moved, Deleted, Busy}
 use Rattle.pod_gc.specs.declared.line.GcLine.{GcLine}
-use Rattle.pod_gc.specs.Deeds.{is_under_claim, is_after_look, refused_lock, asked_mode}
+use Rattle.pod_gc.specs.Deeds.{is_under_claim, is_after_look, refused_lock, mode_of_deed}
 use Rattle.pod_gc.specs.Requests.{sweeps}
-use Rattle.pod_gc.specs.Told.{IsTold, TellsShown}
+use Rattle.pod_gc.specs.Told.{IsLineOfTurn, TellsShown}
 use Rattle.command_outcomes.specs.Meanwhile.{Meanwhile}
-use Rattle.commands.specs.Gc.{Sweeps}
+use Rattle.commands.specs.Gc.{SweepsByPasses}
 use Rattle.commands.specs.RemovalTable.{is_held_in}
 use Rattle.commands.proofs.OwnSteps.{in_process, held_before}
 use Rattle.commands.proofs.Openings.{free_before, held_owns}
@@ -49,7 +49,7 @@ use Rattle.commands.proofs.GcWaited.{changed_off}
 
 -- the locks of the folder with this number, in one state
 pub record LocksWere (place : Area) (deed : Deed) (k me : ℕ) (s : DirState) : Type 0 where
-  pub held : (which : Which) → refused_lock deed ≡ Some which → is_held_in me which (asked_mode place deed) (Some k) s ≡ true
+  pub held : (which : Which) → refused_lock deed ≡ Some which → is_held_in me which (mode_of_deed place deed) (Some k) s ≡ true
   pub unclaimed : place ≡ area.Prepared → is_under_claim deed ≡ true → is_held_in me Claim Exclusive (Some k) s ≡ false
   pub unowned : is_after_look place deed ≡ true → is_held_in me Own Shared (Some k) s ≡ false
   pub alone : deed ≡ Deleted → is_held_in me Own Exclusive (Some k) s ≡ false
@@ -92,7 +92,7 @@ module _ {asks : Request → Bool} {me : ℕ} {old from upto new : List Event} (
   abbrev Test : Which → Mode → ℕ → DirState → Bool
   Test which mode f s = list_any (is_held_against me which mode f) s.namespace.openings
 
-  pub turn_held : (which : Which) (mode : Mode) → HeldByAnother pod here which mode me from upto → is_held_in me which mode (Some k) (state_after old) ≡ true
+  pub turn_held : (which : Which) (mode : Mode) → PodHeldByAnother pod here which mode me from upto → is_held_in me which mode (Some k) (state_after old) ≡ true
   turn_held which mode x =
       let one = one_found x.folder x.between (at_weaker (Stood x.folder) (λ s y. y.0) x.found) (till x.held) in
       let held = held_before (λ o. is_folder x.folder o.folder && (is_lock which o.target && opposes mode o.lock)) (at_part (then x.found) refl last x.held) ext quiet in
@@ -112,11 +112,11 @@ module _ {asks : Request → Bool} {me : ℕ} {old from upto new : List Event} (
       let free = free_before (λ o. is_folder x.folder o.folder && (is_lock Own o.target && opposes Shared o.lock)) (at_part (then x.found) refl last told) ext quiet in
       subst (λ (f : ℕ). Test Own Shared f (state_after old) ≡ false) one free
 
-module _ (times : Times) (lines : List GcLine) {me : ℕ} {old new : List Event} (ext : Extends (in_process (sweeps times.now)) me old new) (quiet : Quiet me old new) (m : Meanwhile (Sweeps times lines) me old new) (conforming : IsConforming new) where
-  told_locks : {Can : Type 0} (can : Can) (here : Area) → is_stage here ≡ true → (ls : List GcLine) (a b : List Event) → Grew old a → Grew b new → (t : TellsShown Can times here ls me a b) → (line : GcLine) → IsTold Can times here t.names line me t.listed b → LocksBefore me old new line
+module _ (times : Times) (lines : List GcLine) {me : ℕ} {old new : List Event} (ext : Extends (in_process (sweeps times.now)) me old new) (quiet : Quiet me old new) (m : Meanwhile (SweepsByPasses times lines) me old new) (conforming : IsConforming new) where
+  told_locks : {Can : Type 0} (can : Can) (here : Area) → is_stage here ≡ true → (ls : List GcLine) (a b : List Event) → Grew old a → Grew b new → (t : TellsShown Can times here ls me a b) → (line : GcLine) → IsLineOfTurn Can times here t.names line me t.listed b → LocksBefore me old new line
   told_locks {Can} can here stage ls a b to_a from_b t line x pod k h is to_new at =
       subst (λ (p : Area). LocksWere p line.deed k me (state_after old)) (sym x.place_is) (record {
-        held = λ which refused. turn_held ext quiet conforming first last x.shown here stage k h to_new there which (asked_mode here line.deed) ((x.another can).held which refused);
+        held = λ which refused. turn_held ext quiet conforming first last x.shown here stage k h to_new there which (mode_of_deed here line.deed) ((x.another can).held which refused);
         unclaimed = λ place under. turn_free ext quiet conforming first last x.shown here stage k h to_new there Claim Exclusive (x.dealt.cause.claimed place under);
         unowned = λ looked. turn_unowned ext quiet conforming first last x.shown here stage k h to_new there (x.dealt.cause.freed looked);
         alone = λ deed. turn_free ext quiet conforming first last x.shown here stage k h to_new there Own Exclusive (x.dealt.cause.alone deed);
@@ -136,7 +136,7 @@ module _ (times : Times) (lines : List GcLine) {me : ℕ} {old new : List Event}
   pub gc_locks : AllByRecursion (LocksBefore me old new) lines
   gc_locks = each_shown times lines ext quiet m (LocksBefore me old new) (λ Can can here stage ls a b to_a from_b t line x. told_locks can here stage ls a b to_a from_b t line x) (λ pod k h is to_new at. cc)
 
-  told_manifest : {Can : Type 0} (can : Can) (here : Area) → is_stage here ≡ true → (ls : List GcLine) (a b : List Event) → Grew old a → Grew b new → (t : TellsShown Can times here ls me a b) → (line : GcLine) → IsTold Can times here t.names line me t.listed b → ManifestBefore old line
+  told_manifest : {Can : Type 0} (can : Can) (here : Area) → is_stage here ≡ true → (ls : List GcLine) (a b : List Event) → Grew old a → Grew b new → (t : TellsShown Can times here ls me a b) → (line : GcLine) → IsLineOfTurn Can times here t.names line me t.listed b → ManifestBefore old line
   told_manifest {Can} can here stage ls a b to_a from_b t line x pod k is place opens at =
       let same : pod ≡ x.shown = let e : Some pod ≡ Some x.shown = sym is ∙ x.pod_is in cc in
       by line.deed refl opens (subst (λ (q : PodId). folder_at (state_after old).namespace (pod_spot q area.Prepared) ≡ Some k) same at)
@@ -164,8 +164,8 @@ module _ (times : Times) (lines : List GcLine) {me : ℕ} {old new : List Event}
 
       by_refusal : refused_lock line.deed ≡ Some Claim → folder_at (state_after old).namespace (pod_spot x.shown area.Prepared) ≡ Some k → has_file (state_after old).entries k (codes "pod") ≡ true
       by_refusal refused at =
-          let y : HeldByAnother x.shown area.Prepared Claim (asked_mode area.Prepared line.deed) me x.from x.upto =
-          subst (λ (p : Area). HeldByAnother x.shown p Claim (asked_mode p line.deed) me x.from x.upto) here_is ((x.another can).held Claim refused) in
+          let y : PodHeldByAnother x.shown area.Prepared Claim (mode_of_deed area.Prepared line.deed) me x.from x.upto =
+          subst (λ (p : Area). PodHeldByAnother x.shown p Claim (mode_of_deed p line.deed) me x.from x.upto) here_is ((x.another can).held Claim refused) in
           let g = at_grown y.held in
           had y.folder y.between y.found (grown_more (record { more = g.0; grown = g.1 }) last) at
 

@@ -4,6 +4,7 @@ use Rattle.std.specs.List.{list_any, AllByRecursion}
 use Rattle.std.specs.List.Sorted.{IsStrictlySortedBy}
 use Rattle.std.specs.Ordering.{nat_cmp}
 use Rattle.std.specs.Cmp.Lexicographic.{slice_cmp}
+use Rattle.plain_laws.proofs.Lists.{any_left}
 use Rattle.dir_model.specs.declared.area.Area.{Area}
 use Rattle.dir_model.specs.declared.area.Area.TheVariants as area
 use Rattle.dir_model.specs.declared.event.Event.{Event}
@@ -32,15 +33,14 @@ use Rattle.pod_gc.specs.declared.line.Deed.TheVariants.{Moved}
 use Rattle.pod_gc.specs.declared.line.GcLine.{GcLine}
 use Rattle.pod_gc.specs.Deeds.{ShowedAge, RestsBy}
 use Rattle.pod_gc.specs.Ages.{moment_among, is_young}
-use Rattle.pod_gc.specs.Requests.{moves_on, sweeps}
+use Rattle.pod_gc.specs.Requests.{puts_aside_only, sweeps}
 use Rattle.pod_gc.specs.Sweeping.{MaySweepAll}
-use Rattle.pod_gc.specs.Told.{Knew, deals_with_some, IsTold, TellsShown, ArePassed, places}
+use Rattle.pod_gc.specs.Told.{Knew, deals_with_pods, IsLineOfTurn, TellsShown, ArePassed, places}
 use Rattle.command_outcomes.specs.Meanwhile.{Meanwhile}
-use Rattle.commands.specs.Gc.{Sweeps}
+use Rattle.commands.specs.Gc.{SweepsByPasses}
 use Rattle.commands.specs.RemovalQuiet.{MovedFrom}
 use Rattle.commands.proofs.OwnSteps.{in_process, forward}
 use Rattle.commands.proofs.OneNumber.{one_number}
-use Rattle.commands.proofs.Lacking.{any_left}
 use Rattle.commands.proofs.MarkMoments.{IsSince, young_since, marked_since, mark_entry}
 use Rattle.commands.proofs.Untouched.{Holds, deals_off}
 use Rattle.commands.proofs.GcQuiet.{passed_grown, passes_grown}
@@ -53,7 +53,7 @@ use Rattle.commands.proofs.GcCame.{line_at}
 use Rattle.commands.proofs.GcArrived.{turn_arrives}
 
 -- what puts a pod aside takes nothing out of its folder
-keeps_entry : (pod : PodId) (t : TreeEntry → Bool) (me : ℕ) (s : DirState) (request : Request) (reply : Reply) → (is_kill request || moves_on pod area.Run area.ExitedGarbage request) ≡ true → list_any t s.entries ≡ true → list_any t (state_next s (event me request reply)).entries ≡ true
+keeps_entry : (pod : PodId) (t : TreeEntry → Bool) (me : ℕ) (s : DirState) (request : Request) (reply : Reply) → (is_kill request || puts_aside_only pod area.Run area.ExitedGarbage request) ≡ true → list_any t s.entries ≡ true → list_any t (state_next s (event me request reply)).entries ≡ true
 keeps_entry pod t me s (RemoveFileIn inner) reply h any = cc
 keeps_entry pod t me s (RemoveDirIn inner) reply h any = cc
 keeps_entry pod t me s request reply h any = any_left t s.entries (option_to_list (entry_made s.namespace request reply)) any
@@ -65,19 +65,19 @@ pub record RestsSince (pod : PodId) (now : ℕ) (s : DirState) : Type 0 where
   pub holds : Holds (pod_spot pod area.ExitedGarbage) folder items s
   pub since : IsSince now (moment_among (codes "marked-") items)
 
-module _ (times : Times) (lines : List GcLine) {me : ℕ} {old new : List Event} (ext : Extends (in_process (sweeps times.now)) me old new) (quiet : Quiet me old new) (m : Meanwhile (Sweeps times lines) me old new) (conforming : IsConforming new) (small : times.now ≤ 18446744073709551615) where
+module _ (times : Times) (lines : List GcLine) {me : ℕ} {old new : List Event} (ext : Extends (in_process (sweeps times.now)) me old new) (quiet : Quiet me old new) (m : Meanwhile (SweepsByPasses times lines) me old new) (conforming : IsConforming new) (small : times.now ≤ 18446744073709551615) where
   abbrev mark : List ℕ
   mark = marked_mark times.now
 
   -- over the pass that moved it
-  module _ {Can : Type 0} (ls : List GcLine) (a b : List Event) (to_a : Grew old a) (from_b : Grew b new) (t : TellsShown Can times area.Run ls me a b) (line : GcLine) (x : IsTold Can times area.Run t.names line me t.listed b) (deed : line.deed ≡ Moved area.ExitedGarbage) where
+  module _ {Can : Type 0} (ls : List GcLine) (a b : List Event) (to_a : Grew old a) (from_b : Grew b new) (t : TellsShown Can times area.Run ls me a b) (line : GcLine) (x : IsLineOfTurn Can times area.Run t.names line me t.listed b) (deed : line.deed ≡ Moved area.ExitedGarbage) where
     first : Grew old x.from
     first = turn_after refl quiet to_a from_b t x
 
     last : Grew x.upto new
     last = turn_before refl quiet to_a from_b t x
 
-    turn : Extends (moves_on x.shown area.Run area.ExitedGarbage) me x.from x.upto
+    turn : Extends (puts_aside_only x.shown area.Run area.ExitedGarbage) me x.from x.upto
     turn = x.dealt.let_be.moved area.ExitedGarbage deed
 
     mk : MarkedFirst x.shown times.now me x.from x.upto
@@ -95,7 +95,7 @@ module _ (times : Times) (lines : List GcLine) {me : ℕ} {old new : List Event}
     -- at the end of its turn
     has_mark : list_any (is_entry mk.folder mark) (state_after x.upto).entries ≡ true
     has_mark =
-        forward (λ s. list_any (is_entry mk.folder mark) s.entries ≡ true) (moves_on x.shown area.Run area.ExitedGarbage) me (λ s request reply h q. keeps_entry x.shown (is_entry mk.folder mark) me s request reply h q) then
+        forward (λ s. list_any (is_entry mk.folder mark) s.entries ≡ true) (puts_aside_only x.shown area.Run area.ExitedGarbage) me (λ s request reply h q. keeps_entry x.shown (is_entry mk.folder mark) me s request reply h q) then
         to_then from_then turn (quiet_between quiet first (grown_by turn) last) (mark_entry times.now mk.folder (state_after then).entries mk.marked.holds.1)
 
     stands_there : folder_at (state_after x.upto).namespace (pod_spot x.shown area.ExitedGarbage) ≡ Some mk.folder
@@ -115,7 +115,7 @@ module _ (times : Times) (lines : List GcLine) {me : ℕ} {old new : List Event}
         let sorted = subst (λ (ns : List (List ℕ)). IsStrictlySortedBy (slice_cmp nat_cmp) ns) x.names_are t.ordered in
         let unshown = subst (λ (n : List ℕ). has_name x.later n ≡ false) (sym (text_back x.name x.shown x.name_is)) (later_apart x.earlier x.name x.later sorted) in
         let spot = pod_spot x.shown area.ExitedGarbage in
-        let held = held_on Can times me old new quiet conforming spot refl mk.folder marks (deals_with_some times.now area.Run x.later) x.upto b x.last (λ r h. deals_off spot times.now area.Run refl x.later unshown me r h)
+        let held = held_on Can times me old new quiet conforming spot refl mk.folder marks (deals_with_pods times.now area.Run x.later) x.upto b x.last (λ r h. deals_off spot times.now area.Run refl x.later unshown me r h)
         (grown_more first (grown_by turn)) from_b (stands_there, refl) in
         record { folder = mk.folder; items = marks; holds = held; since = marked_since times.now mk.folder small (state_after x.upto).entries has_mark }
 
@@ -166,7 +166,7 @@ module _ (times : Times) (lines : List GcLine) {me : ℕ} {old new : List Event}
   run_marks : AllByRecursion MarksSo run.own
   run_marks =
       let t : TellsShown May times area.Run run.own me prepared.between run.between = run.first in
-      all_weaker (λ l. IsTold May times area.Run t.names l me t.listed run.between) MarksSo
+      all_weaker (λ l. IsLineOfTurn May times area.Run t.names l me t.listed run.between) MarksSo
       (λ l x pod is place deed. let same : x.shown ≡ pod = let e : Some x.shown ≡ Some pod = sym x.pod_is ∙ is in cc in
       subst (λ (q : PodId). RestsSince q times.now (state_after run.between)) same (pass_rests run.own prepared.between run.between to_run from_run t l x deed)) run.own t.tells.each
 
@@ -187,7 +187,7 @@ module _ (times : Times) (lines : List GcLine) {me : ℕ} {old new : List Event}
   not_exited : (line : GcLine) → (line.place ≡ area.ExitedGarbage → ⊥) → RestsMoved line
   not_exited line other pod is place from = absurd (other place)
 
-  told_rests : (t : TellsShown May times area.ExitedGarbage exited.own me run.between exited.between) (line : GcLine) → IsTold May times area.ExitedGarbage t.names line me t.listed exited.between → RestsMoved line
+  told_rests : (t : TellsShown May times area.ExitedGarbage exited.own me run.between exited.between) (line : GcLine) → IsLineOfTurn May times area.ExitedGarbage t.names line me t.listed exited.between → RestsMoved line
   told_rests t line x pod is place from = record { rests = λ p deed. by true ((x.dealt.rested refl).rests p deed); over = λ tried. by false ((x.dealt.rested refl).over tried) }
     where
       same : pod ≡ x.shown
@@ -208,7 +208,7 @@ module _ (times : Times) (lines : List GcLine) {me : ℕ} {old new : List Event}
       let r : (true ≡ true) × (false ≡ false) = (refl, refl) in
       let t : TellsShown May times area.ExitedGarbage exited.own me run.between exited.between = exited.first in
       let skip = λ (here : Area) (ls : List GcLine) (a b : List Event). passed_elsewhere May times me area.ExitedGarbage RestsMoved not_exited here ls a b in
-      let its = all_weaker (λ l. IsTold May times area.ExitedGarbage t.names l me t.listed exited.between) RestsMoved (λ l x. told_rests t l x) exited.own t.tells.each in
+      let its = all_weaker (λ l. IsLineOfTurn May times area.ExitedGarbage t.names l me t.listed exited.between) RestsMoved (λ l x. told_rests t l x) exited.own t.tells.each in
       let from_exited = subst (λ (l : List GcLine). AllByRecursion RestsMoved l) (sym exited.lines_are)
       (all_both RestsMoved exited.own exited.others its (passes_elsewhere May times me area.ExitedGarbage RestsMoved not_exited (area.Garbage ∷ []) exited.others exited.between m.ended (r, tt) exited.rest)) in
       let from_run = subst (λ (l : List GcLine). AllByRecursion RestsMoved l) (sym run.lines_are) (all_both RestsMoved run.own run.others (skip area.Run run.own prepared.between run.between refl run.first) from_exited) in

@@ -26,7 +26,7 @@ use Rattle.pod_gc.specs.declared.line.GcLine.{GcLine}
 use Rattle.pod_gc.specs.Deeds.{is_after_look, RestsBy}
 use Rattle.pod_gc.specs.Requests.{goes_to, moves_pods, sweeps}
 use Rattle.command_outcomes.specs.Meanwhile.{Meanwhile}
-use Rattle.commands.specs.Gc.{Sweeps}
+use Rattle.commands.specs.Gc.{SweepsByPasses}
 use Rattle.commands.specs.RemovalQuiet.{may_say, SaysFitting, MovedFrom, ByTableMoved}
 use Rattle.commands.specs.RemovalTable.{is_held_in, deletes_pod, deed_when_moved}
 use Rattle.commands.proofs.OwnSteps.{in_process}
@@ -75,7 +75,7 @@ module _ (times : Times) (me : ℕ) (pod : PodId) (from : Area) (s : DirState) w
   moved_is area.Garbage deed fits garbage k at g = never fits
   moved_is to deed fits garbage k at g = never garbage
 
-module _ (times : Times) (lines : List GcLine) {me : ℕ} {old new : List Event} (ext : Extends (in_process (sweeps times.now)) me old new) (quiet : Quiet me old new) (m : Meanwhile (Sweeps times lines) me old new) (conforming : IsConforming new) (small : times.now ≤ 18446744073709551615) where
+module _ (times : Times) (lines : List GcLine) {me : ℕ} {old new : List Event} (ext : Extends (in_process (sweeps times.now)) me old new) (quiet : Quiet me old new) (m : Meanwhile (SweepsByPasses times lines) me old new) (conforming : IsConforming new) (small : times.now ≤ 18446744073709551615) where
   to_new : Grew old new
   to_new = record { more = quiet.more; grown = quiet.grown }
 

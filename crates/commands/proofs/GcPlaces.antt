@@ -9,7 +9,7 @@ use Rattle.dir_model.proofs.Lists.{all_both, all_weaker, same_self}
 use Rattle.pod_gc.specs.declared.ages.Times.{Times}
 use Rattle.pod_gc.specs.declared.line.Deed.TheVariants.{BusyGate}
 use Rattle.pod_gc.specs.declared.line.GcLine.{GcLine}
-use Rattle.pod_gc.specs.Told.{IsTold, TellsShown, Passed, ArePassed}
+use Rattle.pod_gc.specs.Told.{IsLineOfTurn, TellsShown, PassedOverPods, ArePassed}
 
 -- another place of pods
 abbrev pub Elsewhere : Area → Area → Type 0
@@ -21,9 +21,9 @@ module _ (Can : Type 0) (times : Times) (me : ℕ) (place : Area) (P : GcLine �
       let clash : true ≡ false = sym (same_self (rank place)) ∙ (ap (λ (p : Area). rank place == rank p) (sym is ∙ at) ∙ apart) in cc
 
   shown_elsewhere : (here : Area) (ls : List GcLine) (a b : List Event) → (rank place == rank here) ≡ false → TellsShown Can times here ls me a b → AllByRecursion P ls
-  shown_elsewhere here ls a b apart t = all_weaker (λ l. IsTold Can times here t.names l me t.listed b) P (λ l x. elsewhere l (λ is. not_here here l.place x.place_is apart is)) ls t.tells.each
+  shown_elsewhere here ls a b apart t = all_weaker (λ l. IsLineOfTurn Can times here t.names l me t.listed b) P (λ l x. elsewhere l (λ is. not_here here l.place x.place_is apart is)) ls t.tells.each
 
-  pub passed_elsewhere : (here : Area) (ls : List GcLine) (a b : List Event) → (rank place == rank here) ≡ false → Passed Can times here ls me a b → AllByRecursion P ls
+  pub passed_elsewhere : (here : Area) (ls : List GcLine) (a b : List Event) → (rank place == rank here) ≡ false → PassedOverPods Can times here ls me a b → AllByRecursion P ls
   passed_elsewhere area.Embryo ls a b apart (inl g) = shown_elsewhere area.Embryo ls g.locked g.done apart g.tells
   passed_elsewhere area.Embryo ls a b apart (inr w) =
       subst (λ (l : List GcLine). AllByRecursion P l) (sym w.line_is) (elsewhere (record { place = area.Embryo; pod = None; deed = BusyGate }) (λ is. not_here area.Embryo area.Embryo refl apart is), tt)

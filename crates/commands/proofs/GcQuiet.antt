@@ -3,6 +3,8 @@ use Rattle.std.proofs.Common.{◌≡◌, ◌⊎◌, inl, inr, ◌+◌, ℕ, Bool
 use Rattle.std.specs.List.{list_any, position_from, cons_option, AllByRecursion}
 use Rattle.std.proofs.lemmas.Iterator.Adapters.{position_from-zero}
 use Rattle.std.proofs.lemmas.Slice.Eq.{bytes_eq-Decides}
+use Rattle.plain_laws.proofs.Texts.{same_bytes}
+use Rattle.plain_laws.proofs.Booleans.{or_nothing}
 use Rattle.dir_model.specs.declared.area.Area.{Area}
 use Rattle.dir_model.specs.declared.area.Area.TheVariants as area
 use Rattle.dir_model.specs.declared.area.Phase.{Phase}
@@ -18,7 +20,7 @@ use Rattle.dir_model.specs.declared.request.Reply.TheVariants.{Done, Names}
 use Rattle.dir_model.specs.Areas.{rank, is_stage}
 use Rattle.dir_model.specs.Calls.{event, is_kill, is_foreign, CallStep, TookPlace, LeftNothing, Extends}
 use Rattle.dir_model.specs.Listings.{has_name}
-use Rattle.dir_model.specs.Pods.{pod_text, pod_of}
+use Rattle.dir_model.specs.Pods.{pod_text, pod_of_text}
 use Rattle.dir_model.specs.Quiet.{Quiet}
 use Rattle.dir_model.specs.State.{Namespace, DirState, empty_state, is_at, spot_eq, folder_at, stands}
 use Rattle.dir_model.specs.Trace.{state_after, state_next, states_next, namespace_replied}
@@ -26,7 +28,6 @@ use Rattle.dir_model.specs.Trees.{names_in}
 use Rattle.dir_model.proofs.Allowed.{allowed_reply}
 use Rattle.dir_model.proofs.Chains.{states_next-append, state_after-push}
 use Rattle.dir_model.proofs.Lists.{or_left_false, or_right_false, all_both, all_right, all_weaker, same_rest}
-use Rattle.dir_rules.proofs.Looks.{same_bytes}
 use Rattle.dir_rules.specs.Standing.{is_garbage}
 use Rattle.dir_laws.specs.Stretches.{Throughout, StandsInArea}
 use Rattle.dir_files.specs.Listed.{ShowsArea}
@@ -48,17 +49,18 @@ use Rattle.pod_gc.specs.declared.ages.Times.{Times}
 use Rattle.pod_gc.specs.declared.line.Deed.{Deed}
 use Rattle.pod_gc.specs.declared.line.Deed.TheVariants.{Moved, Deleted, Kept, Busy, BusyGate, Left}
 use Rattle.pod_gc.specs.declared.line.GcLine.{GcLine}
-use Rattle.pod_gc.specs.Requests.{lists, moves_pods, sweeps}
+use Rattle.pod_gc.specs.Requests.{lists_pod_area, moves_pods, sweeps}
 use Rattle.pod_gc.specs.Deeds.{Dealt}
 use Rattle.pod_gc.specs.Sweeping.{MaySweepAll}
-use Rattle.pod_gc.specs.Told.{Knew, and_pod, pods_of, IsTold, TellsShown, UnderGate, Passed, ArePassed, places}
+use Rattle.pod_gc.specs.Told.{Knew, and_pod, pods_of, IsLineOfTurn, TellsShown, UnderGate, PassedOverPods, ArePassed, places}
 use Rattle.command_outcomes.specs.Meanwhile.{Meanwhile}
-use Rattle.commands.specs.Gc.{Sweeps}
+use Rattle.commands.specs.Gc.{SweepsByPasses}
 use Rattle.commands.specs.RemovalQuiet.{is_lasting_phase, KeptAsBefore, MovedAsBefore}
 use Rattle.commands.proofs.OwnSteps.{in_process, back_from, own_asked, quiet_part, own_first, forward, at_process, same_folders, held_before}
-use Rattle.commands.proofs.LateTurns.{is_lasting, lasting_back, sweeps_late, embryo_apart, or_false}
-use Rattle.commands.proofs.RmBefore.{event_weaker, has_phase_now}
+use Rattle.commands.proofs.LateTurns.{is_lasting, lasting_back, sweeps_late, embryo_apart}
+use Rattle.commands.proofs.RmBefore.{has_phase_now}
 use Rattle.pod_lookup.proofs.Names.{text_back}
+use Rattle.metadata.proofs.Views.{event_so}
 
 -- names and pods
 
@@ -80,21 +82,21 @@ named_at a name (Some here ∷ places) = by (rank here.area == rank a) (named_at
     by false go = go
 
 -- the line of a pod whose name was shown
-module _ (P : GcLine → Type 0) (name : List ℕ) (pod : PodId) (its : pod_of name ≡ Some pod) where
+module _ (P : GcLine → Type 0) (name : List ℕ) (pod : PodId) (its : pod_of_text name ≡ Some pod) where
   line_of : (names : List (List ℕ)) (lines : List GcLine) → map (λ (l : GcLine). l.pod) lines ≡ map (λ (p : PodId). Some p) (pods_of names) → AllByRecursion P lines → has_name names name ≡ true → (line : GcLine) × P line × (line.pod ≡ Some pod)
   line_of [] lines are all shown = cc
-  line_of (n ∷ ns) lines are all shown = by (bytes_eq n name) refl (pod_of n) refl lines are all shown (λ ls a b h. line_of ns ls a b h)
+  line_of (n ∷ ns) lines are all shown = by (bytes_eq n name) refl (pod_of_text n) refl lines are all shown (λ ls a b h. line_of ns ls a b h)
     where
       Rest : Type 0
       Rest = (ls : List GcLine) → map (λ (l : GcLine). l.pod) ls ≡ map (λ (p : PodId). Some p) (pods_of ns) → AllByRecursion P ls → has_name ns name ≡ true → (line : GcLine) × P line × (line.pod ≡ Some pod)
 
-      by : (b : Bool) → bytes_eq n name ≡ b → (o : Option PodId) → pod_of n ≡ o → (ls : List GcLine) → map (λ (l : GcLine). l.pod) ls ≡ map (λ (p : PodId). Some p) (and_pod o (pods_of ns)) → AllByRecursion P ls → (b || has_name ns name) ≡ true → Rest →
+      by : (b : Bool) → bytes_eq n name ≡ b → (o : Option PodId) → pod_of_text n ≡ o → (ls : List GcLine) → map (λ (l : GcLine). l.pod) ls ≡ map (λ (p : PodId). Some p) (and_pod o (pods_of ns)) → AllByRecursion P ls → (b || has_name ns name) ≡ true → Rest →
           (line : GcLine) × P line × (line.pod ≡ Some pod)
-      by true same None no_pod ls are all shown rest = let clash : Some pod ≡ None = sym its ∙ (ap pod_of (sym ((bytes_eq-Decides n name).0 same)) ∙ no_pod) in cc
+      by true same None no_pod ls are all shown rest = let clash : Some pod ≡ None = sym its ∙ (ap pod_of_text (sym ((bytes_eq-Decides n name).0 same)) ∙ no_pod) in cc
       by true same (Some q) that [] are all shown rest = cc
       by true same (Some q) that (l ∷ ls) are all shown rest =
           let first : l.pod ≡ Some q = cc in
-          (l, all.0, first ∙ (sym that ∙ (ap pod_of ((bytes_eq-Decides n name).0 same) ∙ its)))
+          (l, all.0, first ∙ (sym that ∙ (ap pod_of_text ((bytes_eq-Decides n name).0 same) ∙ its)))
       by false apart None that ls are all shown rest = rest ls are all shown
       by false apart (Some q) that [] are all shown rest = cc
       by false apart (Some q) that (l ∷ ls) are all shown rest =
@@ -114,7 +116,7 @@ none_kept now name me s (MakeFolder here) reply h none = cc
 none_kept now name me s (MoveFolder from to) Done h none = by (spot_eq from (InEmbryo name)) refl
   where
     off : spot_eq to (InEmbryo name) ≡ false
-    off = ap (λ b. b && bytes_eq to.name name) (embryo_apart to.area ((sweeps_late now).moves from to (or_false (sweeps now (MoveFolder from to)) h)))
+    off = ap (λ b. b && bytes_eq to.name name) (embryo_apart to.area ((sweeps_late now).moves from to (or_nothing (sweeps now (MoveFolder from to)) h)))
 
     by : (b : Bool) → spot_eq from (InEmbryo name) ≡ b → folder_at (namespace_replied s.namespace me (MoveFolder from to) Done) (InEmbryo name) ≡ None
     by true is = moved_away s.namespace (InEmbryo name) from to off is
@@ -180,15 +182,15 @@ deed_leaves times pod Left me old new d =
 abbrev pub Leaves : Event → Type 0
 Leaves e = (p : ℕ) (w : Namespace) → (namespace_replied w p e.request e.reply).folders ≡ w.folders
 
-pub list_leaves : (a : Area) (request : Request) (reply : Reply) → (is_kill request || lists a request) ≡ true → (p : ℕ) (w : Namespace) → (namespace_replied w p request reply).folders ≡ w.folders
+pub list_leaves : (a : Area) (request : Request) (reply : Reply) → (is_kill request || lists_pod_area a request) ≡ true → (p : ℕ) (w : Namespace) → (namespace_replied w p request reply).folders ≡ w.folders
 list_leaves a (MakeFolder here) reply h p w = cc
 list_leaves a (MoveFolder from to) reply h p w = cc
 list_leaves a (RemoveFolder gone) reply h p w = cc
 list_leaves a request reply h p w = same_folders p w request reply refl (λ handle. refl)
 
-pub lists_leave : (me : ℕ) (a : Area) (es : List Event) → AllByRecursion (λ e. e.process ≡ me) es → AllByRecursion (λ e. (is_foreign me e || lists a e.request) ≡ true) es → AllByRecursion Leaves es
+pub lists_leave : (me : ℕ) (a : Area) (es : List Event) → AllByRecursion (λ e. e.process ≡ me) es → AllByRecursion (λ e. (is_foreign me e || lists_pod_area a e.request) ≡ true) es → AllByRecursion Leaves es
 lists_leave me a [] own asked = tt
-lists_leave me a (e ∷ es) own asked = (λ p w. list_leaves a e.request e.reply (own_asked (lists a) me e own.0 asked.0) p w, lists_leave me a es own.1 asked.1)
+lists_leave me a (e ∷ es) own asked = (λ p w. list_leaves a e.request e.reply (own_asked (lists_pod_area a) me e own.0 asked.0) p w, lists_leave me a es own.1 asked.1)
 
 pub leaves_same : (s : DirState) (es : List Event) → AllByRecursion Leaves es → (states_next s es).namespace.folders ≡ s.namespace.folders
 leaves_same s [] leave = refl
@@ -200,7 +202,7 @@ throughout_same a name s (e ∷ es) rest leave at =
     (at, throughout_same a name (state_next s e) es rest leave.1 (subst (λ (fs : List (Option Spot)). has_name (names_in a fs) name ≡ true) (sym (leave.0 e.process s.namespace)) at))
 
 -- what stands after a listing it has shown
-pub shown_in : (me : ℕ) (a : Area) (name : List ℕ) (names : List (List ℕ)) (old new : List Event) (x : Extends (lists a) me old new) → AllByRecursion (λ e. e.process ≡ me) x.more → ShowsArea me old new a names → StandsInArea a name (state_after new) → has_name names name ≡ true
+pub shown_in : (me : ℕ) (a : Area) (name : List ℕ) (names : List (List ℕ)) (old new : List Event) (x : Extends (lists_pod_area a) me old new) → AllByRecursion (λ e. e.process ≡ me) x.more → ShowsArea me old new a names → StandsInArea a name (state_after new) → has_name names name ≡ true
 shown_in me a name names old new x own shows at =
     let t = shows.stretch in
     let last = event me (ListArea a) (Names names) in
@@ -211,13 +213,13 @@ shown_in me a name names old new x own shows at =
     shows.all name (throughout_same a name (state_after t.begun) t.others (last ∷ []) later (subst (λ (fs : List (Option Spot)). has_name (names_in a fs) name ≡ true) same at))
 
 -- after the pass over embryo none stands there
-module _ (Can : Type 0) (times : Times) (lines : List GcLine) (me : ℕ) (locked done : List Event) (t : TellsShown Can times area.Embryo lines me locked done) (quiet : Quiet me locked done) (name : List ℕ) (pod : PodId) (its : pod_of name ≡ Some pod) where
+module _ (Can : Type 0) (times : Times) (lines : List GcLine) (me : ℕ) (locked done : List Event) (t : TellsShown Can times area.Embryo lines me locked done) (quiet : Quiet me locked done) (name : List ℕ) (pod : PodId) (its : pod_of_text name ≡ Some pod) where
   to_done : Grew t.listed done
   to_done = grown_by t.tells.only
 
   by_line : has_name t.names name ≡ true → NoneSince name t.listed done
   by_line shown =
-      let x = line_of (λ l. IsTold Can times area.Embryo t.names l me t.listed done) name pod its t.names lines t.tells.pods_are t.tells.each shown in
+      let x = line_of (λ l. IsLineOfTurn Can times area.Embryo t.names l me t.listed done) name pod its t.names lines t.tells.pods_are t.tells.each shown in
       let l = x.1 in
       let same : l.shown ≡ pod = let e : Some l.shown ≡ Some pod = sym l.pod_is ∙ x.2 in cc in
       let y = deed_leaves times l.shown x.0.deed me l.from l.upto l.dealt in
@@ -259,7 +261,7 @@ module _ (now : ℕ) (pod : PodId) (place : Area) (moves : moves_pods place ≡ 
   stood_back s (MoveFolder from to) Done h there = by (spot_eq from its_place) refl
     where
       off : spot_eq to its_place ≡ false
-      off = ap (λ b. b && bytes_eq to.name (pod_text pod.bytes)) (moved_apart place to.area moves ((sweeps_late now).moves from to (or_false (sweeps now (MoveFolder from to)) h)))
+      off = ap (λ b. b && bytes_eq to.name (pod_text pod.bytes)) (moved_apart place to.area moves ((sweeps_late now).moves from to (or_nothing (sweeps now (MoveFolder from to)) h)))
 
       by : (b : Bool) → spot_eq from its_place ≡ b → stands s.namespace its_place ≡ true
       by true is = let clash : false ≡ true = sym (ap (λ (o : Option ℕ). is_some o) (moved_away s.namespace its_place from to off is)) ∙ there in cc
@@ -301,7 +303,7 @@ shown_grown t = grown_more (grown_by t.only_lists) (grown_by t.tells.only)
 pub under_grown : {Can : Type 0} {times : Times} {lines : List GcLine} {me : ℕ} {a b : List Event} → UnderGate Can times lines me a b → Grew a b
 under_grown x = grown_more (grown_by x.takes_gate) (grown_more (shown_grown x.tells) (grown_by x.gives_back))
 
-pub passed_grown : (Can : Type 0) (times : Times) (here : Area) (lines : List GcLine) (me : ℕ) (a b : List Event) → Passed Can times here lines me a b → Grew a b
+pub passed_grown : (Can : Type 0) (times : Times) (here : Area) (lines : List GcLine) (me : ℕ) (a b : List Event) → PassedOverPods Can times here lines me a b → Grew a b
 passed_grown Can times area.Embryo lines me a b (inl x) = under_grown x
 passed_grown Can times area.Embryo lines me a b (inr x) = grown_by x.only
 passed_grown Can times here lines me a b x = shown_grown x
@@ -311,16 +313,16 @@ passes_grown Can times [] lines me a b x = record { more = []; grown = x.1 ∙ s
 passes_grown Can times (here ∷ ps) lines me a b x = grown_more (passed_grown Can times here x.own me a x.between x.first) (passes_grown Can times ps x.others me x.between b x.rest)
 
 -- of each line, whatever others did
-module _ (times : Times) (lines : List GcLine) {me : ℕ} {old new : List Event} (m : Meanwhile (Sweeps times lines) me old new) where
+module _ (times : Times) (lines : List GcLine) {me : ℕ} {old new : List Event} (m : Meanwhile (SweepsByPasses times lines) me old new) where
   module _ (P : GcLine → Type 0)
-      (told : (Can : Type 0) (can : Can) (here : Area) → is_stage here ≡ true → (ls : List GcLine) (a b : List Event) → Grew old a → Grew b new → (t : TellsShown Can times here ls me a b) → (line : GcLine) → IsTold Can times here t.names line me t.listed b → P line)
-      (gated : P (record { place = area.Embryo; pod = None; deed = BusyGate })) where
+      (told : (Can : Type 0) (can : Can) (here : Area) → is_stage here ≡ true → (ls : List GcLine) (a b : List Event) → Grew old a → Grew b new → (t : TellsShown Can times here ls me a b) → (line : GcLine) → IsLineOfTurn Can times here t.names line me t.listed b → P line)
+      (embryo_under_lock : P (record { place = area.Embryo; pod = None; deed = BusyGate })) where
     shown_each : {Can : Type 0} (can : Can) (here : Area) → is_stage here ≡ true → (ls : List GcLine) (a b : List Event) → Grew old a → Grew b new → TellsShown Can times here ls me a b → AllByRecursion P ls
-    shown_each {Can} can here stage ls a b to_a from_b t = all_weaker (λ l. IsTold Can times here t.names l me t.listed b) P (λ l x. told Can can here stage ls a b to_a from_b t l x) ls t.tells.each
+    shown_each {Can} can here stage ls a b to_a from_b t = all_weaker (λ l. IsLineOfTurn Can times here t.names l me t.listed b) P (λ l x. told Can can here stage ls a b to_a from_b t l x) ls t.tells.each
 
-    passed_each : (Can : Type 0) (can : Can) (here : Area) → is_stage here ≡ true → (ls : List GcLine) (a b : List Event) → Grew old a → Grew b new → Passed Can times here ls me a b → AllByRecursion P ls
+    passed_each : (Can : Type 0) (can : Can) (here : Area) → is_stage here ≡ true → (ls : List GcLine) (a b : List Event) → Grew old a → Grew b new → PassedOverPods Can times here ls me a b → AllByRecursion P ls
     passed_each Can can area.Embryo stage ls a b to_a from_b (inl g) = shown_each can area.Embryo stage ls g.locked g.done (grown_more to_a (grown_by g.takes_gate)) (grown_more (grown_by g.gives_back) from_b) g.tells
-    passed_each Can can area.Embryo stage ls a b to_a from_b (inr w) = subst (λ (l : List GcLine). AllByRecursion P l) (sym w.line_is) (gated, tt)
+    passed_each Can can area.Embryo stage ls a b to_a from_b (inr w) = subst (λ (l : List GcLine). AllByRecursion P l) (sym w.line_is) (embryo_under_lock, tt)
     passed_each Can can here stage ls a b to_a from_b t = shown_each can here stage ls a b to_a from_b t
 
     passes_each : (Can : Type 0) (can : Can) (ps : List Area) → AllByRecursion (λ (p : Area). is_stage p ≡ true) ps → (ls : List GcLine) (a b : List Event) → Grew old a → Grew b new → ArePassed Can times ps ls me a b → AllByRecursion P ls
@@ -334,11 +336,11 @@ module _ (times : Times) (lines : List GcLine) {me : ℕ} {old new : List Event}
     pub lines_shown : AllByRecursion P lines
     lines_shown = passes_each (Knew (MaySweepAll times.now times.expire) m.so.from) m.so.can places (refl, (refl, (refl, (refl, (refl, (refl, tt)))))) lines m.begun m.ended (record { more = m.begins.more; grown = m.begins.grown }) (record { more = m.finishes.more; grown = m.finishes.grown }) m.so.swept
 
-  pub lines_told : (P : GcLine → Type 0) → ((Can : Type 0) (can : Can) (here : Area) (names : List (List ℕ)) (a b : List Event) → Grew old a → Grew b new → (line : GcLine) → IsTold Can times here names line me a b → P line)
+  pub lines_told : (P : GcLine → Type 0) → ((Can : Type 0) (can : Can) (here : Area) (names : List (List ℕ)) (a b : List Event) → Grew old a → Grew b new → (line : GcLine) → IsLineOfTurn Can times here names line me a b → P line)
       → P (record { place = area.Embryo; pod = None; deed = BusyGate }) → AllByRecursion P lines
-  lines_told P told gated = lines_shown P (λ Can can here stage ls a b to_a from_b t line x. told Can can here t.names t.listed b (grown_more to_a (grown_by t.only_lists)) from_b line x) gated
+  lines_told P told embryo_under_lock = lines_shown P (λ Can can here stage ls a b to_a from_b t line x. told Can can here t.names t.listed b (grown_more to_a (grown_by t.only_lists)) from_b line x) embryo_under_lock
 
-module _ (times : Times) (lines : List GcLine) {me : ℕ} {old new : List Event} (ext : Extends (in_process (sweeps times.now)) me old new) (quiet : Quiet me old new) (m : Meanwhile (Sweeps times lines) me old new) where
+module _ (times : Times) (lines : List GcLine) {me : ℕ} {old new : List Event} (ext : Extends (in_process (sweeps times.now)) me old new) (quiet : Quiet me old new) (m : Meanwhile (SweepsByPasses times lines) me old new) where
   abbrev asks : Request → Bool
   asks = in_process (sweeps times.now)
 
@@ -348,8 +350,8 @@ module _ (times : Times) (lines : List GcLine) {me : ℕ} {old new : List Event}
   after : Grew m.ended new
   after = record { more = m.finishes.more; grown = m.finishes.grown }
 
-  embryos_left : (b : List Event) → Grew b m.ended → {X : Type 0} → Passed X times area.Embryo m.so.swept.own me m.begun b → (X) →
-      ((name : List ℕ) (pod : PodId) → pod_of name ≡ Some pod → NoneIn name (state_after new)) ⊎ IsBusyElsewhere me area.Embryo Exclusive (state_after old)
+  embryos_left : (b : List Event) → Grew b m.ended → {X : Type 0} → PassedOverPods X times area.Embryo m.so.swept.own me m.begun b → (X) →
+      ((name : List ℕ) (pod : PodId) → pod_of_text name ≡ Some pod → NoneIn name (state_after new)) ⊎ IsBusyElsewhere me area.Embryo Exclusive (state_after old)
   embryos_left b more {X} (inr w) can =
       inr (held_before (is_against area.Embryo Exclusive) (at_process m.begins m.finishes (at_part grown_none refl more (w.another can))) ext quiet)
   embryos_left b more {X} (inl g) can = inl (λ name pod its.
@@ -365,13 +367,13 @@ module _ (times : Times) (lines : List GcLine) {me : ℕ} {old new : List Event}
   abbrev later_places : List Area
   later_places = area.Prepare ∷ area.Prepared ∷ area.Run ∷ area.ExitedGarbage ∷ area.Garbage ∷ []
 
-  pub gc_embryos : ((name : List ℕ) (pod : PodId) → pod_of name ≡ Some pod → folder_at (state_after new).namespace (record { area = area.Embryo; name = name }) ≡ None) ⊎ IsBusyElsewhere me area.Embryo Exclusive (state_after old)
+  pub gc_embryos : ((name : List ℕ) (pod : PodId) → pod_of_text name ≡ Some pod → folder_at (state_after new).namespace (record { area = area.Embryo; name = name }) ≡ None) ⊎ IsBusyElsewhere me area.Embryo Exclusive (state_after old)
   gc_embryos =
       let x = m.so.swept in
       embryos_left x.between (passes_grown (Knew (MaySweepAll times.now times.expire) m.so.from) times later_places x.others me x.between m.ended x.rest) x.first m.so.can
 
   -- a pod that was moved stood there before
-  told_moved : {Can : Type 0} {here : Area} {names : List (List ℕ)} (a b : List Event) → Grew old a → Grew b new → (line : GcLine) → IsTold Can times here names line me a b → MovedAsBefore old line
+  told_moved : {Can : Type 0} {here : Area} {names : List (List ℕ)} (a b : List Event) → Grew old a → Grew b new → (line : GcLine) → IsLineOfTurn Can times here names line me a b → MovedAsBefore old line
   told_moved {Can} {here} {names} a b to_a from_b line x pod to is deed =
       let same : x.shown ≡ pod = let e : Some x.shown ≡ Some pod = sym x.pod_is ∙ is in cc in
       let c = x.dealt.cause.moved to deed in
@@ -381,13 +383,13 @@ module _ (times : Times) (lines : List GcLine) {me : ℕ} {old new : List Event}
       subst (λ (p : Area). stands (state_after old).namespace (pod_spot pod p) ≡ true) (sym x.place_is) (subst (λ (q : PodId). stands (state_after old).namespace (pod_spot q here) ≡ true) same stood)
 
   pub each_shown : (P : GcLine → Type 0)
-      → ((Can : Type 0) (can : Can) (here : Area) → is_stage here ≡ true → (ls : List GcLine) (a b : List Event) → Grew old a → Grew b new → (t : TellsShown Can times here ls me a b) → (line : GcLine) → IsTold Can times here t.names line me t.listed b → P line)
+      → ((Can : Type 0) (can : Can) (here : Area) → is_stage here ≡ true → (ls : List GcLine) (a b : List Event) → Grew old a → Grew b new → (t : TellsShown Can times here ls me a b) → (line : GcLine) → IsLineOfTurn Can times here t.names line me t.listed b → P line)
       → P (record { place = area.Embryo; pod = None; deed = BusyGate }) → AllByRecursion P lines
-  each_shown P told gated = lines_shown times lines m P told gated
+  each_shown P told embryo_under_lock = lines_shown times lines m P told embryo_under_lock
 
-  pub each_line : (P : GcLine → Type 0) → ((Can : Type 0) (can : Can) (here : Area) (names : List (List ℕ)) (a b : List Event) → Grew old a → Grew b new → (line : GcLine) → IsTold Can times here names line me a b → P line)
+  pub each_line : (P : GcLine → Type 0) → ((Can : Type 0) (can : Can) (here : Area) (names : List (List ℕ)) (a b : List Event) → Grew old a → Grew b new → (line : GcLine) → IsLineOfTurn Can times here names line me a b → P line)
       → P (record { place = area.Embryo; pod = None; deed = BusyGate }) → AllByRecursion P lines
-  each_line P told gated = lines_told times lines m P told gated
+  each_line P told embryo_under_lock = lines_told times lines m P told embryo_under_lock
 
   pub gc_moved : AllByRecursion (MovedAsBefore old) lines
   gc_moved = each_line (MovedAsBefore old) (λ Can can here names a b to_a from_b line x. told_moved a b to_a from_b line x) (λ pod to is deed. cc)
@@ -410,14 +412,14 @@ module _ (times : Times) (lines : List GcLine) {me : ℕ} {old new : List Event}
     lasting_of p lasts (state.Deleting owner from) is = let same : kind.Deleting ≡ p = cc in let clash : false ≡ true = ap is_lasting_phase same ∙ lasts in cc
     lasting_of p lasts state.Gone is = cc
 
-    told_kept : {Can : Type 0} {here : Area} {names : List (List ℕ)} (a b : List Event) → Grew old a → Grew b new → (line : GcLine) → IsTold Can times here names line me a b → KeptAsBefore old line
+    told_kept : {Can : Type 0} {here : Area} {names : List (List ℕ)} (a b : List Event) → Grew old a → Grew b new → (line : GcLine) → IsLineOfTurn Can times here names line me a b → KeptAsBefore old line
     told_kept {Can} {here} {names} a b to_a from_b line x pod p is deed lasts =
         let same : x.shown ≡ pod = let e : Some x.shown ≡ Some pod = sym x.pod_is ∙ is in cc in
         let first = grown_more to_a (grown_by x.first) in
         let last = grown_more (grown_by x.last) from_b in
         let at = (x.dealt.cause.kept p deed).1 (before_new x.upto last) in
         let u = pod_text x.shown.bytes in
-        let moment = event_within first.more last.more first.grown last.grown (event_weaker (λ h. (phase_of_state (pod_state u h) ≡ Some p) × (is_lasting me (pod_state u h) ≡ true)) (λ h y. (y.is, lasting_of p lasts (pod_state u h) y.is)) at) in
+        let moment = event_within first.more last.more first.grown last.grown (event_so (λ h. (phase_of_state (pod_state u h) ≡ Some p) × (is_lasting me (pod_state u h) ≡ true)) (λ h y. (y.is, lasting_of p lasts (pod_state u h) y.is)) at) in
         let had = lasting_back (sweeps times.now) (sweeps_late times.now) u (λ s. phase_of_state s ≡ Some p) moment ext quiet in
         has_phase_now pod old (conforming_left old quiet.more (subst IsConforming quiet.grown conforming)) p (subst (λ (q : PodId). phase_of_state (pod_state (pod_text q.bytes) old) ≡ Some p) same had)
 

@@ -15,16 +15,16 @@ use Rattle.pod_locks.proofs.Traces.{grown_more, grown_by}
 use Rattle.pod_gc.specs.declared.ages.Times.{Times}
 use Rattle.pod_gc.specs.declared.line.GcLine.{GcLine}
 use Rattle.pod_gc.specs.Requests.{moves_pods, sweeps}
-use Rattle.pod_gc.specs.Told.{IsTold, TellsShown}
+use Rattle.pod_gc.specs.Told.{IsLineOfTurn, TellsShown}
 use Rattle.command_outcomes.specs.Meanwhile.{Meanwhile}
-use Rattle.commands.specs.Gc.{Sweeps}
+use Rattle.commands.specs.Gc.{SweepsByPasses}
 use Rattle.commands.specs.RemovalQuiet.{StoodAsBefore}
 use Rattle.commands.proofs.OwnSteps.{in_process, back_from}
 use Rattle.commands.proofs.GcQuiet.{each_shown, stood_back}
 use Rattle.commands.proofs.GcTurn.{stood_listed}
 
-module _ (times : Times) (lines : List GcLine) {me : ℕ} {old new : List Event} (ext : Extends (in_process (sweeps times.now)) me old new) (quiet : Quiet me old new) (m : Meanwhile (Sweeps times lines) me old new) where
-  told_stood : {Can : Type 0} (here : Area) → is_stage here ≡ true → (ls : List GcLine) (a b : List Event) → Grew old a → Grew b new → (t : TellsShown Can times here ls me a b) → (line : GcLine) → IsTold Can times here t.names line me t.listed b → StoodAsBefore old line
+module _ (times : Times) (lines : List GcLine) {me : ℕ} {old new : List Event} (ext : Extends (in_process (sweeps times.now)) me old new) (quiet : Quiet me old new) (m : Meanwhile (SweepsByPasses times lines) me old new) where
+  told_stood : {Can : Type 0} (here : Area) → is_stage here ≡ true → (ls : List GcLine) (a b : List Event) → Grew old a → Grew b new → (t : TellsShown Can times here ls me a b) → (line : GcLine) → IsLineOfTurn Can times here t.names line me t.listed b → StoodAsBefore old line
   told_stood {Can} here stage ls a b to_a from_b t line x pod is moves =
       let same : x.shown ≡ pod = let e : Some x.shown ≡ Some pod = sym x.pod_is ∙ is in cc in
       let moved : moves_pods here ≡ true = sym (ap moves_pods x.place_is) ∙ moves in

@@ -29,9 +29,9 @@ use Rattle.pod_gc.specs.Deeds.{WaitsBy, RestsBy}
 use Rattle.pod_gc.specs.Ages.{is_young, is_ripe}
 use Rattle.pod_gc.specs.Requests.{sweeps}
 use Rattle.command_outcomes.specs.Meanwhile.{Meanwhile}
-use Rattle.commands.specs.Gc.{Sweeps}
+use Rattle.commands.specs.Gc.{SweepsByPasses}
 use Rattle.commands.specs.RemovalQuiet.{may_say, SaysFitting, LeftAsBefore}
-use Rattle.commands.specs.RemovalTable.{moment_at, is_held_in, is_held_at, has_manifest, deletes_pod, discards_pod, deed_at, ByTable}
+use Rattle.commands.specs.RemovalTable.{mark_moment_at, is_held_in, is_held_at, has_manifest, deletes_pod, discards_pod, deed_at, ByTable}
 use Rattle.commands.proofs.OwnSteps.{in_process}
 use Rattle.commands.proofs.GcFits.{BusyByOwn, gc_own, gc_fits}
 use Rattle.commands.proofs.GcLeft.{gc_left}
@@ -63,10 +63,10 @@ module _ (me : ℕ) (pod : PodId) (place : Area) (s : DirState) (k : ℕ) (at : 
 -- what a deed tells of one state
 module _ (times : Times) (me : ℕ) (pod : PodId) (s : DirState) where
   abbrev ripe : Bool
-  ripe = is_ripe times.now times.expire (moment_at (codes "created-") pod area.Prepared s)
+  ripe = is_ripe times.now times.expire (mark_moment_at (codes "created-") pod area.Prepared s)
 
   abbrev young : Bool
-  young = is_young times.now times.grace (moment_at (codes "marked-") pod area.ExitedGarbage s)
+  young = is_young times.now times.grace (mark_moment_at (codes "marked-") pod area.ExitedGarbage s)
 
   record TellsOf (place : Area) (deed : Deed) (k : ℕ) : Type 0 where
     own : (which : Which) → deed ≡ Busy which → is_garbage_place place ≡ true → which ≡ Own
@@ -171,7 +171,7 @@ module _ (times : Times) (me : ℕ) (old new : List Event) (to_new : Grew old ne
   lines_are [] fits own locks manifest left waits rests = tt
   lines_are (l ∷ ls) fits own locks manifest left waits rests = (line_is l fits.0 own.0 locks.0 manifest.0 left.0 waits.0 rests.0, lines_are ls fits.1 own.1 locks.1 manifest.1 left.1 waits.1 rests.1)
 
-module _ (times : Times) (lines : List GcLine) {me : ℕ} {old new : List Event} (ext : Extends (in_process (sweeps times.now)) me old new) (quiet : Quiet me old new) (m : Meanwhile (Sweeps times lines) me old new) (conforming : IsConforming new) where
+module _ (times : Times) (lines : List GcLine) {me : ℕ} {old new : List Event} (ext : Extends (in_process (sweeps times.now)) me old new) (quiet : Quiet me old new) (m : Meanwhile (SweepsByPasses times lines) me old new) (conforming : IsConforming new) where
   pub gc_table : AllByRecursion (ByTable times me old) lines
   gc_table =
       lines_are times me old new (record { more = quiet.more; grown = quiet.grown }) lines (gc_fits times lines ext quiet m) (gc_own times lines ext quiet m) (gc_locks times lines ext quiet m conforming) (gc_manifest times lines ext quiet m conforming)

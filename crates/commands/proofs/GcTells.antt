@@ -2,7 +2,7 @@
 use Rattle.std.proofs.Common.{◌≡◌, ◌⊎◌, inl, inr, ◌+◌, ℕ, Bool, true, false, ◌||◌, ◌==◌, cond, bytes_eq, map, Option, Some, None, is_some, List, [], ◌∷◌, ◌++◌, append_assoc, refl, sym, ap, subst, ◌∙◌}
 use Rattle.std.specs.List.{list_any, position_from, AllByRecursion}
 use Rattle.std.proofs.lemmas.Iterator.Adapters.{position_from-zero}
-use Rattle.std.proofs.lemmas.Slice.Eq.{bytes_eq-Decides}
+use Rattle.plain_laws.proofs.Texts.{same_bytes, same_text}
 use Rattle.dir_model.specs.declared.area.Area.{Area}
 use Rattle.dir_model.specs.declared.area.Area.TheVariants as area
 use Rattle.dir_model.specs.declared.event.Event.{Event}
@@ -17,17 +17,16 @@ use Rattle.dir_model.specs.declared.request.Reply.TheVariants.{Done, Names}
 use Rattle.dir_model.specs.Areas.{rank, is_stage}
 use Rattle.dir_model.specs.Calls.{event, is_begin, is_kill, Extends}
 use Rattle.dir_model.specs.Listings.{has_name}
-use Rattle.dir_model.specs.Pods.{pod_text, pod_of}
+use Rattle.dir_model.specs.Pods.{pod_text, pod_of_text}
 use Rattle.dir_model.specs.Quiet.{Quiet}
 use Rattle.dir_model.specs.State.{DirState, empty_state, is_at, spot_eq, stands}
 use Rattle.dir_model.specs.Trace.{state_after, state_next, states_next, namespace_replied}
 use Rattle.dir_model.specs.Trees.{names_in}
 use Rattle.dir_model.proofs.Chains.{states_next-append}
 use Rattle.dir_model.proofs.Lists.{and_left, and_right, or_last, all_right, same_rest}
-use Rattle.dir_rules.proofs.Looks.{same_bytes}
 use Rattle.dir_laws.specs.Stretches.{Sometime, StandsInArea}
 use Rattle.dir_files.specs.Listed.{ShowsArea}
-use Rattle.dir_files.specs.AreaLocks.{takes, closes, is_against, IsBusyElsewhere}
+use Rattle.dir_files.specs.AreaLocks.{is_taking_area, closes, is_against, IsBusyElsewhere}
 use Rattle.lifecycle.specs.Executions.{IsConforming}
 use Rattle.lifecycle.proofs.Draws.{conforming_left}
 use Rattle.lifecycle.proofs.Places.{moved_elsewhere, removed_elsewhere}
@@ -36,15 +35,15 @@ use Rattle.phase_read.specs.Read.{pod_spot}
 use Rattle.pod_locks.specs.Work.{Grew}
 use Rattle.pod_locks.proofs.Times.{at_part}
 use Rattle.pod_locks.proofs.Traces.{grown_none, grown_more, grown_by}
-use Rattle.pod_locks.specs.Requests.{moves}
+use Rattle.pod_locks.specs.Requests.{moves_pod}
 use Rattle.pod_gc.specs.declared.ages.Times.{Times}
 use Rattle.pod_gc.specs.declared.line.GcLine.{GcLine}
-use Rattle.pod_gc.specs.Requests.{lists, deals_with, sweeps}
+use Rattle.pod_gc.specs.Requests.{lists_pod_area, deals_with_pod, sweeps}
 use Rattle.pod_gc.specs.Sweeping.{MaySweepAll}
-use Rattle.pod_gc.specs.Told.{Knew, and_pod, pods_of, deals_with_some, IsTold, TellsShown, WasGated, Passed, ArePassed, places}
+use Rattle.pod_gc.specs.Told.{Knew, and_pod, pods_of, deals_with_pods, IsLineOfTurn, TellsShown, WasGated, PassedOverPods, ArePassed, places}
 use Rattle.pod_gc.proofs.Asking.{some_sweep}
 use Rattle.command_outcomes.specs.Meanwhile.{Meanwhile}
-use Rattle.commands.specs.Gc.{Sweeps}
+use Rattle.commands.specs.Gc.{SweepsByPasses}
 use Rattle.commands.specs.GcLines.{HasLine}
 use Rattle.commands.proofs.OwnSteps.{in_process, quiet_part, own_first, forward, same_folders, held_before}
 use Rattle.commands.proofs.LateTurns.{or_either}
@@ -81,13 +80,10 @@ named_stands s a name there =
 
 -- the folders that a pass deals with have names that its listing showed
 
-named_by : (n name : List ℕ) (p : PodId) (ns : List (List ℕ)) → pod_of n ≡ Some p → pod_text p.bytes ≡ name → has_name (n ∷ ns) name ≡ true
+named_by : (n name : List ℕ) (p : PodId) (ns : List (List ℕ)) → pod_of_text n ≡ Some p → pod_text p.bytes ≡ name → has_name (n ∷ ns) name ≡ true
 named_by n name p ns is same = ap (λ b. b || has_name ns name) (subst (λ (x : List ℕ). bytes_eq n x ≡ true) (sym (text_back n p is) ∙ same) (same_bytes n))
 
-pub same_text : (a b : List ℕ) → bytes_eq a b ≡ true → a ≡ b
-same_text a b is = (bytes_eq-Decides a b).0 is
-
-moves_named : (p : PodId) (a b : Area) (from to : Spot) → moves p a b (MoveFolder from to) ≡ true → (pod_text p.bytes ≡ from.name) × (pod_text p.bytes ≡ to.name)
+moves_named : (p : PodId) (a b : Area) (from to : Spot) → moves_pod p a b (MoveFolder from to) ≡ true → (pod_text p.bytes ≡ from.name) × (pod_text p.bytes ≡ to.name)
 moves_named p a b from to is =
     let f = spot_eq (pod_spot p a) from in
     let t = spot_eq (pod_spot p b) to in (
@@ -95,16 +91,16 @@ moves_named p a b from to is =
       same_text (pod_text p.bytes) to.name (and_right (rank b == rank to.area) (bytes_eq (pod_text p.bytes) to.name) (and_right f t is)),
     )
 
-pub deals_moves : (p : PodId) (now : ℕ) (here : Area) (from to : Spot) → deals_with p now here (MoveFolder from to) ≡ true → (pod_text p.bytes ≡ from.name) × (pod_text p.bytes ≡ to.name)
-deals_moves p now here from to is = elim (or_either (moves p area.Embryo area.Garbage (MoveFolder from to)) _ is) [
+pub deals_moves : (p : PodId) (now : ℕ) (here : Area) (from to : Spot) → deals_with_pod p now here (MoveFolder from to) ≡ true → (pod_text p.bytes ≡ from.name) × (pod_text p.bytes ≡ to.name)
+deals_moves p now here from to is = elim (or_either (moves_pod p area.Embryo area.Garbage (MoveFolder from to)) _ is) [
   | inl x ↦ moves_named p area.Embryo area.Garbage from to x
-  | inr y ↦ elim (or_either (moves p area.Prepare area.Garbage (MoveFolder from to)) _ y) [
+  | inr y ↦ elim (or_either (moves_pod p area.Prepare area.Garbage (MoveFolder from to)) _ y) [
     | inl x ↦ moves_named p area.Prepare area.Garbage from to x
-    | inr z ↦ elim (or_either (moves p area.Prepared area.Garbage (MoveFolder from to)) _ z) [ inl x ↦ moves_named p area.Prepared area.Garbage from to x | inr x ↦ moves_named p area.Run area.ExitedGarbage from to x ]
+    | inr z ↦ elim (or_either (moves_pod p area.Prepared area.Garbage (MoveFolder from to)) _ z) [ inl x ↦ moves_named p area.Prepared area.Garbage from to x | inr x ↦ moves_named p area.Run area.ExitedGarbage from to x ]
   ]
 ]
 
-pub deals_removes : (p : PodId) (now : ℕ) (here : Area) (gone : Spot) → deals_with p now here (RemoveFolder gone) ≡ true → pod_text p.bytes ≡ gone.name
+pub deals_removes : (p : PodId) (now : ℕ) (here : Area) (gone : Spot) → deals_with_pod p now here (RemoveFolder gone) ≡ true → pod_text p.bytes ≡ gone.name
 deals_removes p now here gone is =
     let text = pod_text p.bytes in
     elim (or_either (spot_eq gone (pod_spot p area.ExitedGarbage)) _ is) [
@@ -112,18 +108,18 @@ deals_removes p now here gone is =
       | inr x ↦ sym (same_text gone.name text (and_right (rank gone.area == rank area.Garbage) (bytes_eq gone.name text) x))
     ]
 
-pub among : (now : ℕ) (here : Area) (r : Request) (name : List ℕ) → ((p : PodId) → deals_with p now here r ≡ true → pod_text p.bytes ≡ name) → (names : List (List ℕ)) → deals_with_some now here names r ≡ true → has_name names name ≡ true
+pub among : (now : ℕ) (here : Area) (r : Request) (name : List ℕ) → ((p : PodId) → deals_with_pod p now here r ≡ true → pod_text p.bytes ≡ name) → (names : List (List ℕ)) → deals_with_pods now here names r ≡ true → has_name names name ≡ true
 among now here r name only [] is = cc
-among now here r name only (n ∷ ns) is = by (pod_of n) refl is (λ h. among now here r name only ns h)
+among now here r name only (n ∷ ns) is = by (pod_of_text n) refl is (λ h. among now here r name only ns h)
   where
-    by : (o : Option PodId) → pod_of n ≡ o → list_any (λ (p : PodId). deals_with p now here r) (and_pod o (pods_of ns)) ≡ true → (deals_with_some now here ns r ≡ true → has_name ns name ≡ true) → has_name (n ∷ ns) name ≡ true
+    by : (o : Option PodId) → pod_of_text n ≡ o → list_any (λ (p : PodId). deals_with_pod p now here r) (and_pod o (pods_of ns)) ≡ true → (deals_with_pods now here ns r ≡ true → has_name ns name ≡ true) → has_name (n ∷ ns) name ≡ true
     by None that h go = or_last (bytes_eq n name) (has_name ns name) (go h)
-    by (Some p) that h go = elim (or_either (deals_with p now here r) _ h) [ inl x ↦ named_by n name p ns that (only p x) | inr x ↦ or_last (bytes_eq n name) (has_name ns name) (go x) ]
+    by (Some p) that h go = elim (or_either (deals_with_pod p now here r) _ h) [ inl x ↦ named_by n name p ns that (only p x) | inr x ↦ or_last (bytes_eq n name) (has_name ns name) (go x) ]
 
 -- a folder whose name wasn't shown stays
 module _ (now : ℕ) (here : Area) (stage : is_stage here ≡ true) (names : List (List ℕ)) (spot : Spot) (unshown : has_name names spot.name ≡ false) (me : ℕ) where
   abbrev asks : Request → Bool
-  asks = deals_with_some now here names
+  asks = deals_with_pods now here names
 
   pub apart : (other : Spot) → has_name names other.name ≡ true → spot_eq other spot ≡ false
   apart other shown = by (spot_eq other spot) refl
@@ -149,7 +145,7 @@ module _ (now : ℕ) (here : Area) (stage : is_stage here ≡ true) (names : Lis
 
 -- locks of areas change no folder
 
-takes_leave : (spot : Spot) (me : ℕ) (s : DirState) (request : Request) (reply : Reply) → (is_kill request || takes area.Embryo Exclusive request) ≡ true → stands s.namespace spot ≡ true → stands (namespace_replied s.namespace me request reply) spot ≡ true
+takes_leave : (spot : Spot) (me : ℕ) (s : DirState) (request : Request) (reply : Reply) → (is_kill request || is_taking_area area.Embryo Exclusive request) ≡ true → stands s.namespace spot ≡ true → stands (namespace_replied s.namespace me request reply) spot ≡ true
 takes_leave spot me s (MakeFolder new) reply h there = cc
 takes_leave spot me s (MoveFolder from to) reply h there = cc
 takes_leave spot me s (RemoveFolder gone) reply h there = cc
@@ -168,7 +164,7 @@ sometime_same a name s (e ∷ es) rest leave (inl at) = at
 sometime_same a name s (e ∷ es) rest leave (inr at) =
     subst (λ (fs : List (Option Spot)). has_name (names_in a fs) name ≡ true) (leave.0 e.process s.namespace) (sometime_same a name (state_next s e) es rest leave.1 at)
 
-pub shown_stands : (me : ℕ) (a : Area) (name : List ℕ) (names : List (List ℕ)) (old new : List Event) (x : Extends (lists a) me old new) → AllByRecursion (λ e. e.process ≡ me) x.more → ShowsArea me old new a names → has_name names name ≡ true → StandsInArea a name (state_after new)
+pub shown_stands : (me : ℕ) (a : Area) (name : List ℕ) (names : List (List ℕ)) (old new : List Event) (x : Extends (lists_pod_area a) me old new) → AllByRecursion (λ e. e.process ≡ me) x.more → ShowsArea me old new a names → has_name names name ≡ true → StandsInArea a name (state_after new)
 shown_stands me a name names old new x own shows shown =
     let t = shows.stretch in
     let last = event me (ListArea a) (Names names) in
@@ -197,23 +193,23 @@ pub and_before : (place : Area) (pod : PodId) (ls ms : List GcLine) → HasLine 
 and_before place pod [] ms x = x
 and_before place pod (l ∷ ls) ms x = more_before place pod l (ls ++ ms) (and_before place pod ls ms x)
 
-module _ (Can : Type 0) (times : Times) (place : Area) (whole : List (List ℕ)) (me : ℕ) (a b : List Event) (name : List ℕ) (pod : PodId) (its : pod_of name ≡ Some pod) where
+module _ (Can : Type 0) (times : Times) (place : Area) (whole : List (List ℕ)) (me : ℕ) (a b : List Event) (name : List ℕ) (pod : PodId) (its : pod_of_text name ≡ Some pod) where
   abbrev Told : GcLine → Type 0
-  Told l = IsTold Can times place whole l me a b
+  Told l = IsLineOfTurn Can times place whole l me a b
 
   line_among : (names : List (List ℕ)) (lines : List GcLine) → map (λ (l : GcLine). l.pod) lines ≡ map (λ (p : PodId). Some p) (pods_of names) → AllByRecursion Told lines → has_name names name ≡ true → HasLine place pod lines
   line_among [] lines are all shown = cc
-  line_among (n ∷ ns) lines are all shown = by (bytes_eq n name) refl (pod_of n) refl lines are all shown (λ ls x y h. line_among ns ls x y h)
+  line_among (n ∷ ns) lines are all shown = by (bytes_eq n name) refl (pod_of_text n) refl lines are all shown (λ ls x y h. line_among ns ls x y h)
     where
       Rest : Type 0
       Rest = (ls : List GcLine) → map (λ (l : GcLine). l.pod) ls ≡ map (λ (p : PodId). Some p) (pods_of ns) → AllByRecursion Told ls → has_name ns name ≡ true → HasLine place pod ls
 
-      by : (c : Bool) → bytes_eq n name ≡ c → (o : Option PodId) → pod_of n ≡ o → (ls : List GcLine) → map (λ (l : GcLine). l.pod) ls ≡ map (λ (p : PodId). Some p) (and_pod o (pods_of ns)) → AllByRecursion Told ls → (c || has_name ns name) ≡ true → Rest → HasLine place pod ls
-      by true same None no_pod ls are all shown rest = let clash : Some pod ≡ None = sym its ∙ (ap pod_of (sym (same_text n name same)) ∙ no_pod) in cc
+      by : (c : Bool) → bytes_eq n name ≡ c → (o : Option PodId) → pod_of_text n ≡ o → (ls : List GcLine) → map (λ (l : GcLine). l.pod) ls ≡ map (λ (p : PodId). Some p) (and_pod o (pods_of ns)) → AllByRecursion Told ls → (c || has_name ns name) ≡ true → Rest → HasLine place pod ls
+      by true same None no_pod ls are all shown rest = let clash : Some pod ≡ None = sym its ∙ (ap pod_of_text (sym (same_text n name same)) ∙ no_pod) in cc
       by true same (Some q) that [] are all shown rest = cc
       by true same (Some q) that (l ∷ ls) are all shown rest =
           let first : l.pod ≡ Some q = cc in
-          record { before = []; line = l; after = ls; are = refl; place_is = all.0.place_is; pod_is = first ∙ (sym that ∙ (ap pod_of (same_text n name same) ∙ its)) }
+          record { before = []; line = l; after = ls; are = refl; place_is = all.0.place_is; pod_is = first ∙ (sym that ∙ (ap pod_of_text (same_text n name same) ∙ its)) }
       by false apart None that ls are all shown rest = rest ls are all shown
       by false apart (Some q) that [] are all shown rest = cc
       by false apart (Some q) that (l ∷ ls) are all shown rest =
@@ -221,7 +217,7 @@ module _ (Can : Type 0) (times : Times) (place : Area) (whole : List (List ℕ))
           more_before place pod l ls (rest ls tail all.1 shown)
 
 -- one pass, where nobody else steps
-module _ (Can : Type 0) (times : Times) (me : ℕ) (old new : List Event) (quiet : Quiet me old new) (conforming : IsConforming new) (name : List ℕ) (pod : PodId) (its : pod_of name ≡ Some pod) (place : Area) (stage : is_stage place ≡ true) where
+module _ (Can : Type 0) (times : Times) (me : ℕ) (old new : List Event) (quiet : Quiet me old new) (conforming : IsConforming new) (name : List ℕ) (pod : PodId) (its : pod_of_text name ≡ Some pod) (place : Area) (stage : is_stage place ≡ true) where
   abbrev spot : Spot
   spot = record { area = place; name = name }
 
@@ -231,10 +227,10 @@ module _ (Can : Type 0) (times : Times) (me : ℕ) (old new : List Event) (quiet
   part : (a b : List Event) → Grew old a → (x : Grew a b) → Grew b new → Quiet me a b
   part a b to_a x rest = record { more = x.more; grown = x.grown; own = own_first (quiet_part quiet to_a (grown_more x rest)) x rest }
 
-  own_listed : (here : Area) (a b : List Event) (x : Extends (lists here) me a b) → Grew old a → Grew b new → AllByRecursion (λ e. e.process ≡ me) x.more
+  own_listed : (here : Area) (a b : List Event) (x : Extends (lists_pod_area here) me a b) → Grew old a → Grew b new → AllByRecursion (λ e. e.process ≡ me) x.more
   own_listed here a b x to_a rest = let g : Grew a b = record { more = x.more; grown = x.grown } in own_first (quiet_part quiet to_a (grown_more g rest)) (record { more = x.more; grown = x.grown }) rest
 
-  listed_same : (here : Area) (a b : List Event) (x : Extends (lists here) me a b) → Grew old a → Grew b new → Stood a → Stood b
+  listed_same : (here : Area) (a b : List Event) (x : Extends (lists_pod_area here) me a b) → Grew old a → Grew b new → Stood a → Stood b
   listed_same here a b x to_a rest there =
       let same : (state_after b).namespace.folders ≡ (state_after a).namespace.folders = ap (λ (h : List Event). (state_after h).namespace.folders) x.grown
       ∙ (ap (λ (s : DirState). s.namespace.folders) (states_next-append empty_state a x.more) ∙ leaves_same (state_after a) x.more (lists_leave me here x.more (own_listed here a b x to_a rest) x.asked)) in
@@ -250,7 +246,7 @@ module _ (Can : Type 0) (times : Times) (me : ℕ) (old new : List Event) (quiet
       let to_end = grown_by t.tells.only in
       let listed = listed_same here a t.listed t.only_lists to_a (grown_more to_end rest) there in
       let unshown : has_name t.names name ≡ false = by (has_name t.names name) refl listed in
-      forward (λ s. stands s.namespace spot ≡ true) (deals_with_some times.now here t.names) me (λ s request reply h q. stays times.now here here_stage t.names spot unshown me s request reply h q) t.listed
+      forward (λ s. stands s.namespace spot ≡ true) (deals_with_pods times.now here t.names) me (λ s request reply h q. stays times.now here here_stage t.names spot unshown me s request reply h q) t.listed
       grown_none to_end t.tells.only (part t.listed b (grown_more to_a to_listed) to_end rest) listed
     where
       by : (c : Bool) → has_name t.names name ≡ c → Stood t.listed → c ≡ false
@@ -269,13 +265,13 @@ module _ (Can : Type 0) (times : Times) (me : ℕ) (old new : List Event) (quiet
       let shown = shown_in me place name t.names a t.listed t.only_lists (own_listed place a t.listed t.only_lists to_a more) t.shows (named_stands (state_after t.listed) place name listed) in
       line_among Can times place t.names me t.listed b name pod its t.names ls t.tells.pods_are t.tells.each shown
 
-  pub taken : (a b : List Event) → Extends (takes area.Embryo Exclusive) me a b → Grew old a → Grew b new → Stood a → Stood b
-  taken a b x to_a rest there = forward (λ s. stands s.namespace spot ≡ true) (takes area.Embryo Exclusive) me (λ s request reply h q. takes_leave spot me s request reply h q) a grown_none (grown_by x) x (part a b to_a (grown_by x) rest) there
+  pub taken : (a b : List Event) → Extends (is_taking_area area.Embryo Exclusive) me a b → Grew old a → Grew b new → Stood a → Stood b
+  taken a b x to_a rest there = forward (λ s. stands s.namespace spot ≡ true) (is_taking_area area.Embryo Exclusive) me (λ s request reply h q. takes_leave spot me s request reply h q) a grown_none (grown_by x) x (part a b to_a (grown_by x) rest) there
 
   pub closed : (handle : Handle) (a b : List Event) → Extends (closes handle) me a b → Grew old a → Grew b new → Stood a → Stood b
   closed handle a b x to_a rest there = forward (λ s. stands s.namespace spot ≡ true) (closes handle) me (λ s request reply h q. closes_leave handle spot me s request reply h q) a grown_none (grown_by x) x (part a b to_a (grown_by x) rest) there
 
-  pub passes_over : (here : Area) (ls : List GcLine) (a b : List Event) → is_stage here ≡ true → (rank place == rank here) ≡ false → Passed Can times here ls me a b → Grew old a → Grew b new → Stood a → Stood b
+  pub passes_over : (here : Area) (ls : List GcLine) (a b : List Event) → is_stage here ≡ true → (rank place == rank here) ≡ false → PassedOverPods Can times here ls me a b → Grew old a → Grew b new → Stood a → Stood b
   passes_over area.Embryo ls a b here_stage apart (inl g) to_a rest there =
       let last = grown_more (grown_by g.gives_back) rest in
       let first = grown_more to_a (grown_by g.takes_gate) in
@@ -285,10 +281,10 @@ module _ (Can : Type 0) (times : Times) (me : ℕ) (old new : List Event) (quiet
   passes_over area.Embryo ls a b here_stage apart (inr w) to_a rest there = taken a b w.only to_a rest there
   passes_over here ls a b here_stage apart t to_a rest there = stays_over a b here_stage apart t to_a rest there
 
-  told_or : (ls : List GcLine) (a b : List Event) → Passed Can times place ls me a b → Grew old a → Grew b new → Stood a → HasLine place pod ls ⊎ ((place ≡ area.Embryo) × WasGated Can ls me a b)
+  told_or : (ls : List GcLine) (a b : List Event) → PassedOverPods Can times place ls me a b → Grew old a → Grew b new → Stood a → HasLine place pod ls ⊎ ((place ≡ area.Embryo) × WasGated Can ls me a b)
   told_or ls a b x to_a rest there = by place refl x
     where
-      by : (p : Area) → place ≡ p → Passed Can times p ls me a b → HasLine place pod ls ⊎ ((place ≡ area.Embryo) × WasGated Can ls me a b)
+      by : (p : Area) → place ≡ p → PassedOverPods Can times p ls me a b → HasLine place pod ls ⊎ ((place ≡ area.Embryo) × WasGated Can ls me a b)
       by area.Embryo is (inl g) =
           let last = grown_more (grown_by g.gives_back) rest in
           let one = taken a g.locked g.takes_gate to_a (grown_more (shown_grown g.tells) last) there in
@@ -324,7 +320,7 @@ begin_leaves spot me s (MoveFolder from to) reply h there = cc
 begin_leaves spot me s (RemoveFolder gone) reply h there = cc
 begin_leaves spot me s request reply h there = ap (λ (fs : List (Option Spot)). stands (record s.namespace { folders = fs }) spot) (same_folders me s.namespace request reply refl (λ handle. refl)) ∙ there
 
-module _ (times : Times) (lines : List GcLine) {me : ℕ} {old new : List Event} (ext : Extends (in_process (sweeps times.now)) me old new) (quiet : Quiet me old new) (m : Meanwhile (Sweeps times lines) me old new) (conforming : IsConforming new) where
+module _ (times : Times) (lines : List GcLine) {me : ℕ} {old new : List Event} (ext : Extends (in_process (sweeps times.now)) me old new) (quiet : Quiet me old new) (m : Meanwhile (SweepsByPasses times lines) me old new) (conforming : IsConforming new) where
   abbrev May : Type 0
   May = Knew (MaySweepAll times.now times.expire) m.so.from
 
@@ -345,7 +341,7 @@ module _ (times : Times) (lines : List GcLine) {me : ℕ} {old new : List Event}
   pub begun_stands : (spot : Spot) → stands (state_after old).namespace spot ≡ true → stands (state_after m.begun).namespace spot ≡ true
   begun_stands spot there = forward (λ s. stands s.namespace spot ≡ true) is_begin me (λ s request reply h q. begin_leaves spot me s request reply h q) old grown_none start m.begins first_quiet there
 
-  module _ (name : List ℕ) (pod : PodId) (its : pod_of name ≡ Some pod) where
+  module _ (name : List ℕ) (pod : PodId) (its : pod_of_text name ≡ Some pod) where
     abbrev Says : Area → Type 0
     Says place = (stage : is_stage place ≡ true) → stands (state_after m.begun).namespace (record { area = place; name = name }) ≡ true → Tells May times me old new quiet conforming name pod its place stage lines m.ended
 
@@ -364,7 +360,7 @@ module _ (times : Times) (lines : List GcLine) {me : ℕ} {old new : List Event}
         tells_after May times me old new quiet conforming name pod its area.Garbage stage (area.Embryo ∷ area.Prepare ∷ area.Prepared ∷ area.Run ∷ area.ExitedGarbage ∷ []) [] lines m.begun m.ended ((refl, refl), ((refl, refl), ((refl, refl), ((refl, refl), ((refl, refl), tt))))) m.so.swept start finish there
     says place stage there = cc
 
-  pub gc_tells : (name : List ℕ) (pod : PodId) (place : Area) → pod_of name ≡ Some pod → is_stage place ≡ true → stands (state_after old).namespace (pod_spot pod place) ≡ true →
+  pub gc_tells : (name : List ℕ) (pod : PodId) (place : Area) → pod_of_text name ≡ Some pod → is_stage place ≡ true → stands (state_after old).namespace (pod_spot pod place) ≡ true →
       HasLine place pod lines ⊎ ((place ≡ area.Embryo) × IsBusyElsewhere me area.Embryo Exclusive (state_after old))
   gc_tells name pod place its stage there =
       let here : stands (state_after old).namespace (record { area = place; name = name }) ≡ true =

@@ -5,6 +5,8 @@ use Rattle.std.specs.List.Sorted.{IsStrictlySortedBy}
 use Rattle.std.specs.Ordering.{nat_cmp, is_eq}
 use Rattle.std.specs.Cmp.Lexicographic.{slice_cmp}
 use Rattle.std.proofs.lemmas.Map.Text.{is_eq-slice_cmp}
+use Rattle.plain_laws.proofs.Texts.{same_bytes, same_text}
+use Rattle.plain_laws.proofs.Booleans.{or_nothing}
 use Rattle.dir_model.specs.declared.area.Area.{Area}
 use Rattle.dir_model.specs.declared.event.Event.{Event}
 use Rattle.dir_model.specs.declared.request.Request.{Request}
@@ -20,18 +22,18 @@ use Rattle.dir_model.specs.State.{DirState, empty_state, stands}
 use Rattle.dir_model.specs.Trace.{state_after, state_next, states_next, namespace_replied}
 use Rattle.dir_model.proofs.Chains.{states_next-append}
 use Rattle.dir_model.proofs.Lists.{or_last, all_left, all_right, same_rest}
-use Rattle.dir_rules.proofs.Looks.{same_bytes}
 use Rattle.phase_read.specs.Read.{pod_spot}
 use Rattle.pod_locks.specs.Work.{Grew}
 use Rattle.pod_locks.proofs.Traces.{grown_none, grown_more, grown_by}
 use Rattle.pod_locks.specs.Taking.{takes_away, TookNothing}
+use Rattle.pod_locks.proofs.Taking.{Untaken}
 use Rattle.pod_gc.specs.declared.ages.Times.{Times}
 use Rattle.pod_gc.specs.declared.line.GcLine.{GcLine}
-use Rattle.pod_gc.specs.Told.{deals_with_some, IsTold, TellsShown}
+use Rattle.pod_gc.specs.Told.{deals_with_pods, IsLineOfTurn, TellsShown}
 use Rattle.commands.proofs.OwnSteps.{in_process, own_asked, own_part, asked_part, own_first, quiet_part, forward, same_folders}
-use Rattle.commands.proofs.LateTurns.{Late, or_false}
+use Rattle.commands.proofs.LateTurns.{Late}
 use Rattle.pod_lookup.proofs.Names.{text_back}
-use Rattle.commands.proofs.GcTells.{same_text, stands_named, shown_stands, stays}
+use Rattle.commands.proofs.GcTells.{stands_named, shown_stands, stays}
 
 -- a part of a quiet time
 pub quiet_between : {me : ℕ} {old a b new : List Event} → Quiet me old new → Grew old a → (x : Grew a b) → Grew b new → Quiet me a b
@@ -53,7 +55,7 @@ earlier_apart (n ∷ ns) name later sorted =
     let above : AllByRecursion (λ (z : List ℕ). slice_cmp nat_cmp n z ≡ Less) (name ∷ later) = all_right (λ (z : List ℕ). slice_cmp nat_cmp n z ≡ Less) ns (name ∷ later) sorted.0 in
     ap (λ b. b || has_name ns name) (less_apart n name above.0) ∙ earlier_apart ns name later sorted.1
 
-later_all : (name : List ℕ) (later : List (List ℕ)) → AllByRecursion (λ (z : List ℕ). slice_cmp nat_cmp name z ≡ Less) later → has_name later name ≡ false
+pub later_all : (name : List ℕ) (later : List (List ℕ)) → AllByRecursion (λ (z : List ℕ). slice_cmp nat_cmp name z ≡ Less) later → has_name later name ≡ false
 later_all name [] less = refl
 later_all name (z ∷ zs) less = by (bytes_eq z name) refl (later_all name zs less.1)
   where
@@ -70,12 +72,9 @@ later_apart (n ∷ ns) name later sorted = later_apart ns name later sorted.1
 
 -- where nothing is moved or removed, what stands stays
 
-abbrev Untaken : ℕ → Event → Type 0
-Untaken me e = (is_foreign me e || not (takes_away e.request e.reply)) ≡ true
-
 module _ (asks : Request → Bool) (l : Late asks) (spot : Spot) (me : ℕ) where
   untaken_stays : (s : DirState) (request : Request) (reply : Reply) → (is_kill request || in_process asks request) ≡ true → (is_kill request || not (takes_away request reply)) ≡ true → stands s.namespace spot ≡ true → stands (namespace_replied s.namespace me request reply) spot ≡ true
-  untaken_stays s (MakeFolder new) reply h still there = absurd (l.makes new (or_false (asks (MakeFolder new)) h))
+  untaken_stays s (MakeFolder new) reply h still there = absurd (l.makes new (or_nothing (asks (MakeFolder new)) h))
   untaken_stays s (MoveFolder from to) Done h still there = cc
   untaken_stays s (MoveFolder from to) reply h still there = there
   untaken_stays s (RemoveFolder gone) Done h still there = cc
@@ -115,7 +114,7 @@ module _ (asks : Request → Bool) (l : Late asks) (spot : Spot) (me : ℕ) wher
       (untaken_part ext quiet first last took took.more [] (took.grown ∙ ap (λ (l : List Event). from ++ l) (sym (append-nil took.more))) there)
 
 -- a pod that was listed
-module _ {Can : Type 0} {times : Times} {here : Area} {ls : List GcLine} {me : ℕ} {old a b new : List Event} (stage : is_stage here ≡ true) (quiet : Quiet me old new) (to_a : Grew old a) (from_b : Grew b new) (t : TellsShown Can times here ls me a b) {line : GcLine} (x : IsTold Can times here t.names line me t.listed b) where
+module _ {Can : Type 0} {times : Times} {here : Area} {ls : List GcLine} {me : ℕ} {old a b new : List Event} (stage : is_stage here ≡ true) (quiet : Quiet me old new) (to_a : Grew old a) (from_b : Grew b new) (t : TellsShown Can times here ls me a b) {line : GcLine} (x : IsLineOfTurn Can times here t.names line me t.listed b) where
   abbrev its_spot : Spot
   its_spot = pod_spot x.shown here
 
@@ -145,7 +144,7 @@ module _ {Can : Type 0} {times : Times} {here : Area} {ls : List GcLine} {me : �
   stood_until rest =
       let sorted = subst (λ (ns : List (List ℕ)). IsStrictlySortedBy (slice_cmp nat_cmp) ns) x.names_are t.ordered in
       let unshown = subst (λ (n : List ℕ). has_name x.earlier n ≡ false) (sym (text_back x.name x.shown x.name_is)) (earlier_apart x.earlier x.name x.later sorted) in
-      forward (λ s. stands s.namespace its_spot ≡ true) (deals_with_some times.now here x.earlier) me (λ s request reply h q. stays times.now here stage x.earlier its_spot unshown me s request reply h q) t.listed
+      forward (λ s. stands s.namespace its_spot ≡ true) (deals_with_pods times.now here x.earlier) me (λ s request reply h q. stays times.now here stage x.earlier its_spot unshown me s request reply h q) t.listed
       grown_none (grown_by x.first) x.first (quiet_between quiet (grown_more to_a to_listed) (grown_by x.first) rest) stood_listed
 
   -- from its turn on to the end of the pass
@@ -153,5 +152,5 @@ module _ {Can : Type 0} {times : Times} {here : Area} {ls : List GcLine} {me : �
   stood_since turn there =
       let sorted = subst (λ (ns : List (List ℕ)). IsStrictlySortedBy (slice_cmp nat_cmp) ns) x.names_are t.ordered in
       let unshown = subst (λ (n : List ℕ). has_name x.later n ≡ false) (sym (text_back x.name x.shown x.name_is)) (later_apart x.earlier x.name x.later sorted) in
-      forward (λ s. stands s.namespace its_spot ≡ true) (deals_with_some times.now here x.later) me (λ s request reply h q. stays times.now here stage x.later its_spot unshown me s request reply h q) x.upto
+      forward (λ s. stands s.namespace its_spot ≡ true) (deals_with_pods times.now here x.later) me (λ s request reply h q. stays times.now here stage x.later its_spot unshown me s request reply h q) x.upto
       grown_none (grown_by x.last) x.last (quiet_between quiet (grown_more turn_after turn) (grown_by x.last) from_b) there

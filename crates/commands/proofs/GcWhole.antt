@@ -8,7 +8,7 @@ use Rattle.dir_model.specs.declared.pod.PodId.{PodId}
 use Rattle.dir_model.specs.declared.spot.Mode.TheVariants.{Exclusive}
 use Rattle.dir_model.specs.Areas.{rank, is_stage}
 use Rattle.dir_model.specs.Calls.{Extends}
-use Rattle.dir_model.specs.Pods.{pod_of}
+use Rattle.dir_model.specs.Pods.{pod_of_text}
 use Rattle.dir_model.specs.Quiet.{Quiet}
 use Rattle.dir_model.specs.State.{DirState, stands}
 use Rattle.dir_model.specs.Trace.{state_after}
@@ -29,12 +29,12 @@ use Rattle.pod_gc.specs.declared.line.Deed.TheVariants.{Moved, Deleted, Kept, Bu
 use Rattle.pod_gc.specs.declared.line.GcLine.{GcLine}
 use Rattle.pod_gc.specs.Requests.{goes_to, moves_pods, sweeps}
 use Rattle.pod_gc.specs.Sweeping.{MaySweepAll}
-use Rattle.pod_gc.specs.Told.{Knew, IsTold, TellsShown, UnderGate, WasGated, Passed, ArePassed, places}
+use Rattle.pod_gc.specs.Told.{Knew, IsLineOfTurn, TellsShown, UnderGate, WasGated, PassedOverPods, ArePassed, places}
 use Rattle.command_outcomes.specs.Meanwhile.{Meanwhile}
-use Rattle.commands.specs.Gc.{Sweeps}
-use Rattle.commands.specs.RemovalQuiet.{may_say, SaysFitting, StoodAsBefore, MovedAsBefore, CameSo, GoesOnSo, MovedFrom, ByTableMoved}
+use Rattle.commands.specs.Gc.{SweepsByPasses}
+use Rattle.commands.specs.RemovalQuiet.{may_say, SaysFitting, StoodAsBefore, MovedAsBefore, StoodOrWasMoved, HasLineWhereMoved, MovedFrom, ByTableMoved}
 use Rattle.commands.specs.RemovalTable.{deed_at, deed_when_moved, ByTable}
-use Rattle.commands.specs.GcLines.{HasLine, is_gated, is_move_to, moves_there, deed_after_move, deed_in_pass, IsPassLine, ArePassLines, GatedOr, IsPassOf, ArePassesOf, IsSweepOf, AreTheLinesOf}
+use Rattle.commands.specs.GcLines.{HasLine, is_embryo_held, is_move_to, moves_there, deed_after_move, deed_in_pass, IsPassLine, AreGcPassLines, GatedOr, IsGcPassOf, ArePassesOf, IsSweepOf, AreTheGcLines}
 use Rattle.commands.proofs.OwnSteps.{in_process, at_process, held_before}
 use Rattle.commands.proofs.Openings.{free_before}
 use Rattle.commands.proofs.GcQuiet.{passed_grown, passes_grown, gc_moved}
@@ -88,7 +88,7 @@ abbrev AreApart : List Area → Type 0
 AreApart [] = Unit {0}
 AreApart (here ∷ ps) = (list_any (is_in here) ps ≡ false) × AreApart ps
 
-module _ (times : Times) (lines : List GcLine) {me : ℕ} {old new : List Event} (ext : Extends (in_process (sweeps times.now)) me old new) (quiet : Quiet me old new) (m : Meanwhile (Sweeps times lines) me old new) (conforming : IsConforming new) (small : times.now ≤ 18446744073709551615) where
+module _ (times : Times) (lines : List GcLine) {me : ℕ} {old new : List Event} (ext : Extends (in_process (sweeps times.now)) me old new) (quiet : Quiet me old new) (m : Meanwhile (SweepsByPasses times lines) me old new) (conforming : IsConforming new) (small : times.now ≤ 18446744073709551615) where
   abbrev s : DirState
   s = state_after old
 
@@ -100,10 +100,10 @@ module _ (times : Times) (lines : List GcLine) {me : ℕ} {old new : List Event}
 
   -- the lock of embryo
 
-  gate_held : (ls : List GcLine) (b : List Event) → Grew b m.ended → WasGated Can ls me m.begun b → is_gated me s ≡ true
+  gate_held : (ls : List GcLine) (b : List Event) → Grew b m.ended → WasGated Can ls me m.begun b → is_embryo_held me s ≡ true
   gate_held ls b more w = held_before (is_against area.Embryo Exclusive) (at_process m.begins m.finishes (at_part grown_none refl more (w.another m.so.can))) ext quiet
 
-  gate_free : (ls : List GcLine) (b : List Event) → Grew b m.ended → UnderGate Can times ls me m.begun b → is_gated me s ≡ false
+  gate_free : (ls : List GcLine) (b : List Event) → Grew b m.ended → UnderGate Can times ls me m.begun b → is_embryo_held me s ≡ false
   gate_free ls b more g =
       let rest = passed_grown Can times area.Embryo ls me m.begun b (inl g) in
       let last : Grew g.locked m.ended = grown_more (under_rest ls b g) more in
@@ -125,16 +125,16 @@ module _ (times : Times) (lines : List GcLine) {me : ℕ} {old new : List Event}
       (all_weaker (λ (l : GcLine). list_any (is_in l.place) ps ≡ true) (λ (y : GcLine). list_any (is_in y.place) (here ∷ ps) ≡ true) (λ y at. or_last (is_in y.place here) (list_any (is_in y.place) ps) at) x.others (passes_place ps x.others x.between b x.rest)))
 
   -- where a pod in embryo has a line, that lock was free
-  line_free : (pod : PodId) → HasLine area.Embryo pod lines → is_gated me s ≡ false
+  line_free : (pod : PodId) → HasLine area.Embryo pod lines → is_embryo_held me s ≡ false
   line_free pod has = by m.so.swept.own m.so.swept.others m.so.swept.between m.so.swept.lines_are m.so.swept.first m.so.swept.rest
     where
-      alone : HasLine area.Embryo pod (record { place = area.Embryo; pod = None; deed = BusyGate } ∷ []) → is_gated me s ≡ false
+      alone : HasLine area.Embryo pod (record { place = area.Embryo; pod = None; deed = BusyGate } ∷ []) → is_embryo_held me s ≡ false
       alone y = let none : Some pod ≡ None = sym y.pod_is ∙ (of_line (λ (l : GcLine). l.pod ≡ None) y (refl, tt)) in cc
 
-      elsewhere : (place : Area) → list_any (is_in place) later ≡ true → place ≡ area.Embryo → is_gated me s ≡ false
+      elsewhere : (place : Area) → list_any (is_in place) later ≡ true → place ≡ area.Embryo → is_embryo_held me s ≡ false
       elsewhere place among is = let clash : true ≡ false = sym among ∙ ap (λ (a : Area). list_any (is_in a) later) is in cc
 
-      by : (own others : List GcLine) (b : List Event) → lines ≡ own ++ others → Passed Can times area.Embryo own me m.begun b → ArePassed Can times later others me b m.ended → is_gated me s ≡ false
+      by : (own others : List GcLine) (b : List Event) → lines ≡ own ++ others → PassedOverPods Can times area.Embryo own me m.begun b → ArePassed Can times later others me b m.ended → is_embryo_held me s ≡ false
       by own others b are (inl g) x = gate_free own b (passes_grown Can times later others me b m.ended x) g
       by own others b are (inr w) x = elim (line_in_part area.Embryo pod own others (subst (λ (l : List GcLine). HasLine area.Embryo pod l) are has)) [
         | inl y ↦ alone (subst (λ (l : List GcLine). HasLine area.Embryo pod l) w.line_is y)
@@ -171,10 +171,10 @@ module _ (times : Times) (lines : List GcLine) {me : ℕ} {old new : List Event}
   moving_stage area.Run moves = refl
   moving_stage from moves = cc
 
-  ungated : (from : Area) → (from ≡ area.Embryo → is_gated me s ≡ false) → not (is_in area.Embryo from && is_gated me s) ≡ true
+  ungated : (from : Area) → (from ≡ area.Embryo → is_embryo_held me s ≡ false) → not (is_in area.Embryo from && is_embryo_held me s) ≡ true
   ungated from free = by (is_in area.Embryo from) refl
     where
-      by : (b : Bool) → is_in area.Embryo from ≡ b → not (b && is_gated me s) ≡ true
+      by : (b : Bool) → is_in area.Embryo from ≡ b → not (b && is_embryo_held me s) ≡ true
       by false is = refl
       by true is = ap (λ c. not c) (free (sym (same_place area.Embryo from is)))
 
@@ -206,7 +206,7 @@ module _ (times : Times) (lines : List GcLine) {me : ℕ} {old new : List Event}
           (and_both (is_move_to to (deed_at times me pod from s)) _ (ap (is_move_to to) (sym its) ∙ same_self (rank to))
           (ungated from (λ is. line_free pod (subst (λ (p : Area). HasLine p pod lines) is moved.has))))
 
-  line_says : (line : GcLine) → SaysFitting line → StoodAsBefore old line → CameSo lines old line → ByTable times me old line → ByTableMoved times me lines old line → SaysDeed line
+  line_says : (line : GcLine) → SaysFitting line → StoodAsBefore old line → StoodOrWasMoved lines old line → ByTable times me old line → ByTableMoved times me lines old line → SaysDeed line
   line_says line fits stood came table moved_on pod is = by (stands s.namespace (pod_spot pod line.place)) refl
     where
       by : (b : Bool) → stands s.namespace (pod_spot pod line.place) ≡ b → deed_of line.place pod ≡ Some line.deed
@@ -226,7 +226,7 @@ module _ (times : Times) (lines : List GcLine) {me : ℕ} {old new : List Event}
           garbage : is_garbage_place line.place ≡ true
           garbage = says_garbage line.place line.deed (fits pod is) stays
 
-  lines_say : (ls : List GcLine) → AllByRecursion SaysFitting ls → AllByRecursion (StoodAsBefore old) ls → AllByRecursion (CameSo lines old) ls → AllByRecursion (ByTable times me old) ls → AllByRecursion (ByTableMoved times me lines old) ls → AllByRecursion SaysDeed ls
+  lines_say : (ls : List GcLine) → AllByRecursion SaysFitting ls → AllByRecursion (StoodAsBefore old) ls → AllByRecursion (StoodOrWasMoved lines old) ls → AllByRecursion (ByTable times me old) ls → AllByRecursion (ByTableMoved times me lines old) ls → AllByRecursion SaysDeed ls
   lines_say [] fits stood came table moved_on = tt
   lines_say (l ∷ ls) fits stood came table moved_on = (line_says l fits.0 stood.0 came.0 table.0 moved_on.0, lines_say ls fits.1 stood.1 came.1 table.1 moved_on.1)
 
@@ -236,29 +236,29 @@ module _ (times : Times) (lines : List GcLine) {me : ℕ} {old new : List Event}
   -- each pod for which the state before asks has its line
 
   abbrev Free : Area → Type 0
-  Free place = place ≡ area.Embryo → is_gated me s ≡ false
+  Free place = place ≡ area.Embryo → is_embryo_held me s ≡ false
 
-  stood_line : (name : List ℕ) (pod : PodId) → pod_of name ≡ Some pod → (place : Area) → is_stage place ≡ true → Free place → stands s.namespace (pod_spot pod place) ≡ true → HasLine place pod lines
+  stood_line : (name : List ℕ) (pod : PodId) → pod_of_text name ≡ Some pod → (place : Area) → is_stage place ≡ true → Free place → stands s.namespace (pod_spot pod place) ≡ true → HasLine place pod lines
   stood_line name pod its place stage free there = elim (gc_tells times lines ext quiet m conforming name pod place its stage there) [
     | inl has ↦ has
     | inr gate ↦ let clash : true ≡ false = sym gate.1 ∙ free gate.0 in cc
   ]
 
-  moved_line : (name : List ℕ) (pod : PodId) → pod_of name ≡ Some pod → (from to : Area) → is_stage from ≡ true → moves_there times me pod to s from ≡ true → HasLine to pod lines
+  moved_line : (name : List ℕ) (pod : PodId) → pod_of_text name ≡ Some pod → (from to : Area) → is_stage from ≡ true → moves_there times me pod to s from ≡ true → HasLine to pod lines
   moved_line name pod its from to stage is =
       let stood = and_left (stands s.namespace (pod_spot pod from)) _ is in
       let rest = and_right (stands s.namespace (pod_spot pod from)) _ is in
       let deed = moved_to to (deed_at times me pod from s) (and_left (is_move_to to (deed_at times me pod from s)) _ rest) in
-      let has = stood_line name pod its from stage (λ at. let open_gate = and_right (is_move_to to (deed_at times me pod from s)) _ rest in freed (is_gated me s) (subst (λ (p : Area). not (is_in area.Embryo p && is_gated me s) ≡ true) at open_gate)) stood in
+      let has = stood_line name pod its from stage (λ at. let open_gate = and_right (is_move_to to (deed_at times me pod from s)) _ rest in freed (is_embryo_held me s) (subst (λ (p : Area). not (is_in area.Embryo p && is_embryo_held me s) ≡ true) at open_gate)) stood in
       let there = subst (λ (p : Area). stands s.namespace (pod_spot pod p) ≡ true) (sym has.place_is) stood in
       let says = of_line (ByTable times me old) has (gc_table times lines ext quiet m conforming) pod has.pod_is there ∙ (ap (λ (p : Area). deed_at times me pod p s) has.place_is ∙ deed) in
-      of_line (GoesOnSo lines) has (gc_goes times lines ext quiet m conforming) pod to has.pod_is says
+      of_line (HasLineWhereMoved lines) has (gc_goes times lines ext quiet m conforming) pod to has.pod_is says
     where
       freed : (b : Bool) → not b ≡ true → b ≡ false
       freed false is = refl
       freed true is = cc
 
-  asked_line : (name : List ℕ) (pod : PodId) → pod_of name ≡ Some pod → (place : Area) → is_stage place ≡ true → Free place → (deed : Deed) → deed_of place pod ≡ Some deed → HasLine place pod lines
+  asked_line : (name : List ℕ) (pod : PodId) → pod_of_text name ≡ Some pod → (place : Area) → is_stage place ≡ true → Free place → (deed : Deed) → deed_of place pod ≡ Some deed → HasLine place pod lines
   asked_line name pod its place stage free deed asked = by (stands s.namespace (pod_spot pod place)) refl asked
     where
       moved : (o : Option Area) → find (moves_there times me pod place s) places ≡ o → deed_after_move times me pod place s o ≡ Some deed → HasLine place pod lines
@@ -273,9 +273,9 @@ module _ (times : Times) (lines : List GcLine) {me : ℕ} {old new : List Event}
 
   -- pass by pass
 
-  told_pass : {here : Area} (own : List GcLine) (a b : List Event) → is_stage here ≡ true → Free here → TellsShown Can times here own me a b → AllByRecursion SaysDeed own → ((pod : PodId) → HasLine here pod lines → HasLine here pod own) → ArePassLines here (deed_of here) own
+  told_pass : {here : Area} (own : List GcLine) (a b : List Event) → is_stage here ≡ true → Free here → TellsShown Can times here own me a b → AllByRecursion SaysDeed own → ((pod : PodId) → HasLine here pod lines → HasLine here pod own) → AreGcPassLines here (deed_of here) own
   told_pass {here} own a b stage free t say within = record {
-    each = all_zip (λ l. IsTold Can times here t.names l me t.listed b) SaysDeed (IsPassLine here (deed_of here))
+    each = all_zip (λ l. IsLineOfTurn Can times here t.names l me t.listed b) SaysDeed (IsPassLine here (deed_of here))
         (λ l x says. record {
           name = x.name;
           pod = x.shown;
@@ -288,14 +288,14 @@ module _ (times : Times) (lines : List GcLine) {me : ℕ} {old new : List Event}
     ordered = subjects_ascend t.names own t.tells.pods_are t.ordered;
   }
 
-  gate_pass : (own : List GcLine) (b : List Event) → Grew b m.ended → Passed Can times area.Embryo own me m.begun b → AllByRecursion SaysDeed own → ((pod : PodId) → HasLine area.Embryo pod lines → HasLine area.Embryo pod own) → IsPassOf times me s area.Embryo own
+  gate_pass : (own : List GcLine) (b : List Event) → Grew b m.ended → PassedOverPods Can times area.Embryo own me m.begun b → AllByRecursion SaysDeed own → ((pod : PodId) → HasLine area.Embryo pod lines → HasLine area.Embryo pod own) → IsGcPassOf times me s area.Embryo own
   gate_pass own b more (inl g) say within =
       let free = gate_free own b more g in
-      subst (λ c. GatedOr c own (ArePassLines area.Embryo (deed_of area.Embryo) own)) (sym free) (told_pass own g.locked g.done refl (λ is. free) g.tells say within)
-  gate_pass own b more (inr w) say within = subst (λ c. GatedOr c own (ArePassLines area.Embryo (deed_of area.Embryo) own)) (sym (gate_held own b more w)) w.line_is
+      subst (λ c. GatedOr c own (AreGcPassLines area.Embryo (deed_of area.Embryo) own)) (sym free) (told_pass own g.locked g.done refl (λ is. free) g.tells say within)
+  gate_pass own b more (inr w) say within = subst (λ c. GatedOr c own (AreGcPassLines area.Embryo (deed_of area.Embryo) own)) (sym (gate_held own b more w)) w.line_is
 
   abbrev IsPlain : Area → Type 0
-  IsPlain here = (is_stage here ≡ true) × ((own : List GcLine) (a b : List Event) → Passed Can times here own me a b → TellsShown Can times here own me a b) × (here ≡ area.Embryo → ⊥) × ((own : List GcLine) → ArePassLines here (deed_of here) own → IsPassOf times me s here own)
+  IsPlain here = (is_stage here ≡ true) × ((own : List GcLine) (a b : List Event) → PassedOverPods Can times here own me a b → TellsShown Can times here own me a b) × (here ≡ area.Embryo → ⊥) × ((own : List GcLine) → AreGcPassLines here (deed_of here) own → IsGcPassOf times me s here own)
 
   -- of what two parts have, each has its own
   part_line : (here : Area) (ps : List Area) (own others : List GcLine) → list_any (is_in here) ps ≡ false → AllByRecursion (λ (l : GcLine). list_any (is_in l.place) ps ≡ true) others → (pod : PodId) → HasLine here pod (own ++ others) → HasLine here pod own
@@ -352,5 +352,5 @@ module _ (times : Times) (lines : List GcLine) {me : ℕ} {old new : List Event}
             (λ place at pod has. rest_line area.Embryo place later x.own x.others refl all_here at pod (subst (λ (l : List GcLine). HasLine place pod l) x.lines_are has)),
       )
 
-  pub gc_whole : AreTheLinesOf times me s lines
+  pub gc_whole : AreTheGcLines times me s lines
   gc_whole = record { are = gc_lines; only = λ others x. only_sweep times me s others lines x gc_lines }

@@ -2,6 +2,7 @@
 use Rattle.std.proofs.Common.{◌≡◌, ℕ, Bool, true, false, ◌&&◌, ◌||◌, cond, Option, Some, None, option_map, slice_get, get_or, List, refl, sym, ap, subst, ◌∙◌}
 use Rattle.std.proofs.lemmas.List.Quantifiers.{position-Some}
 use Rattle.std.proofs.lemmas.Option.{slice_get-map, slice_get-get_or}
+use Rattle.plain_laws.proofs.Booleans.{or_nothing}
 use Rattle.dir_model.specs.declared.area.Area.{Area}
 use Rattle.dir_model.specs.declared.event.Event.{Event}
 use Rattle.dir_model.specs.declared.pod.PodId.{PodId}
@@ -26,7 +27,7 @@ use Rattle.pod_locks.proofs.Traces.{grown_more}
 use Rattle.pod_gc.specs.RemovalCauses.{IsBusyAt}
 use Rattle.commands.specs.RemovalQuiet.{IsHeldNow}
 use Rattle.commands.proofs.OwnSteps.{in_process, back_at, same_folders, held_before}
-use Rattle.commands.proofs.LateTurns.{Late, or_false}
+use Rattle.commands.proofs.LateTurns.{Late}
 
 -- folders are moved to such places from such alone
 module _ (its_place : Spot → Bool) (alike : (a b : Spot) → spot_eq a b ≡ true → its_place a ≡ its_place b) (asks : Request → Bool) (l : Late asks) (moves : (from to : Spot) → asks (MoveFolder from to) ≡ true → its_place to ≡ true → its_place from ≡ true) (me : ℕ) where
@@ -52,8 +53,8 @@ module _ (its_place : Spot → Bool) (alike : (a b : Spot) → spot_eq a b ≡ t
       by false is = is
 
   its_back : (k : ℕ) (s : DirState) (request : Request) (reply : Reply) → (is_kill request || in_process asks request) ≡ true → (place : Spot) × (slice_get (namespace_replied s.namespace me request reply).folders k ≡ Some (Some place)) × (its_place place ≡ true) → ItsFolder k s
-  its_back k s (MakeFolder here) reply h x = absurd (l.makes here (or_false (asks (MakeFolder here)) h))
-  its_back k s (MoveFolder from to) Done h x = moved_from from to x.0 (slice_get s.namespace.folders k) (moves from to (or_false (asks (MoveFolder from to)) h)) (sym (slice_get-map (moved from to) s.namespace.folders k) ∙ x.1) x.2
+  its_back k s (MakeFolder here) reply h x = absurd (l.makes here (or_nothing (asks (MakeFolder here)) h))
+  its_back k s (MoveFolder from to) Done h x = moved_from from to x.0 (slice_get s.namespace.folders k) (moves from to (or_nothing (asks (MoveFolder from to)) h)) (sym (slice_get-map (moved from to) s.namespace.folders k) ∙ x.1) x.2
   its_back k s (MoveFolder from to) reply h x = x
   its_back k s (RemoveFolder gone) Done h x = (x.0, removed_from gone x.0 (slice_get s.namespace.folders k) (sym (slice_get-map (removed gone) s.namespace.folders k) ∙ x.1), x.2)
   its_back k s (RemoveFolder gone) reply h x = x

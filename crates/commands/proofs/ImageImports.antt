@@ -18,17 +18,17 @@ use Rattle.image_reading.specs.declared.error.StoreError.{StoreError}
 use Rattle.image_reading.specs.declared.error.StoreError.TheVariants as store_error
 use Rattle.image_reading.specs.Places.{image_spot}
 use Rattle.image_store.specs.declared.importing.Imported.{Imported}
-use Rattle.image_store.specs.Causes.{Source, WasThere, BusyElsewhere}
-use Rattle.image_store.specs.Imports.{key_of, digest_of, IsOf, OfBundle, IsRefused, ComesInTurn, IsImported, Leaves, LeavesAtEnd}
+use Rattle.image_store.specs.Causes.{Source, WasThere, ImportBusyElsewhere}
+use Rattle.image_store.specs.Imports.{key_of_image, digest_of, IsOf, OfBundle, IsImportRefused, RefusalComesInTurn, IsImported, ImportLeaves, LeavesAtEnd}
 use Rattle.image_store.specs.Moves.{Moves, MovesAtEnd}
 use Rattle.image_store.specs.Refusals.{bundle_refusal, is_import_refusal}
 use Rattle.image_store.specs.Requests.{building_spot}
-use Rattle.image_store.specs.Work.{IsImport, IsAlone, From, at_work}
+use Rattle.image_store.specs.Work.{IsImport, IsAlone, WhereImporting, seen_importing}
 use Rattle.command_outcomes.specs.declared.refusal.Refusal.{Refusal}
 use Rattle.command_outcomes.specs.declared.refusal.Refusal.TheVariants.{Busy, DirFault, BundleFault, NoMemory}
-use Rattle.command_outcomes.specs.Moments.{DirSeen, BundleSeen, Outcome}
-use Rattle.command_outcomes.specs.Conforming.{shown_at, begun, KeepsRules}
-use Rattle.commands.specs.ImageImport.{key_line, image_import_refusal, listing_refusal, is_import_error, import_refusal, IsSaidOf, source_of, StoresImage, IsHeldFrom, RefusesImage, ImageImportSays}
+use Rattle.command_outcomes.specs.Moments.{DirSeen, BundleSeen, CommandOutcome}
+use Rattle.command_outcomes.specs.Conforming.{dir_at_moment, seen_at_begin, KeepsRules}
+use Rattle.commands.specs.ImageImport.{key_line, image_import_refusal, import_listing_refusal, is_import_error, import_refusal, IsSaidOf, source_of, StoresImage, IsHeldFromImport, RefusesImage, ImageImportSays}
 use Rattle.command_outcomes.proofs.Seen.{seen_at, beside}
 use Rattle.commands.proofs.Parts.{within_wider}
 use Rattle.commands.proofs.ImportParts.{Span, refused_wider, turn_wider}
@@ -48,11 +48,11 @@ store_error_known (store_error.NoImage key) kind = kind
 store_error_known (store_error.Busy area) kind = kind
 store_error_known e kind = refl
 
-pub import_error : {observed : Bool} {source : Source} {e : StoreError} {a b : DirAt} → IsRefused observed source e a b → is_import_error e ≡ true
+pub import_error : {observed : Bool} {source : Source} {e : StoreError} {a b : DirAt} → IsImportRefused observed source e a b → is_import_error e ≡ true
 import_error {observed} {source} {e} (inl x) = ap is_import_error x.1 ∙ bundle_error x.0
 import_error {observed} {source} {e} (inr x) = store_error_known e x.2.kind
 
-listing_allowed : (e : ListingError) → image_import_refusal (listing_refusal e) ≡ true
+listing_allowed : (e : ListingError) → image_import_refusal (import_listing_refusal e) ≡ true
 listing_allowed (listing.BadLine n) = refl
 listing_allowed (listing.NotSorted n) = refl
 listing_allowed (listing.NoParent n) = refl
@@ -71,7 +71,7 @@ refusal_allowed e r known (inl is) = ap image_import_refusal is ∙ error_allowe
 refusal_allowed e r known (inr is) = ap image_import_refusal is
 
 -- what a refusal was of
-listing_no_fault : (e : ListingError) {X : Type 0} → listing_refusal e ≡ DirFault → X
+listing_no_fault : (e : ListingError) {X : Type 0} → import_listing_refusal e ≡ DirFault → X
 listing_no_fault (listing.BadLine n) is = cc
 listing_no_fault (listing.NotSorted n) is = cc
 listing_no_fault (listing.NoParent n) is = cc
@@ -79,7 +79,7 @@ listing_no_fault (listing.TooMany limit) is = cc
 listing_no_fault (listing.FileTooLong n) is = cc
 listing_no_fault listing.NoMemory is = cc
 
-listing_no_bundle_fault : (e : ListingError) {X : Type 0} → listing_refusal e ≡ BundleFault → X
+listing_no_bundle_fault : (e : ListingError) {X : Type 0} → import_listing_refusal e ≡ BundleFault → X
 listing_no_bundle_fault (listing.BadLine n) is = cc
 listing_no_bundle_fault (listing.NotSorted n) is = cc
 listing_no_bundle_fault (listing.NoParent n) is = cc
@@ -87,7 +87,7 @@ listing_no_bundle_fault (listing.TooMany limit) is = cc
 listing_no_bundle_fault (listing.FileTooLong n) is = cc
 listing_no_bundle_fault listing.NoMemory is = cc
 
-listing_not_busy : (e : ListingError) (area : Area) {X : Type 0} → listing_refusal e ≡ Busy area → X
+listing_not_busy : (e : ListingError) (area : Area) {X : Type 0} → import_listing_refusal e ≡ Busy area → X
 listing_not_busy (listing.BadLine n) area is = cc
 listing_not_busy (listing.NotSorted n) area is = cc
 listing_not_busy (listing.NoParent n) area is = cc
@@ -127,22 +127,22 @@ no_bundle_fault (bundle.BadKind path) is = cc
 no_bundle_fault bundle.BundleFault is = cc
 no_bundle_fault bundle.NoMemory is = cc
 
-refused_fault : {observed : Bool} {source : Source} {e : StoreError} {a b : DirAt} → IsRefused observed source e a b → e ≡ store_error.DirFault → Rose a.faults b.faults
+refused_fault : {observed : Bool} {source : Source} {e : StoreError} {a b : DirAt} → IsImportRefused observed source e a b → e ≡ store_error.DirFault → Rose a.faults b.faults
 refused_fault {observed} {source} {e} (inl x) is = no_bundle_fault x.0 (sym x.1 ∙ is)
 refused_fault {observed} {source} {e} (inr x) is = x.2.fault is
 
-pub fault_cause : {observed : Bool} {source : Source} {e : StoreError} {a b : DirAt} (r : Refusal) → IsRefused observed source e a b → IsSaidOf e r → r ≡ DirFault → Rose a.faults b.faults
+pub fault_cause : {observed : Bool} {source : Source} {e : StoreError} {a b : DirAt} (r : Refusal) → IsImportRefused observed source e a b → IsSaidOf e r → r ≡ DirFault → Rose a.faults b.faults
 fault_cause {observed} {source} {e} r refused said is = refused_fault refused (said_fault e r said is)
 
-pub printed_allowed : (o : Outcome) (text : List ℕ) → (o ≡ Ok text) ⊎ (o ≡ Err NoMemory) → IfErr o (λ r. image_import_refusal r ≡ true)
-printed_allowed o text (inl e) = subst (λ (x : Outcome). IfErr x (λ r. image_import_refusal r ≡ true)) (sym e) tt
-printed_allowed o text (inr e) = subst (λ (x : Outcome). IfErr x (λ r. image_import_refusal r ≡ true)) (sym e) refl
+pub printed_allowed : (o : CommandOutcome) (text : List ℕ) → (o ≡ Ok text) ⊎ (o ≡ Err NoMemory) → IfErr o (λ r. image_import_refusal r ≡ true)
+printed_allowed o text (inl e) = subst (λ (x : CommandOutcome). IfErr x (λ r. image_import_refusal r ≡ true)) (sym e) tt
+printed_allowed o text (inr e) = subst (λ (x : CommandOutcome). IfErr x (λ r. image_import_refusal r ≡ true)) (sym e) refl
 
 abbrev pub is_memory : Refusal → Bool
 is_memory NoMemory = true
 is_memory r = false
 
-pub printed_no_error : (o : Outcome) (text : List ℕ) (r : Refusal) {X : Type 0} → (o ≡ Ok text) ⊎ (o ≡ Err NoMemory) → IsErrOf o r → is_memory r ≡ false → X
+pub printed_no_error : (o : CommandOutcome) (text : List ℕ) (r : Refusal) {X : Type 0} → (o ≡ Ok text) ⊎ (o ≡ Err NoMemory) → IsErrOf o r → is_memory r ≡ false → X
 printed_no_error o text r (inl e) is other = let clash : Ok text ≡ Err r = sym e ∙ is in cc
 printed_no_error o text r (inr e) is other = let same : Err NoMemory ≡ Err r = sym e ∙ is in let m : NoMemory ≡ r = cc in let clash : true ≡ false = ap is_memory m ∙ other in cc
 
@@ -154,47 +154,47 @@ module _ (observed : Bool) (a b : DirAt) where
   new = seen_at observed b
 
   -- by what is seen of the directory
-  seen_span : Span observed (shown_at old) a b (shown_at new)
+  seen_span : Span observed (dir_at_moment old) a b (dir_at_moment new)
   seen_span = record {
     part = λ t. record { earlier = []; later = []; same = refl; begins = sym (append-nil a.trace); ends = sym (append-nil b.trace) };
     before = omega arith;
     after = omega arith;
   }
 
-  at_begin : (intent : Intent) → Knows (shown_at old) (begun intent) → Knows a (at_work intent [] false None)
+  at_begin : (intent : Intent) → Knows (dir_at_moment old) (seen_at_begin intent) → Knows a (seen_importing intent [] false None)
   at_begin intent k = record { tied = k.tied; handles = k.handles }
 
   -- it keeps the local rules
-  leaves_keeps : (draw : PodId) (now : ℕ) (image : BundleImage) (intent : Intent) (hs : List Held) (answer : Result Bool StoreError) → Leaves draw now image intent hs answer a b → KeepsRules new
+  leaves_keeps : (draw : PodId) (now : ℕ) (image : BundleImage) (intent : Intent) (hs : List Held) (answer : Result Bool StoreError) → ImportLeaves draw now image intent hs answer a b → KeepsRules new
   leaves_keeps draw now image intent hs (Ok false) l = record { known = _; knows = record { tied = l.knows.tied; handles = l.knows.handles }; kept = refl }
   leaves_keeps draw now image intent hs (Ok true) l = record { known = _; knows = record { tied = l.knows.tied; handles = l.knows.handles }; kept = refl }
   leaves_keeps draw now image intent hs (Err e) l = record { known = _; knows = record { tied = l.knows.tied; handles = l.knows.handles }; kept = refl }
 
-  pub import_keeps : (source : Source) (draw : PodId) (now : ℕ) (answer : Result Imported StoreError) → From draw IsAlone false None a (λ intent hs. LeavesAtEnd source draw now intent hs answer a b) →
-      (intent : Intent) → IsImport draw intent → Knows (shown_at old) (begun intent) → KeepsRules new
+  pub import_keeps : (source : Source) (draw : PodId) (now : ℕ) (answer : Result Imported StoreError) → WhereImporting draw IsAlone false None a (λ intent hs. LeavesAtEnd source draw now intent hs answer a b) →
+      (intent : Intent) → IsImport draw intent → Knows (dir_at_moment old) (seen_at_begin intent) → KeepsRules new
   import_keeps source draw now (Ok done) left intent is k = let l = left intent [] is refl (at_begin intent k) in leaves_keeps draw now l.0 intent [] (Ok done.there) l.2
   import_keeps source draw now (Err e) left intent is k =
       let l = left intent [] is refl (at_begin intent k) in
-      record { known = at_work intent [] l.stored l.making; knows = record { tied = l.knows.tied; handles = l.knows.handles }; kept = refl }
+      record { known = seen_importing intent [] l.stored l.making; knows = record { tied = l.knows.tied; handles = l.knows.handles }; kept = refl }
 
   module _ (path : List ℕ) (now : ℕ) (draw : PodId) (before after : BundleSeen) where
     abbrev source : Source
     source = source_of path before
 
-    abbrev Says : Outcome → Type 0
+    abbrev Says : CommandOutcome → Type 0
     Says o = ImageImportSays path now draw (beside old before) (beside new after) o
 
     abbrev Still : Result Imported StoreError → Type 0
     Still answer = observed ≡ true → MovesAtEnd (building_spot draw) answer a b
 
     abbrev There : Imported → Type 0
-    There done = OfBundle source (λ image. (done.key ≡ key_of image) × (done.there ≡ true → observed ≡ true → WasThere (key_of image) (digest_of image) a b))
+    There done = OfBundle source (λ image. (done.key ≡ key_of_image image) × (done.there ≡ true → observed ≡ true → WasThere (key_of_image image) (digest_of image) a b))
 
     abbrev Brought : Imported → Type 0
-    Brought done = done.there ≡ false → observed ≡ true → IsConforming b.trace → From draw IsAlone false None a
-        (λ intent hs. OfBundle source (λ image. (done.key ≡ key_of image) × IsImported a.process (building_spot draw) (image_spot done.key) (IsOf image now) a.trace b.trace))
+    Brought done = done.there ≡ false → observed ≡ true → IsConforming b.trace → WhereImporting draw IsAlone false None a
+        (λ intent hs. OfBundle source (λ image. (done.key ≡ key_of_image image) × IsImported a.process (building_spot draw) (image_spot done.key) (IsOf image now) a.trace b.trace))
 
-    stored : (done : Imported) → There done → Brought done → Still (Ok done) → observed ≡ true → IsConforming b.trace → (intent : Intent) → IsImport draw intent → Knows (shown_at old) (begun intent) →
+    stored : (done : Imported) → There done → Brought done → Still (Ok done) → observed ≡ true → IsConforming b.trace → (intent : Intent) → IsImport draw intent → Knows (dir_at_moment old) (seen_at_begin intent) →
         StoresImage path now draw (beside old before) (beside new after) (key_line done.key)
     stored done there brought still t conforming intent is k = by done.there refl
       where
@@ -204,18 +204,18 @@ module _ (observed : Bool) (a b : DirAt) where
             let x = brought at t conforming intent [] is refl (at_begin intent k) in
             (x.0, x.1, (ap key_line x.2.0, inr (subst (λ (key : StoreKey). IsImported a.process (building_spot draw) (image_spot key) (IsOf x.0 now) a.trace b.trace) x.2.0 x.2.1)))
 
-    pub printed_says : (done : Imported) (o : Outcome) → (o ≡ Ok (key_line done.key)) ⊎ (o ≡ Err NoMemory) → There done → Brought done → Still (Ok done) → Says o
+    pub printed_says : (done : Imported) (o : CommandOutcome) → (o ≡ Ok (key_line done.key)) ⊎ (o ≡ Err NoMemory) → There done → Brought done → Still (Ok done) → Says o
     printed_says done o (inl e) there brought still = subst Says (sym e) (record {
       key = (there.0, there.1, ap key_line there.2.0);
       stores = λ t conforming intent is k. stored done there brought still t conforming intent is k;
     })
     printed_says done o (inr e) there brought still = subst Says (sym e) tt
 
-    refusal_says : (r : Refusal) → RefusesImage path (beside old before) (beside new after) r × IsHeldFrom draw r old new → Says (Err r)
+    refusal_says : (r : Refusal) → RefusesImage path (beside old before) (beside new after) r × IsHeldFromImport draw r old new → Says (Err r)
     refusal_says NoMemory x = tt
     refusal_says r x = x
 
-    pub refused_says : (e : StoreError) (r : Refusal) → IsSaidOf e r → IsRefused observed source e a b → ComesInTurn observed source e a b → Still (Err e) → (observed ≡ true → From draw IsAlone false None a (λ intent hs. BusyElsewhere e a b)) → Says (Err r)
+    pub refused_says : (e : StoreError) (r : Refusal) → IsSaidOf e r → IsImportRefused observed source e a b → RefusalComesInTurn observed source e a b → Still (Err e) → (observed ≡ true → WhereImporting draw IsAlone false None a (λ intent hs. ImportBusyElsewhere e a b)) → Says (Err r)
     refused_says e r (inr is) refused turn still another = subst (λ (x : Refusal). Says (Err x)) (sym is) tt
     refused_says e r (inl is) refused turn still another = refusal_says r (
       record { error = e; is = is; cause = refused_wider seen_span source e refused; turn = turn_wider seen_span source e turn; still = still },

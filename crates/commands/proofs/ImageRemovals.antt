@@ -13,34 +13,34 @@ use Rattle.dir_files.specs.AreaLocks.{IsBusyElsewhere}
 use Rattle.image_reading.specs.declared.error.StoreError.{StoreError}
 use Rattle.image_reading.specs.declared.error.StoreError.TheVariants as store_error
 use Rattle.image_removal.specs.declared.pass.SweepLine.{SweepLine}
-use Rattle.image_removal.specs.Causes.{RemoveCause, WorkCause, WasBusy, BusyElsewhere}
-use Rattle.image_removal.specs.Sweeps.{BusyApart, IsSweptBetween, HasTriedBetween}
-use Rattle.image_removal.specs.Work.{MayRemove, MaySweep}
+use Rattle.image_removal.specs.Causes.{ImageRemovalCause, RemovalWorkCause, WasBusy, RemovalBusyElsewhere}
+use Rattle.image_removal.specs.Sweeps.{BusyApart, IsStoreSweptBetween, HasTriedBetween}
+use Rattle.image_removal.specs.Work.{MayRemoveImage, MaySweepStore}
 use Rattle.command_outcomes.specs.declared.refusal.Refusal.{Refusal}
 use Rattle.command_outcomes.specs.declared.refusal.Refusal.TheVariants.{NoMemory}
-use Rattle.command_outcomes.specs.Moments.{Outcome}
-use Rattle.command_outcomes.specs.Conforming.{shown_at}
-use Rattle.commands.specs.ImageRm.{removal_refusal, IsRemovalSaid, FindsBusy, ImageRmSays}
+use Rattle.command_outcomes.specs.Moments.{CommandOutcome}
+use Rattle.command_outcomes.specs.Conforming.{dir_at_moment}
+use Rattle.commands.specs.ImageRm.{refusal_of_removal, IsRemovalSaid, FindsBusy, ImageRmSays}
 use Rattle.commands.specs.ImageGc.{sweep_texts, ImageGcSays, EndsEarly}
-use Rattle.image_removal.specs.Ended.{EndsSweepBetween}
+use Rattle.image_removal.specs.Ended.{EndsImageSweepBetween}
 use Rattle.commands.specs.Strays.{NeverComes}
 use Rattle.command_outcomes.proofs.Seen.{seen_at}
 
 -- why an image wasn't removed, and what is said of it
 module _ (observed : Bool) (a b : DirAt) (key : StoreKey) (draw : PodId) where
-  abbrev Says : Outcome → Type 0
+  abbrev Says : CommandOutcome → Type 0
   Says o = ImageRmSays key draw (seen_at observed a) (seen_at observed b) o
 
   abbrev Another : StoreError → Type 0
-  Another e = observed ≡ true → (s : Seen) → Knows a s → MayRemove draw s → BusyElsewhere e a b
+  Another e = observed ≡ true → (s : Seen) → Knows a s → MayRemoveImage draw s → RemovalBusyElsewhere e a b
 
   abbrev Lawful : StoreError → Type 0
-  Lawful e = e ≡ store_error.Stray → observed ≡ true → (s : Seen) → Knows a s → MayRemove draw s → NeverComes b.trace
+  Lawful e = e ≡ store_error.Stray → observed ≡ true → (s : Seen) → Knows a s → MayRemoveImage draw s → NeverComes b.trace
 
-  said : (e : StoreError) → RemoveCause observed key draw e a b → Another e → Lawful e → Says (Err (removal_refusal e))
+  said : (e : StoreError) → ImageRemovalCause observed key draw e a b → Another e → Lawful e → Says (Err (refusal_of_removal e))
   said (store_error.Busy area) cause another lawful = λ t s k may. by area (cause.busy area refl) t s k may another
     where
-      by : (here : Area) → (here ≡ Images) × (observed ≡ true → WasBusy a b) → observed ≡ true → (s : Seen) → Knows (shown_at (seen_at observed a)) s → MayRemove draw s → Another (store_error.Busy here) →
+      by : (here : Area) → (here ≡ Images) × (observed ≡ true → WasBusy a b) → observed ≡ true → (s : Seen) → Knows (dir_at_moment (seen_at observed a)) s → MayRemoveImage draw s → Another (store_error.Busy here) →
           FindsBusy a.process a.trace b.trace
       by here x t s k may another = record {
         held = subst (λ (q : Area). HeldBetween a b (IsBusyElsewhere a.process q Exclusive)) x.0 (another t s (record { tied = k.tied; handles = k.handles }) may here refl);
@@ -52,28 +52,28 @@ module _ (observed : Bool) (a b : DirAt) (key : StoreKey) (draw : PodId) where
   said store_error.Stray cause another lawful = (λ t. cause.stray refl t, λ t s k may. lawful refl t s (record { tied = k.tied; handles = k.handles }) may)
   said e cause another lawful = let clash : false ≡ true = cause.kind in cc
 
-  pub refused_says : (e : StoreError) (r : Refusal) → IsRemovalSaid e r → RemoveCause observed key draw e a b → Another e → Lawful e → Says (Err r)
+  pub refused_says : (e : StoreError) (r : Refusal) → IsRemovalSaid e r → ImageRemovalCause observed key draw e a b → Another e → Lawful e → Says (Err r)
   refused_says e r (inr is) cause another lawful = subst (λ (x : Refusal). Says (Err x)) (sym is) tt
   refused_says e r (inl is) cause another lawful = subst (λ (x : Refusal). Says (Err x)) (sym is) (said e cause another lawful)
 
 -- what a sweep printed, or why it ended early
 module _ (observed : Bool) (a b : DirAt) where
-  abbrev SweepSays : Outcome → Type 0
+  abbrev SweepSays : CommandOutcome → Type 0
   SweepSays o = ImageGcSays (seen_at observed a) (seen_at observed b) o
 
-  pub swept_says : (lines : List SweepLine) (o : Outcome) → (o ≡ Ok (sweep_texts lines)) ⊎ (o ≡ Err NoMemory) →
-      (observed ≡ true → (s : Seen) → Knows a s → MaySweep s → IsSweptBetween (BusyApart a.process) a b lines) → SweepSays o
+  pub swept_says : (lines : List SweepLine) (o : CommandOutcome) → (o ≡ Ok (sweep_texts lines)) ⊎ (o ≡ Err NoMemory) →
+      (observed ≡ true → (s : Seen) → Knows a s → MaySweepStore s → IsStoreSweptBetween (BusyApart a.process) a b lines) → SweepSays o
   swept_says lines o (inr e) swept = subst SweepSays (sym e) tt
   swept_says lines o (inl e) swept = subst SweepSays (sym e) (record { lines = lines; is = refl; swept = λ t s k may. swept t s (record { tied = k.tied; handles = k.handles }) may })
 
   abbrev SweepLawful : StoreError → Type 0
-  SweepLawful e = e ≡ store_error.Stray → observed ≡ true → (s : Seen) → Knows a s → MaySweep s → NeverComes b.trace
+  SweepLawful e = e ≡ store_error.Stray → observed ≡ true → (s : Seen) → Knows a s → MaySweepStore s → NeverComes b.trace
 
-  early : (e : StoreError) → WorkCause observed e a b → (observed ≡ true → EndsEarly a.process a.trace b.trace) → SweepLawful e → SweepSays (Err (removal_refusal e))
+  early : (e : StoreError) → RemovalWorkCause observed e a b → (observed ≡ true → EndsEarly a.process a.trace b.trace) → SweepLawful e → SweepSays (Err (refusal_of_removal e))
   early store_error.DirFault cause ends lawful = ends
   early store_error.NoMemory cause ends lawful = tt
   early store_error.Stray cause ends lawful = (λ t. record { stray = cause.stray refl t; early = ends t }, λ t s k may. lawful refl t s (record { tied = k.tied; handles = k.handles }) may)
   early e cause ends lawful = let clash : false ≡ true = cause.kind in cc
 
-  pub early_says : (e : StoreError) (r : Refusal) → r ≡ removal_refusal e → WorkCause observed e a b → (observed ≡ true → HasTriedBetween a b) → (observed ≡ true → EndsSweepBetween a b) → SweepLawful e → SweepSays (Err r)
+  pub early_says : (e : StoreError) (r : Refusal) → r ≡ refusal_of_removal e → RemovalWorkCause observed e a b → (observed ≡ true → HasTriedBetween a b) → (observed ≡ true → EndsImageSweepBetween a b) → SweepLawful e → SweepSays (Err r)
   early_says e r is cause tried ended lawful = subst (λ (x : Refusal). SweepSays (Err x)) (sym is) (early e cause (λ t. record { tried = tried t; ended = ended t }) lawful)

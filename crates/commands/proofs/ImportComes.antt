@@ -5,11 +5,11 @@ use Rattle.dir_model.specs.Calls.{Extends}
 use Rattle.dir_model.specs.Quiet.{Quiet}
 use Rattle.lifecycle.specs.Executions.{IsConforming}
 use Rattle.bundle_image.specs.declared.image.BundleImage.{BundleImage}
-use Rattle.image_store.specs.Imports.{key_of, digest_of}
+use Rattle.image_store.specs.Imports.{key_of_image, digest_of}
 use Rattle.image_store.specs.Requests.{building_spot}
 use Rattle.command_outcomes.specs.declared.refusal.Refusal.{Refusal}
 use Rattle.command_outcomes.specs.Moments.{DirSeen, Outside}
-use Rattle.command_outcomes.specs.Conforming.{shown_at}
+use Rattle.command_outcomes.specs.Conforming.{dir_at_moment}
 use Rattle.commands.specs.ImageImport.{IsStored, ComesStored, RefusesImage, RefusesQuietly}
 use Rattle.commands.proofs.ImagesKept.{image_held, none_held}
 use Rattle.commands.proofs.ImportQuiet.{is_modest}
@@ -22,7 +22,7 @@ module _ (draw : PodId) (old new : DirSeen) (ext : Extends (is_modest (building_
   pub comes_stored : IsConforming new.trace → (image : BundleImage) (now : ℕ) → IsStored image now draw old new → ComesStored image now old new
   comes_stored conforming image now (inl x) =
       let stay = import_stays draw ext quiet x.1 in
-      inl (x.0, digest_before (shown_at old) (shown_at new) stay (key_of image) (digest_of image) x.0, stays_to_end old.trace new.trace ext.more stay ext.grown)
+      inl (x.0, digest_before (dir_at_moment old) (dir_at_moment new) stay (key_of_image image) (digest_of image) x.0, stays_to_end old.trace new.trace ext.more stay ext.grown)
   comes_stored conforming image now (inr came) = inr (none_held draw ext quiet conforming image now came, image_held draw ext quiet conforming image now came)
 
 -- and the refusals

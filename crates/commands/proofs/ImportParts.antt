@@ -13,9 +13,9 @@ use Rattle.dir_trait.specs.DirCalls.{DirAt}
 use Rattle.dir_files.specs.AreaLocks.{IsBusy}
 use Rattle.tree_digest.specs.declared.line.ListingLine.{ListingLine}
 use Rattle.image_reading.specs.declared.error.StoreError.{StoreError}
-use Rattle.image_reading.specs.Places.{IsAbsent}
-use Rattle.image_store.specs.Causes.{Source, LacksPart, UnlikeListed, Conflicts, StrayCause, DamagedInTurn, ImportCause}
-use Rattle.image_store.specs.Imports.{key_of, IsRefused, ComesInTurn, IsImported}
+use Rattle.image_reading.specs.Places.{IsImageAbsent}
+use Rattle.image_store.specs.Causes.{Source, FindsLackingPart, UnlikeListed, Conflicts, StrayCause, DamagedInTurn, ImportCause}
+use Rattle.image_store.specs.Imports.{key_of_image, IsImportRefused, RefusalComesInTurn, IsImported}
 use Rattle.commands.proofs.Parts.{Part, within_wider, held_wider}
 
 -- the time between the inner two moments is a part of that between the outer two, and the count of faults never fell
@@ -54,7 +54,7 @@ module _ {observed : Bool} {old first last new : DirAt} (s : Span observed old f
   conflict_wider : {key other : StoreKey} {digest stored fresh : List ℕ} → Conflicts observed key other digest stored fresh first last → Conflicts observed key other digest stored fresh old new
   conflict_wider {key} {other} {digest} {stored} {fresh} x = record { key_is = x.key_is; new_is = x.new_is; differ = x.differ; there = λ t. within_wider (s.part t) (x.there t) }
 
-  damage_wider : (key : StoreKey) (path : List ℕ) (lines : List ListingLine) (source : Source) → LacksPart observed key path first last ⊎ UnlikeListed source lines path → LacksPart observed key path old new ⊎ UnlikeListed source lines path
+  damage_wider : (key : StoreKey) (path : List ℕ) (lines : List ListingLine) (source : Source) → FindsLackingPart observed key path first last ⊎ UnlikeListed source lines path → FindsLackingPart observed key path old new ⊎ UnlikeListed source lines path
   damage_wider key path lines source (inl l) = inl (λ t. within_wider (s.part t) (l t))
   damage_wider key path lines source (inr u) = inr u
 
@@ -68,16 +68,16 @@ module _ {observed : Bool} {old first last new : DirAt} (s : Span observed old f
     stray = λ is t. stray_wider (s.part t) (x.stray is t);
   }
 
-  pub refused_wider : (source : Source) (e : StoreError) → IsRefused observed source e first last → IsRefused observed source e old new
+  pub refused_wider : (source : Source) (e : StoreError) → IsImportRefused observed source e first last → IsImportRefused observed source e old new
   refused_wider source e (inl x) = inl x
   refused_wider source e (inr x) = inr (x.0, x.1, cause_wider x.2)
 
   in_turn_wider : {source : Source} {key : StoreKey} {lines : List ListingLine} {path : List ℕ} → DamagedInTurn observed source key lines path first last → DamagedInTurn observed source key lines path old new
   in_turn_wider {key = key} (inl l) = inl (λ t. within_wider (s.part t) (l t))
-  in_turn_wider {key = key} (inr x) = inr (x.0, record { absent = λ t. held_wider (s.part t) (IsAbsent key) (x.1.absent t); locked = λ t. within_wider (s.part t) (x.1.locked t) })
+  in_turn_wider {key = key} (inr x) = inr (x.0, record { absent = λ t. held_wider (s.part t) (IsImageAbsent key) (x.1.absent t); locked = λ t. within_wider (s.part t) (x.1.locked t) })
 
-  pub turn_wider : (source : Source) (e : StoreError) → ComesInTurn observed source e first last → ComesInTurn observed source e old new
+  pub turn_wider : (source : Source) (e : StoreError) → RefusalComesInTurn observed source e first last → RefusalComesInTurn observed source e old new
   turn_wider source e turn = record {
-    late = λ late. let x = turn.late late in (x.0, x.1, λ t. held_wider (s.part t) (IsAbsent (key_of x.0)) (x.2 t));
+    late = λ late. let x = turn.late late in (x.0, x.1, λ t. held_wider (s.part t) (IsImageAbsent (key_of_image x.0)) (x.2 t));
     damaged = λ path is. let x = turn.damaged path is in (x.0, x.1, in_turn_wider x.2);
   }

@@ -17,15 +17,15 @@ use Rattle.bundle_image.specs.declared.refusal.BundleRefusal.TheVariants as bund
 use Rattle.image_reading.specs.declared.error.StoreError.{StoreError}
 use Rattle.image_reading.specs.declared.error.StoreError.TheVariants as store_error
 use Rattle.image_store.specs.Causes.{Source, Conflicts, DamagedInTurn}
-use Rattle.image_store.specs.Imports.{key_of, digest_of, IsRefused, ComesInTurn}
+use Rattle.image_store.specs.Imports.{key_of_image, digest_of, IsImportRefused, RefusalComesInTurn}
 use Rattle.image_store.specs.Refusals.{bundle_refusal}
 use Rattle.image_store.proofs.Lawful.{never_stray}
 use Rattle.standing_images.specs.Images.{ImagesStay}
 use Rattle.command_outcomes.specs.declared.refusal.Refusal.{Refusal}
 use Rattle.command_outcomes.specs.declared.refusal.Refusal.TheVariants.{Stray}
 use Rattle.command_outcomes.specs.Moments.{Outside}
-use Rattle.command_outcomes.specs.Conforming.{shown_at}
-use Rattle.commands.specs.ImageImport.{import_refusal, listing_refusal, source_of, RefusesImage}
+use Rattle.command_outcomes.specs.Conforming.{dir_at_moment}
+use Rattle.commands.specs.ImageImport.{import_refusal, import_listing_refusal, source_of, RefusesImage}
 use Rattle.commands.specs.ImageImportTable.{StandsOther, StandsDamaged, RefusesByStanding}
 use Rattle.commands.proofs.ImportStanding.{digest_before, damage_before, none_before}
 
@@ -43,22 +43,22 @@ module _ (source : Source) (old new : DirAt) (stay : ImagesStay old.trace new.tr
   abbrev before : DirState
   before = state_after old.trace
 
-  other : (image : BundleImage) (key : StoreKey) (stored fresh : List ℕ) → Conflicts true (key_of image) key (digest_of image) stored fresh old new →
+  other : (image : BundleImage) (key : StoreKey) (stored fresh : List ℕ) → Conflicts true (key_of_image image) key (digest_of image) stored fresh old new →
       StandsOther image (id_text key.bytes) (encode_lower stored) (encode_lower fresh) before
   other image key stored fresh x = record {
     digest = stored;
-    there = digest_before old new stay (key_of image) stored (x.there refl);
+    there = digest_before old new stay (key_of_image image) stored (x.there refl);
     differs = x.differ;
     key_is = ap (λ (k : StoreKey). id_text k.bytes) x.key_is;
     stored_is = refl;
     fresh_is = ap encode_lower x.new_is;
   }
 
-  damaged : (image : BundleImage) (path : List ℕ) → DamagedInTurn true source (key_of image) image.listing path old new → StandsDamaged source image path before
-  damaged image path (inl lacks) = inl (damage_before old new stay (key_of image) path (lacks refl))
-  damaged image path (inr x) = inr (none_before old new stay (key_of image) (x.1.absent refl), x.0)
+  damaged : (image : BundleImage) (path : List ℕ) → DamagedInTurn true source (key_of_image image) image.listing path old new → StandsDamaged source image path before
+  damaged image path (inl lacks) = inl (damage_before old new stay (key_of_image image) path (lacks refl))
+  damaged image path (inr x) = inr (none_before old new stay (key_of_image image) (x.1.absent refl), x.0)
 
-  listing_stands : (e : ListingError) → RefusesByStanding source (listing_refusal e) before
+  listing_stands : (e : ListingError) → RefusesByStanding source (import_listing_refusal e) before
   listing_stands (listing.BadLine n) = tt
   listing_stands (listing.NotSorted n) = tt
   listing_stands (listing.NoParent n) = tt
@@ -66,17 +66,17 @@ module _ (source : Source) (old new : DirAt) (stay : ImagesStay old.trace new.tr
   listing_stands (listing.FileTooLong n) = tt
   listing_stands listing.NoMemory = tt
 
-  conflict_stands : (key : StoreKey) (stored fresh : List ℕ) → IsRefused true source (store_error.IdConflict key stored fresh) old new →
+  conflict_stands : (key : StoreKey) (stored fresh : List ℕ) → IsImportRefused true source (store_error.IdConflict key stored fresh) old new →
       RefusesByStanding source (import_refusal (store_error.IdConflict key stored fresh)) before
   conflict_stands key stored fresh (inl r) = absurd (no_conflict r.0 key stored fresh r.1)
   conflict_stands key stored fresh (inr x) = (x.0, x.1, other x.0 key stored fresh (x.2.conflict key stored fresh refl))
 
-  busy_stands : (area : Area) → ComesInTurn true source (store_error.Busy area) old new → RefusesByStanding source (import_refusal (store_error.Busy area)) before
-  busy_stands Incoming turn = let x = turn.late refl in (x.0, x.1, none_before old new stay (key_of x.0) (x.2 refl))
+  busy_stands : (area : Area) → RefusalComesInTurn true source (store_error.Busy area) old new → RefusesByStanding source (import_refusal (store_error.Busy area)) before
+  busy_stands Incoming turn = let x = turn.late refl in (x.0, x.1, none_before old new stay (key_of_image x.0) (x.2 refl))
   busy_stands area turn = tt
 
   -- what is said of the store, by the error
-  pub error_stands : (e : StoreError) → IsRefused true source e old new → ComesInTurn true source e old new → RefusesByStanding source (import_refusal e) before
+  pub error_stands : (e : StoreError) → IsImportRefused true source e old new → RefusalComesInTurn true source e old new → RefusesByStanding source (import_refusal e) before
   error_stands (store_error.IdConflict key stored fresh) refused turn = conflict_stands key stored fresh refused
   error_stands (store_error.Damaged path) refused turn = let x = turn.damaged path refl in (x.0, x.1, damaged x.0 path x.2)
   error_stands (store_error.Busy area) refused turn = busy_stands area turn
@@ -89,12 +89,12 @@ pub refusal_stands : (path : List ℕ) (old new : Outside) (refusal : Refusal) �
 refusal_stands path old new refusal t stay x =
     let source = source_of path old.bundle in
     subst (λ (r : Refusal). RefusesByStanding source r (state_after old.dir.trace)) (sym x.is)
-    (error_stands source (shown_at old.dir) (shown_at new.dir) stay x.error
-    (subst (λ (observed : Bool). IsRefused observed source x.error (shown_at old.dir) (shown_at new.dir)) t x.cause)
-    (subst (λ (observed : Bool). ComesInTurn observed source x.error (shown_at old.dir) (shown_at new.dir)) t x.turn))
+    (error_stands source (dir_at_moment old.dir) (dir_at_moment new.dir) stay x.error
+    (subst (λ (observed : Bool). IsImportRefused observed source x.error (dir_at_moment old.dir) (dir_at_moment new.dir)) t x.cause)
+    (subst (λ (observed : Bool). RefusalComesInTurn observed source x.error (dir_at_moment old.dir) (dir_at_moment new.dir)) t x.turn))
 
 -- and of the answers
-listing_calm : (e : ListingError) {X : Type 0} → Stray ≡ listing_refusal e → X
+listing_calm : (e : ListingError) {X : Type 0} → Stray ≡ import_listing_refusal e → X
 listing_calm (listing.BadLine n) is = cc
 listing_calm (listing.NotSorted n) is = cc
 listing_calm (listing.NoParent n) is = cc
@@ -102,7 +102,7 @@ listing_calm (listing.TooMany limit) is = cc
 listing_calm (listing.FileTooLong n) is = cc
 listing_calm listing.NoMemory is = cc
 
-stray_of : (e : StoreError) → Stray ≡ import_refusal e → e ≡ store_error.Stray
+pub stray_of : (e : StoreError) → Stray ≡ import_refusal e → e ≡ store_error.Stray
 stray_of store_error.Stray is = refl
 stray_of (store_error.ListingError e) is = listing_calm e is
 stray_of e is = cc

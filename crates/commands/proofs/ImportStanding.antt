@@ -15,8 +15,8 @@ use Rattle.dir_model.specs.Trace.{state_after}
 use Rattle.dir_trait.specs.DirCalls.{DirAt, HeldBetween}
 use Rattle.manifests.specs.ImageData.{image_data}
 use Rattle.image_reading.specs.Within.{Within}
-use Rattle.image_reading.specs.Places.{image_inner, manifest_name, id_name, tree_name, IsAbsent, IsPresent}
-use Rattle.image_reading.specs.Files.{IsKeptOf, IsIdOf, IsListingOf, IsNoManifest, IsNoId, IsNoListing, LacksTree, most_of_manifest, most_of_id, most_of_tree}
+use Rattle.image_reading.specs.Places.{image_inner, manifest_name, id_name, tree_name, IsImageAbsent, IsPresent}
+use Rattle.image_reading.specs.Files.{IsKeptOf, IsIdOf, IsListingOf, IsNoImageManifest, IsNoId, IsNoListing, LacksTree, most_of_manifest, most_of_id, most_of_tree}
 use Rattle.image_reading.specs.Images as read
 use Rattle.image_reading.proofs.Values.{manifest_front, tree_front, no_tree_front}
 use Rattle.image_store.specs.Causes.{LacksThere, WasThere}
@@ -25,7 +25,7 @@ use Rattle.standing_images.specs.Damage.{LacksPart}
 use Rattle.standing_images.proofs.Before.{absent_before, present_before, front_before, id_before}
 use Rattle.standing_images.proofs.Damages.{lacks_file, lacks_manifest, lacks_id, has_manifest, has_id}
 use Rattle.standing_images.proofs.OneDamage.{one_part}
-use Rattle.commands.specs.ImageImportTable.{IsAnyListing, HasListing, HasDigest, IsDamagedAt, HasOneDigest, IsDamagedOnce}
+use Rattle.commands.specs.ImageImportTable.{IsAnyListing, HasListing, StandsWithDigest, IsDamagedAt, HasOneDigest, IsDamagedOnce}
 use Rattle.commands.proofs.Parts.{Part, held_wider, file_wider, lack_wider}
 
 -- one file stands at a path
@@ -40,7 +40,7 @@ one_id key a b bytes other x y same =
     let one : a.bytes ≡ b.bytes = cc in
     ap (λ (l : List ℕ). let id : ImageId = record { bytes = l } in id) one
 
-one_digest : (key : StoreKey) (a b : List ℕ) (s : DirState) → HasDigest key a s → HasDigest key b s → a ≡ b
+one_digest : (key : StoreKey) (a b : List ℕ) (s : DirState) → StandsWithDigest key a s → StandsWithDigest key b s → a ≡ b
 one_digest key a b s x y =
     let ids : x.id ≡ y.id = one_id key x.id y.id x.id_file.bytes y.id_file.bytes x.id_file.holds y.id_file.holds (one_file x.id_file y.id_file) in
     let lists : x.lines ≡ y.lines = no_two_listings_have_one_text x.lines y.lines x.listing.holds.kind.follow y.listing.holds.kind.follow
@@ -51,12 +51,12 @@ one_digest key a b s x y =
     ∙ (ap (λ (lines : List ListingLine). image_digest y.id y.manifest.bytes lines) lists ∙ sym y.is)))
 
 -- an image with a digest lacks nothing
-whole : (key : StoreKey) (digest path : List ℕ) (s : DirState) → HasDigest key digest s → LacksPart key tree_name (HasListing key s) path s → ⊥
+whole : (key : StoreKey) (digest path : List ℕ) (s : DirState) → StandsWithDigest key digest s → LacksPart key tree_name (HasListing key s) path s → ⊥
 whole key digest path s x (inl l) = l.1 x.manifest
 whole key digest path s x (inr (inl l)) = l.2 (record { bytes = x.id_file.bytes; there = x.id_file.there; holds = (x.id, x.id_file.holds) })
 whole key digest path s x (inr (inr l)) = l.3 (record { bytes = x.listing.bytes; there = x.listing.there; holds = (x.lines, x.listing.holds) })
 
-pub digest_once : (key : StoreKey) (digest : List ℕ) (s : DirState) → HasDigest key digest s → HasOneDigest key digest s
+pub digest_once : (key : StoreKey) (digest : List ℕ) (s : DirState) → StandsWithDigest key digest s → HasOneDigest key digest s
 digest_once key digest s x = record {
   is = x;
   only = λ other y. one_digest key digest other s x y;
@@ -75,7 +75,7 @@ module _ {old new : DirAt} {R : DirAt → DirAt → Type 0} (w : Within R old ne
   part_of : Part old w.first w.last new
   part_of = record { earlier = w.earlier; later = w.later; same = w.same; begins = w.begins; ends = w.ends }
 
-digest_wider : (key : StoreKey) (digest : List ℕ) {old first last new : DirAt} → Part old first last new → read.HasDigest key digest first last → read.HasDigest key digest old new
+digest_wider : (key : StoreKey) (digest : List ℕ) {old first last new : DirAt} → Part old first last new → read.ReadsDigest key digest first last → read.ReadsDigest key digest old new
 digest_wider key digest p h = record {
   there = held_wider p (IsPresent key) h.there;
   parts = record {
@@ -90,7 +90,7 @@ digest_wider key digest p h = record {
 }
 
 lacks_wider : (key : StoreKey) (path : List ℕ) {old first last new : DirAt} → Part old first last new → read.LacksInTurn key tree_name (LacksTree key) path first last → read.LacksInTurn key tree_name (LacksTree key) path old new
-lacks_wider key path p (inl l) = inl (l.0, lack_wider p (image_inner key manifest_name) most_of_manifest IsNoManifest l.1)
+lacks_wider key path p (inl l) = inl (l.0, lack_wider p (image_inner key manifest_name) most_of_manifest IsNoImageManifest l.1)
 lacks_wider key path p (inr (inl l)) = inr (inl (l.0, (l.1.0, file_wider p l.1.1), lack_wider p (image_inner key id_name) most_of_id (IsNoId key) l.2))
 lacks_wider key path p (inr (inr l)) = inr (inr (l.0, (l.1.0, file_wider p l.1.1), (l.2.0, file_wider p l.2.1), lack_wider p (image_inner key tree_name) most_of_tree IsNoListing l.3))
 
@@ -99,7 +99,7 @@ module _ (old new : DirAt) (stay : ImagesStay old.trace new.trace) (key : StoreK
   before = state_after old.trace
 
   -- the image whose digest was read
-  digest_read : (digest : List ℕ) → read.HasDigest key digest old new → HasDigest key digest before
+  digest_read : (digest : List ℕ) → read.ReadsDigest key digest old new → StandsWithDigest key digest before
   digest_read digest h =
       let kept = h.parts.kept in
       let m = front_before old new stay key manifest_name most_of_manifest (IsKeptOf kept) refl (omega arith) h.parts.manifest in
@@ -138,5 +138,5 @@ module _ (old new : DirAt) (stay : ImagesStay old.trace new.trace) (key : StoreK
   })
 
   -- and none
-  pub none_before : HeldBetween old new (IsAbsent key) → IsAbsent key before
+  pub none_before : HeldBetween old new (IsImageAbsent key) → IsImageAbsent key before
   none_before absent = absent_before old.process old.trace new.trace stay key absent

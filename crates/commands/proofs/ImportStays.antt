@@ -1,6 +1,7 @@
 -- Where nobody else steps, a process that imports an image and moves nothing into images leaves the images as they were at each moment.
 use Rattle.std.proofs.Common.{◌≡◌, ℕ, Bool, true, false, not, ◌||◌, ◌==◌, Option, List, [], ◌∷◌, ◌++◌, append_assoc, append-nil, refl, sym, ap, subst, ◌∙◌}
 use Rattle.std.specs.List.{AllByRecursion}
+use Rattle.plain_laws.proofs.Booleans.{clash}
 use Rattle.dir_model.specs.declared.area.Area.TheVariants as area
 use Rattle.dir_model.specs.declared.event.Event.{Event}
 use Rattle.dir_model.specs.declared.pod.PodId.{PodId}
@@ -18,9 +19,8 @@ use Rattle.dir_model.proofs.Lists.{all_left, or_last, not_true, same_rest, same_
 use Rattle.dir_rules.specs.Standing.{is_in}
 use Rattle.folder_contents.proofs.Places.{located}
 use Rattle.folder_contents.proofs.Spots.{one_location}
-use Rattle.lifecycle.proofs.Handles.{clash}
 use Rattle.lifecycle.proofs.Places.{made_elsewhere, moved_elsewhere}
-use Rattle.image_store.specs.Moves.{MovedNothing}
+use Rattle.image_store.specs.Moves.{MovedNoImage}
 use Rattle.image_store.specs.Requests.{building_spot, imports_at, brings_image}
 use Rattle.pod_lookup.specs.Looks.{lists_stages}
 use Rattle.standing_images.specs.Images.{SameImages, ImagesStay}
@@ -28,8 +28,7 @@ use Rattle.commands.specs.ImageImport.{is_building_place}
 use Rattle.commands.proofs.Changes.{import_changes}
 use Rattle.commands.proofs.ImportQuiet.{is_modest}
 use Rattle.commands.proofs.NextState.{trees_all}
-use Rattle.commands.proofs.OwnSteps.{in_process, own_asked}
-use Rattle.commands.proofs.PlacesKept.{same_folders}
+use Rattle.commands.proofs.OwnSteps.{in_process, own_asked, same_folders}
 
 -- a location that isn't in images is none there
 outside : (here spot : Spot) → is_in area.Images here.area ≡ false → is_in area.Images spot.area ≡ true → spot_eq here spot ≡ false
@@ -126,7 +125,7 @@ module _ (draw : PodId) where
         (apart l.0 (subst (λ (x : Spot). is_in area.Images x.area ≡ true) (sym (one_location l.0 spot l.1.1)) inside));
   }
 
-  pub import_stays : {me : ℕ} {old new : List Event} → Extends (is_modest Here) me old new → Quiet me old new → MovedNothing me old new → ImagesStay old new
+  pub import_stays : {me : ℕ} {old new : List Event} → Extends (is_modest Here) me old new → Quiet me old new → MovedNoImage me old new → ImagesStay old new
   import_stays {me} {old} {new} ext quiet moved more rest is =
       let whole : new ≡ old ++ (more ++ rest) = is ∙ append_assoc old more rest in
       let process = extends_wider modest_in_process ext in

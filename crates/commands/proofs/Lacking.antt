@@ -1,7 +1,8 @@
 -- Who makes no folder, moves folders to garbage places alone and removes files there alone, takes no manifest away in prepared.
-use Rattle.std.proofs.Common.{◌≡◌, ℕ, Bool, true, false, not, ◌&&◌, ◌||◌, ◌==◌, bytes_eq, codes, Option, Some, None, List, [], ◌∷◌, ◌++◌, option_to_list, refl, sym, ap, ◌∙◌}
-use Rattle.std.specs.List.{list_any}
+use Rattle.std.proofs.Common.{◌≡◌, ℕ, Bool, true, false, not, ◌&&◌, ◌||◌, ◌==◌, bytes_eq, codes, Option, Some, None, List, option_to_list, refl, sym, ap, ◌∙◌}
 use Rattle.std.proofs.lemmas.Bool.{eqb-true}
+use Rattle.plain_laws.proofs.Booleans.{or_nothing}
+use Rattle.plain_laws.proofs.Lists.{any_left}
 use Rattle.dir_model.specs.declared.area.Area.{Area}
 use Rattle.dir_model.specs.declared.area.Area.TheVariants as area
 use Rattle.dir_model.specs.declared.pod.PodId.{PodId}
@@ -18,22 +19,18 @@ use Rattle.dir_model.specs.Pods.{pod_text}
 use Rattle.dir_model.specs.State.{Namespace, DirState, spot_eq, folder_at}
 use Rattle.dir_model.specs.Trace.{state_next, namespace_replied, entries_kept, entry_made, removed_in}
 use Rattle.dir_model.specs.Trees.{is_file_entry, is_dir, is_within, has_file}
-use Rattle.dir_model.proofs.Lists.{and_left, or_map, any_filter}
+use Rattle.dir_model.proofs.Lists.{and_left, any_filter}
 use Rattle.dir_rules.specs.Standing.{is_garbage}
 use Rattle.lifecycle.proofs.Numbers.{one_spot}
 use Rattle.lifecycle.proofs.Places.{moved_away, moved_elsewhere, removed_there, removed_elsewhere}
 use Rattle.phase_read.specs.Read.{pod_spot}
 use Rattle.commands.proofs.OwnSteps.{in_process, same_folders}
-use Rattle.commands.proofs.LateTurns.{Late, or_false}
+use Rattle.commands.proofs.LateTurns.{Late}
 
 pub garbage_apart : (a : Area) → is_garbage a ≡ true → (rank a == rank area.Prepared) ≡ false
 garbage_apart area.ExitedGarbage is = refl
 garbage_apart area.Garbage is = refl
 garbage_apart a is = cc
-
-pub any_left : {X : Type 0} (t : X → Bool) (xs ys : List X) → list_any t xs ≡ true → list_any t (xs ++ ys) ≡ true
-any_left t [] ys h = cc
-any_left t (x ∷ xs) ys h = or_map (t x) (list_any t xs) (list_any t (xs ++ ys)) (any_left t xs ys) h
 
 unlike : (a b : Bool) → (a ≡ true → b ≡ true) → b ≡ false → a ≡ false
 unlike true b f off = let clash : true ≡ false = sym (f refl) ∙ off in cc
@@ -75,19 +72,19 @@ module _ (asks : Request → Bool) (l : Aside asks) (pod : PodId) (k : ℕ) wher
   kept_file : (s : DirState) (request : Request) (reply : Reply) → (is_kill request || in_process asks request) ≡ true → folder_at s.namespace here ≡ Some k → has_file s.entries k manifest ≡ true →
       has_file (entries_kept s.namespace s.entries request reply) k manifest ≡ true
   kept_file s (RemoveFileIn inner) Done h at is =
-      removed_other inner.path s.entries (folder_at s.namespace inner.spot) (λ f there. other_folder s.namespace inner.spot f (l.files inner (or_false _ h)) at there) is
+      removed_other inner.path s.entries (folder_at s.namespace inner.spot) (λ f there. other_folder s.namespace inner.spot f (l.files inner (or_nothing _ h)) at there) is
   kept_file s (RemoveDirIn inner) Done h at is =
-      removed_other inner.path s.entries (folder_at s.namespace inner.spot) (λ f there. other_folder s.namespace inner.spot f (l.dirs inner (or_false _ h)) at there) is
+      removed_other inner.path s.entries (folder_at s.namespace inner.spot) (λ f there. other_folder s.namespace inner.spot f (l.dirs inner (or_nothing _ h)) at there) is
   kept_file s request reply h at is = is
 
   -- its folder stood there
   module _ (me : ℕ) where
     pub folder_back : (s : DirState) (request : Request) (reply : Reply) → (is_kill request || in_process asks request) ≡ true → folder_at (namespace_replied s.namespace me request reply) here ≡ Some k → folder_at s.namespace here ≡ Some k
-    folder_back s (MakeFolder spot) reply h at = absurd (l.late.makes spot (or_false (asks (MakeFolder spot)) h))
+    folder_back s (MakeFolder spot) reply h at = absurd (l.late.makes spot (or_nothing (asks (MakeFolder spot)) h))
     folder_back s (MoveFolder from to) Done h at = by (spot_eq from here) refl
       where
         off : spot_eq to here ≡ false
-        off = ap (λ b. b && bytes_eq to.name (pod_text pod.bytes)) (garbage_apart to.area (l.late.moves from to (or_false (asks (MoveFolder from to)) h)))
+        off = ap (λ b. b && bytes_eq to.name (pod_text pod.bytes)) (garbage_apart to.area (l.late.moves from to (or_nothing (asks (MoveFolder from to)) h)))
 
         by : (b : Bool) → spot_eq from here ≡ b → folder_at s.namespace here ≡ Some k
         by true is = let clash : None ≡ Some k = sym (moved_away s.namespace here from to off is) ∙ at in cc

@@ -1,5 +1,7 @@
 -- A process that removes or sweeps pods doesn't bring a pod to a phase in which somebody makes it, runs it or has made it.
 use Rattle.std.proofs.Common.{◌≡◌, ◌⊎◌, inl, inr, ℕ, Bool, true, false, not, ◌&&◌, ◌||◌, ◌==◌, cond, bytes_eq, Option, Some, None, List, refl, sym, ap, subst, ◌∙◌}
+use Rattle.plain_laws.proofs.Texts.{same_bytes}
+use Rattle.plain_laws.proofs.Booleans.{or_nothing}
 use Rattle.dir_model.specs.declared.area.Area.{Area}
 use Rattle.dir_model.specs.declared.area.Area.TheVariants as area
 use Rattle.dir_model.specs.declared.event.Event.{Event}
@@ -16,13 +18,12 @@ use Rattle.dir_model.specs.Pods.{pod_text}
 use Rattle.dir_model.specs.Quiet.{Quiet}
 use Rattle.dir_model.specs.State.{Namespace, spot_eq}
 use Rattle.dir_model.proofs.Lists.{and_left, and_right, same_self}
-use Rattle.dir_rules.proofs.Looks.{same_bytes}
-use Rattle.dir_rules.specs.Standing.{is_of, is_in, is_garbage}
+use Rattle.dir_rules.specs.Standing.{is_spot_of_pod, is_in, is_garbage}
 use Rattle.lifecycle.specs.declared.machine.PodState.{PodState}
 use Rattle.lifecycle.specs.declared.machine.PodState.TheVariants as state
 use Rattle.lifecycle.specs.declared.machine.Transition.{Transition}
 use Rattle.lifecycle.specs.declared.machine.Transition.TheVariants as turn
-use Rattle.lifecycle.specs.PodMachine.{pod_state, turned, enabled, leads, if_so, arrival, transition, undeleted}
+use Rattle.lifecycle.specs.PodMachine.{pod_state, after_transition, enabled, leads, transition_if, arrival, transition, undeleted}
 use Rattle.lifecycle.proofs.Makes.{of_same}
 use Rattle.phase_read.specs.Exact.{AtOwnEvent}
 use Rattle.phase_read.specs.Read.{pod_spot, is_pod_spot}
@@ -30,10 +31,6 @@ use Rattle.pod_gc.specs.RemovalRequests.{removes, goes_aside}
 use Rattle.pod_gc.specs.Requests.{sweeps}
 use Rattle.commands.specs.RemovalQuiet.{is_pods_place}
 use Rattle.commands.proofs.OwnSteps.{in_process, history_back}
-
-pub or_false : (b : Bool) → (b || false) ≡ true → b ≡ true
-or_false true h = refl
-or_false false h = cc
 
 pub or_either : (b c : Bool) → (b || c) ≡ true → (b ≡ true) ⊎ (c ≡ true)
 or_either true c h = inl refl
@@ -79,7 +76,7 @@ late_passes turn.End me (state.Deleting owner from) late is = ended_passes me fr
 late_passes turn.End me x late is = cc
 late_passes t me x late is = cc
 
-stays_late : (me : ℕ) (o : Option Transition) (x : PodState) → is_late o ≡ true → is_lasting me (turned o me x) ≡ true → x ≡ turned o me x
+stays_late : (me : ℕ) (o : Option Transition) (x : PodState) → is_late o ≡ true → is_lasting me (after_transition o me x) ≡ true → x ≡ after_transition o me x
 stays_late me None x late lasting = refl
 stays_late me (Some t) x late lasting = by (enabled t me x) refl lasting
   where
@@ -87,7 +84,7 @@ stays_late me (Some t) x late lasting = by (enabled t me x) refl lasting
     by true is h = let clash : true ≡ false = sym h ∙ late_passes t me x late is in cc
     by false is h = refl
 
-late_if : (b : Bool) (t : Transition) → is_late (Some t) ≡ true → is_late (if_so b t) ≡ true
+late_if : (b : Bool) (t : Transition) → is_late (Some t) ≡ true → is_late (transition_if b t) ≡ true
 late_if true t is = is
 late_if false t is = refl
 
@@ -99,8 +96,8 @@ late_arrival true a is = cc
 
 module _ (asks : Request → Bool) (l : Late asks) where
   pub late_turn : (u : List ℕ) (n : Namespace) (x : PodState) (me : ℕ) (request : Request) (reply : Reply) → (is_kill request || in_process asks request) ≡ true → is_late (transition u n x me request reply) ≡ true
-  late_turn u n x me (MakeFolder spot) Done h = absurd (l.makes spot (or_false (asks (MakeFolder spot)) h))
-  late_turn u n x me (MoveFolder from to) Done h = late_arrival (is_of u to) to.area (l.moves from to (or_false (asks (MoveFolder from to)) h))
+  late_turn u n x me (MakeFolder spot) Done h = absurd (l.makes spot (or_nothing (asks (MakeFolder spot)) h))
+  late_turn u n x me (MoveFolder from to) Done h = late_arrival (is_spot_of_pod u to) to.area (l.moves from to (or_nothing (asks (MoveFolder from to)) h))
   late_turn u n x me (TryLock handle Exclusive) Done h = late_if _ turn.BeginDelete refl
   late_turn u n x me (TryLock handle Shared) Done h = refl
   late_turn u n x me (Close handle) Done h = late_if _ turn.End refl

@@ -3,20 +3,21 @@ use Rattle.std.proofs.Common.{arith, ◌≡◌, inl, inr, ◌+◌, ◌-◌, ◌*
 use Rattle.std.specs.List.{list_any, cons_option}
 use Rattle.std.proofs.lemmas.Bool.Decides.{nat_tests}
 use Rattle.std.proofs.lemmas.List.Sums.{fold-append}
+use Rattle.plain_laws.proofs.Texts.{same_bytes, same_text}
+use Rattle.plain_laws.proofs.Numbers.{at_most, at_most_back}
+use Rattle.plain_laws.proofs.Lists.{any_wider}
 use Rattle.dir_model.specs.declared.item.Item.{Item}
 use Rattle.dir_model.specs.declared.tree.TreeEntry.{TreeEntry}
 use Rattle.dir_model.specs.declared.item.ItemKind.{ItemKind}
 use Rattle.dir_model.specs.Paths.{is_empty, is_slash, is_file_name, are_names, is_directly_in, behind, lies_below}
 use Rattle.dir_model.specs.Trees.{kind_of, is_entry, is_dir_entry, is_file_entry, is_dir, has_any, item_in, items_in}
 use Rattle.dir_model.proofs.Lists.{and_left, and_right, not_true, or_left_false, or_right_false}
-use Rattle.dir_rules.specs.Marks.{digits, marked_mark, number_of}
+use Rattle.dir_rules.specs.Marks.{digits, marked_mark, number_of, mark_moment}
 use Rattle.dir_rules.specs.Seen.{later}
-use Rattle.dir_rules.proofs.Looks.{same_bytes}
 use Rattle.pod_gc.proofs.MarkNames.{marked_is_path, marked_directly}
-use Rattle.pod_gc.specs.Ages.{mark_moment, moment_among, is_young}
-use Rattle.pod_gc.proofs.Moments.{marked}
+use Rattle.pod_gc.specs.Ages.{moment_among, is_young}
+use Rattle.marks.proofs.Moments.{marked}
 use Rattle.commands.proofs.LateTurns.{or_either}
-use Rattle.commands.proofs.GcTells.{same_text}
 
 -- the digits of a number stand for it
 
@@ -34,13 +35,10 @@ read_back (suc k) n small =
     fold-append (λ (m : ℕ) (b : ℕ). m * 10 + (b - 48)) 0 (digits k (n / 10)) ((48 + n % 10) ∷ [])
     ∙ (ap (λ (m : ℕ). m * 10 + ((48 + n % 10) - 48)) (read_back k (n / 10) less) ∙ digit_back n)
 
-within : (n m : ℕ) → n ≤ m → nat_le n m ≡ true
-within n m l = grind (arith, nat_tests)
-
 pub mark_tells : (now : ℕ) → now ≤ 18446744073709551615 → mark_moment (codes "marked-") (marked_mark now) ≡ Some now
 mark_tells now small =
     let less : now < 100000000000000000000 = omega (arith, small) in
-    sym (marked (codes "marked-") (marked_mark now) now (sym (read_back 20 now less)) (sym (same_bytes (marked_mark now)))) ∙ ap (λ b. cond b (Some now) None) (within now 18446744073709551615 small)
+    sym (marked (codes "marked-") (marked_mark now) now (sym (read_back 20 now less)) (sym (same_bytes (marked_mark now)))) ∙ ap (λ b. cond b (Some now) None) (at_most now 18446744073709551615 small)
 
 -- a moment that isn't before this
 
@@ -49,9 +47,6 @@ IsSince now o = (m : ℕ) × (o ≡ Some m) × (now ≤ m)
 
 not_after : (now a m : ℕ) → now ≤ m → nat_le a m ≡ false → now ≤ a
 not_after now a m l above = grind (arith, nat_tests)
-
-at_least : (a b : ℕ) → nat_le a b ≡ true → a ≤ b
-at_least a b l = grind (arith, nat_tests)
 
 later_since : (now : ℕ) (a o : Option ℕ) → IsSince now o → IsSince now (later a o)
 later_since now None o s = s
@@ -66,7 +61,7 @@ itself_since now None = (now, refl, omega arith)
 itself_since now (Some b) = by (nat_le now b) refl
   where
     by : (x : Bool) → nat_le now b ≡ x → IsSince now (cond x (Some b) (Some now))
-    by true is = (b, refl, at_least now b is)
+    by true is = (b, refl, at_most_back now b is)
     by false is = (now, refl, omega arith)
 
 no_age : (now m : ℕ) → now ≤ m → now - m ≡ 0
@@ -122,15 +117,6 @@ marked_since now k small (e ∷ es) any = by (is_entry k (marked_mark now) e) re
     by false is any go = after (item_in k [] e) (go any)
 
 -- something at the path of the mark is an entry of that path
-
-any_wider : (t q : TreeEntry → Bool) → ((e : TreeEntry) → t e ≡ true → q e ≡ true) → (es : List TreeEntry) → list_any t es ≡ true → list_any q es ≡ true
-any_wider t q only [] any = cc
-any_wider t q only (e ∷ es) any = by (t e) (q e) (only e) any (λ rest. any_wider t q only es rest)
-  where
-    by : (b c : Bool) → (b ≡ true → c ≡ true) → (b || list_any t es) ≡ true → (list_any t es ≡ true → list_any q es ≡ true) → (c || list_any q es) ≡ true
-    by b true only any go = refl
-    by true false only any go = let clash : false ≡ true = only refl in cc
-    by false false only any go = go any
 
 pub mark_entry : (now k : ℕ) (es : List TreeEntry) → has_any es k (marked_mark now) ≡ true → list_any (is_entry k (marked_mark now)) es ≡ true
 mark_entry now k es any = elim (or_either (list_any (is_dir_entry k (marked_mark now)) es) (list_any (is_file_entry k (marked_mark now)) es) any) [

@@ -1,14 +1,14 @@
 -- The greatest moment of marks depends on the names that are shown alone.
 use Rattle.std.proofs.Common.{arith, ◌≡◌, ℕ, Bool, true, false, ◌||◌, cond, bytes_eq, nat_le, Option, Some, None, List, [], ◌∷◌, refl, sym, ap, ◌∙◌}
 use Rattle.std.proofs.lemmas.Bool.Decides.{nat_tests}
+use Rattle.plain_laws.proofs.Texts.{same_bytes, same_text}
 use Rattle.dir_model.specs.declared.item.Item.{Item}
 use Rattle.dir_model.specs.Listings.{has_named, is_item, has_item, kind_number}
 use Rattle.dir_model.proofs.Lists.{and_left, and_both, or_last, same_self}
 use Rattle.dir_rules.specs.Seen.{later}
-use Rattle.dir_rules.proofs.Looks.{same_bytes}
-use Rattle.lifecycle.proofs.Places.{name_same}
-use Rattle.pod_gc.specs.Ages.{mark_moment, moment_among}
-use Rattle.pod_gc.proofs.Moments.{later_more}
+use Rattle.dir_laws.proofs.Later.{later_assoc}
+use Rattle.dir_rules.specs.Marks.{mark_moment}
+use Rattle.pod_gc.specs.Ages.{moment_among}
 
 both_most : (a b : ℕ) → nat_le a b ≡ true → nat_le b a ≡ true → b ≡ a
 both_most a b x y = grind (arith, nat_tests)
@@ -52,15 +52,15 @@ shown_before text item (y ∷ ys) h = by (bytes_eq y.name item.name) refl h (λ 
 
     by : (c : Bool) → bytes_eq y.name item.name ≡ c → (c || has_named ys item) ≡ true → (has_named ys item ≡ true → later a m ≡ m) → later a (later b m) ≡ later b m
     by true is h go =
-        let same : b ≡ a = ap (mark_moment text) (name_same y.name item.name is) in
-        ap (λ (o : Option ℕ). later a (later o m)) same ∙ (sym (later_more a a m) ∙ (ap (λ (o : Option ℕ). later o m) (later_same a) ∙ ap (λ (o : Option ℕ). later o m) (sym same)))
-    by false is h go = sym (later_more a b m) ∙ (ap (λ (o : Option ℕ). later o m) (later_turned a b) ∙ (later_more b a m ∙ ap (later b) (go h)))
+        let same : b ≡ a = ap (mark_moment text) (same_text y.name item.name is) in
+        ap (λ (o : Option ℕ). later a (later o m)) same ∙ (sym (later_assoc a a m) ∙ (ap (λ (o : Option ℕ). later o m) (later_same a) ∙ ap (λ (o : Option ℕ). later o m) (sym same)))
+    by false is h go = sym (later_assoc a b m) ∙ (ap (λ (o : Option ℕ). later o m) (later_turned a b) ∙ (later_assoc b a m ∙ ap (later b) (go h)))
 
 all_before : (text : List ℕ) (xs ys : List Item) → ((item : Item) → has_item xs item ≡ true → has_named ys item ≡ true) → later (moment_among text xs) (moment_among text ys) ≡ moment_among text ys
 all_before text [] ys shown = refl
 all_before text (x ∷ xs) ys shown =
     let itself : is_item x x ≡ true = and_both (bytes_eq x.name x.name) _ (same_bytes x.name) (same_self (kind_number x.kind)) in
-    later_more (mark_moment text x.name) (moment_among text xs) (moment_among text ys)
+    later_assoc (mark_moment text x.name) (moment_among text xs) (moment_among text ys)
     ∙ (ap (later (mark_moment text x.name)) (all_before text xs ys (λ item h. shown item (or_last (is_item item x) (has_item xs item) h)))
     ∙ shown_before text x ys (shown x (ap (λ c. c || has_item xs x) itself)))
 

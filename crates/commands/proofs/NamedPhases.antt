@@ -26,15 +26,16 @@ use Rattle.stage1.specs.declared.error.RunError.{RunError}
 use Rattle.stage1.specs.declared.error.RunError.TheVariants as run
 use Rattle.pod_gc.specs.declared.ages.Times.{Times}
 use Rattle.pod_gc.specs.declared.line.GcLine.{GcLine}
-use Rattle.pod_gc.specs.Told.{IsTold}
+use Rattle.pod_gc.specs.Told.{IsLineOfTurn}
 use Rattle.pod_report.specs.declared.line.PodLine.{PodLine}
-use Rattle.pod_report.specs.Snapshot.{IsLine}
+use Rattle.pod_report.specs.Snapshot.{IsPodLine}
 use Rattle.pod_report.specs.Visits.{IsPhase}
+use Rattle.metadata.proofs.Views.{event_so}
 use Rattle.command_outcomes.specs.declared.refusal.Refusal.TheVariants.{WrongPhase}
 use Rattle.command_outcomes.specs.Meanwhile.{Meanwhile}
 use Rattle.command_outcomes.specs.Moments.{DirSeen, Inside, SpawnerSeen}
 use Rattle.commands.specs.AppsTold.{WithinProcess}
-use Rattle.commands.specs.Gc.{HasSweptPods, NamesKept, Sweeps, names_kept}
+use Rattle.commands.specs.Gc.{HasSweptPods, NamesKept, SweepsByPasses, names_kept}
 use Rattle.commands.specs.Opening.{Approach}
 use Rattle.commands.specs.Phases.{HadPhase}
 use Rattle.commands.specs.PodList.{TellsLines, names_lines}
@@ -44,13 +45,12 @@ use Rattle.commands.specs.RunRefusals.{claim_refusal, run_refusal}
 use Rattle.commands.specs.Status.{TellsStatus, names_status}
 use Rattle.commands.proofs.GcQuiet.{lines_told}
 use Rattle.commands.proofs.OwnSteps.{event_process}
-use Rattle.commands.proofs.RmBefore.{event_weaker}
 use Rattle.commands.proofs.RunRefused.{claimed_refusal, same_refusal}
 use Rattle.commands.proofs.Starts.{open_extends}
 
 -- the phase of a pod that stood in some area
 had : {pod : PodId} {phase : Phase} {area : Area} {me : ℕ} {old new : List Event} → AtOwnEvent me old new (IsInPhase pod phase area) → HadPhase me old new pod phase
-had {pod} {phase} at = event_weaker (IsPhase pod phase) (λ h x. x.is) at
+had {pod} {phase} at = event_so (IsPhase pod phase) (λ h x. x.is) at
 
 pub status_named : (pod : PodId) (me : ℕ) (old new : List Event) (text : List ℕ) → TellsStatus pod me old new (Ok text) → names_status pod (Ok text) (HadPhase me old new)
 status_named pod me old new text p = record { status = p.status; so = had p.so.phase; is = p.is }
@@ -58,12 +58,12 @@ status_named pod me old new text p = record { status = p.status; so = had p.so.p
 pub lines_named : (me : ℕ) (old new : List Event) (text : List ℕ) → TellsLines me old new (Ok text) → names_lines (Ok text) (HadPhase me old new)
 lines_named me old new text p = record {
   lines = p.lines;
-  so = all_weaker (IsLine me old new) (λ (line : PodLine). HadPhase me old new line.pod line.phase) (λ line x. x.phase) p.lines p.so.each;
+  so = all_weaker (IsPodLine me old new) (λ (line : PodLine). HadPhase me old new line.pod line.phase) (λ line x. x.phase) p.lines p.so.each;
   is = p.is;
 }
 
 -- what came about before the finish is of a conforming execution where the whole is
-before_finish : {me : ℕ} {ended new : List Event} → Extends is_finish me ended new → IsConforming new → IsConforming ended
+pub before_finish : {me : ℕ} {ended new : List Event} → Extends is_finish me ended new → IsConforming new → IsConforming ended
 before_finish {ended = ended} last conforming = conforming_left ended last.more (subst IsConforming last.grown conforming)
 
 pub removal_named : (pod : PodId) (phase : Phase) (old new : DirSeen) → HasFoundWrong pod phase old new → IsConforming new.trace → HadPhase old.process old.trace new.trace pod phase
@@ -113,8 +113,8 @@ module _ (pod : PodId) (phase : Phase) (address : List ℕ) {approach : Approach
       event_process (open_extends (w.begins t)) (subst (λ (p : ℕ). Extends is_finish p w.ended.trace new.dir.trace) (w.same ∙ w.me) last) so
 
 -- the lines of a sweep
-module _ (times : Times) (lines : List GcLine) {me : ℕ} {old new : List Event} (m : Meanwhile (Sweeps times lines) me old new) (conforming : IsConforming new) where
-  told_kept : {Can : Type 0} {here : Area} {names : List (List ℕ)} (a b : List Event) → Grew old a → Grew b new → (line : GcLine) → IsTold Can times here names line me a b → NamesKept (HadPhase me old new) line
+module _ (times : Times) (lines : List GcLine) {me : ℕ} {old new : List Event} (m : Meanwhile (SweepsByPasses times lines) me old new) (conforming : IsConforming new) where
+  told_kept : {Can : Type 0} {here : Area} {names : List (List ℕ)} (a b : List Event) → Grew old a → Grew b new → (line : GcLine) → IsLineOfTurn Can times here names line me a b → NamesKept (HadPhase me old new) line
   told_kept {Can} {here} {names} a b to_a from_b line x pod phase is deed =
       let same : x.shown ≡ pod = let e : Some x.shown ≡ Some pod = sym x.pod_is ∙ is in cc in
       let first = grown_more to_a (grown_by x.first) in

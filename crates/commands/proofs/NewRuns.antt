@@ -1,5 +1,7 @@
 -- The command `run`: from the making and the run to what is told, and what the process knows and has open.
-use Rattle.std.proofs.Common.{◌≡◌, inl, inr, ℕ, Bool, true, false, not, ◌&&◌, ◌||◌, List, [], ◌∷◌, Some, Result, Ok, Err, IfErr, refl, sym, ap, subst, ◌∙◌, arith}
+use Rattle.std.proofs.Common.{◌≡◌, inl, inr, ℕ, Bool, true, false, ◌||◌, List, [], ◌∷◌, Some, Result, Ok, Err, IfErr, refl, sym, ap, subst, ◌∙◌, arith}
+use Rattle.plain_laws.proofs.Texts.{same_bytes}
+use Rattle.plain_laws.proofs.Booleans.{never_both, never_deletes}
 use Rattle.ac_types.specs.declared.image_ref.ImageRef.{ImageRef}
 use Rattle.dir_model.specs.declared.area.Area.TheVariants as area
 use Rattle.dir_model.specs.declared.intent.Draw.{Draw}
@@ -17,33 +19,32 @@ use Rattle.dir_rules.specs.declared.seen.Entry.{Entry}
 use Rattle.dir_rules.specs.declared.seen.Seen.{Seen}
 use Rattle.dir_rules.specs.Rules.{runs}
 use Rattle.dir_rules.specs.Standing.{is_gate_shared, gives_up, holds_own, intends}
-use Rattle.dir_rules.proofs.Looks.{same_bytes}
 use Rattle.dir_trait.specs.DirCalls.{DirAt, ExtendsBy}
+use Rattle.dir_trait.specs.Effects.{OnlyAsks, LeavesOpen}
 use Rattle.spawner.specs.Calls.{SpawnerAt}
-use Rattle.folder_building.specs.Work.{Worked}
 use Rattle.lifecycle.specs.Executions.{IsConforming}
 use Rattle.pod_locks.specs.declared.owned.Owned.{Owned}
 use Rattle.pod_locks.specs.Running.{IsOwned, RunsPod}
 use Rattle.pod_locks.specs.Work.{Grew}
-use Rattle.pod_build.specs.Progress.{at_work, nothing_made, handed, own_held, and_own}
-use Rattle.pod_build.specs.Work.{From, HasOwnFolder}
+use Rattle.pod_build.specs.Progress.{seen_making, nothing_made, handed, own_held, and_own}
+use Rattle.pod_build.specs.Work.{WhereMakingPod, HasMakerFolder}
 use Rattle.pod_build.specs.Work as making
 use Rattle.pod_build.proofs.Handing.{HandsNothingOver}
 use Rattle.pod_build.specs.declared.error.BuildError.{BuildError}
 use Rattle.pod_build.specs.declared.built.Built.{Built}
 use Rattle.pod_build.specs.declared.built.Built.TheVariants as built
-use Rattle.pod_build.specs.Answers.{IsAnswer, with_built, held_with}
-use Rattle.pod_build.specs.Causes.{IsRefused, IsHeldElsewhere, IsMadeByPlan, FindsImagesFree}
+use Rattle.pod_build.specs.Answers.{IsBuildAnswer, with_built, held_with}
+use Rattle.pod_build.specs.Causes.{IsBuildRefused, AreaHeldElsewhere, IsMadeByPlan, FindsImagesFree}
 use Rattle.pod_build.specs.Preparations.{Began, IsAlone, KnowsPrepared, IsPrepared}
 use Rattle.pod_build.specs.Requests.{prepares}
-use Rattle.stage1.specs.Keeping.{IsFresh, KeepsToEnd}
-use Rattle.stage1.specs.Runs.{Went, closes, runs_pod, runs_and_closes}
+use Rattle.stage1.specs.Keeping.{RunsWithoutNotes, KeepsToEnd}
+use Rattle.stage1.specs.Runs.{closes, runs_pod, runs_and_closes}
 use Rattle.command_outcomes.specs.declared.refusal.Refusal.{Refusal}
 use Rattle.command_outcomes.specs.declared.refusal.Refusal.TheVariants.{DirFault, SpawnFault, NoManifest, NoProgram, Damaged, Stray, NoMemory}
-use Rattle.command_outcomes.specs.Conforming.{begun, StaysConforming}
+use Rattle.command_outcomes.specs.Conforming.{seen_at_begin, StaysConforming}
 use Rattle.command_outcomes.specs.Moments.{Answer, dir_seen}
 use Rattle.commands.specs.References.{AreReferences}
-use Rattle.commands.specs.PrepareRefusals.{IsSaid, prepare_refusal}
+use Rattle.commands.specs.PrepareRefusals.{IsSaidOfBuild, prepare_refusal}
 use Rattle.commands.specs.Prepare.{pod_line}
 use Rattle.commands.specs.RunRefusals.{apps_refusal, new_run_refusal}
 use Rattle.commands.specs.Run.{makes_and_runs, CanRun, NewRunSays, RunIsTold}
@@ -53,20 +54,20 @@ use Rattle.commands.proofs.ClaimRefusals.{inside_of}
 use Rattle.commands.specs.Wants.{Wants}
 
 -- the pod is kept
-pub kept_pod : (draw : PodId) (m : Local) (made : Built) → IsAnswer true draw m made → (owned : Owned) × (made ≡ built.Running owned)
+pub kept_pod : (draw : PodId) (m : Local) (made : Built) → IsBuildAnswer true draw m made → (owned : Owned) × (made ≡ built.Running owned)
 kept_pod draw m (built.Running owned) answer = (owned, refl)
 kept_pod draw m (built.Prepared pod) answer = absurd answer
 
-pub kept_owned : (draw : PodId) (m : Local) (made : Built) (owned : Owned) → made ≡ built.Running owned → IsAnswer true draw m made → IsOwned draw m owned
-kept_owned draw m made owned is answer = subst (λ (b : Built). IsAnswer true draw m b) is answer
+pub kept_owned : (draw : PodId) (m : Local) (made : Built) (owned : Owned) → made ≡ built.Running owned → IsBuildAnswer true draw m made → IsOwned draw m owned
+kept_owned draw m made owned is answer = subst (λ (b : Built). IsBuildAnswer true draw m b) is answer
 
 -- what is open then
-pub made_went : {observed : Bool} {asks : Request → Bool} {a b : DirAt} (m : Local) (draw : PodId) (r : Result Built BuildError) (made : Built) (owned : Owned) → r ≡ Ok made → made ≡ built.Running owned → making.Went observed asks (with_built m draw r) a b → making.Went observed asks (and_own m draw owned.own) a b
+pub made_went : {observed : Bool} {asks : Request → Bool} {a b : DirAt} (m : Local) (draw : PodId) (r : Result Built BuildError) (made : Built) (owned : Owned) → r ≡ Ok made → made ≡ built.Running owned → making.LeavesOpen observed asks (with_built m draw r) a b → making.LeavesOpen observed asks (and_own m draw owned.own) a b
 made_went {observed} {asks} {a} {b} m draw r made owned is kept w =
-    subst (λ (x : Built). making.Went observed asks (with_built m draw (Ok x)) a b) kept (subst (λ (x : Result Built BuildError). making.Went observed asks (with_built m draw x) a b) is w)
+    subst (λ (x : Built). making.LeavesOpen observed asks (with_built m draw (Ok x)) a b) kept (subst (λ (x : Result Built BuildError). making.LeavesOpen observed asks (with_built m draw x) a b) is w)
 
-pub unmade_went : {observed : Bool} {asks : Request → Bool} {a b : DirAt} (m : Local) (draw : PodId) (r : Result Built BuildError) (e : BuildError) → r ≡ Err e → making.Went observed asks (with_built m draw r) a b → making.Went observed asks m a b
-unmade_went {observed} {asks} {a} {b} m draw r e is w = subst (λ (x : Result Built BuildError). making.Went observed asks (with_built m draw x) a b) is w
+pub unmade_went : {observed : Bool} {asks : Request → Bool} {a b : DirAt} (m : Local) (draw : PodId) (r : Result Built BuildError) (e : BuildError) → r ≡ Err e → making.LeavesOpen observed asks (with_built m draw r) a b → making.LeavesOpen observed asks m a b
+unmade_went {observed} {asks} {a} {b} m draw r e is w = subst (λ (x : Result Built BuildError). making.LeavesOpen observed asks (with_built m draw x) a b) is w
 
 -- a run hands nothing over
 pub runs_hand_none : (pod : PodId) (own : Handle) → HandsNothingOver (runs_and_closes pod own)
@@ -89,8 +90,8 @@ runs_in draw own r is = by (closes own r) (prepares draw area.Run r) (closes_pre
     by false true so h = refl
     by false false so h = h
 
-pub made_worked : {observed : Bool} {a b c : DirAt} {m : Local} (draw : PodId) (owned : Owned) (h : Holding) → IsOwned draw m owned → h.handle ≡ owned.own → a.local.holdings ≡ [] → making.Went observed (prepares draw area.Run) (and_holding a.local h) a b →
-    Went observed (runs_and_closes owned.pod owned.own) (without b.local owned.own) b c → Worked observed (makes_and_runs draw) a c
+pub made_worked : {observed : Bool} {a b c : DirAt} {m : Local} (draw : PodId) (owned : Owned) (h : Holding) → IsOwned draw m owned → h.handle ≡ owned.own → a.local.holdings ≡ [] → making.LeavesOpen observed (prepares draw area.Run) (and_holding a.local h) a b →
+    LeavesOpen observed (runs_and_closes owned.pod owned.own) (without b.local owned.own) b c → OnlyAsks observed (makes_and_runs draw) a c
 made_worked {observed} {a} {b} {c} draw owned h own is none w v = record {
   same = v.same ∙ w.same;
   faults = omega (arith, w.faults, v.faults);
@@ -98,33 +99,25 @@ made_worked {observed} {a} {b} {c} draw owned h own is none w v = record {
   extends = λ t. and_more (extends_wider (prepares_in draw) (w.extends t)) w.same (extends_wider (runs_in draw owned.own) (subst (λ (p : PodId). ExtendsBy (runs_and_closes p owned.own) b c) own.is (v.extends t)));
 }
 
-pub unmade_worked : {observed : Bool} {a b : DirAt} (draw : PodId) → making.Went observed (prepares draw area.Run) a.local a b → Worked observed (makes_and_runs draw) a b
+pub unmade_worked : {observed : Bool} {a b : DirAt} (draw : PodId) → making.LeavesOpen observed (prepares draw area.Run) a.local a b → OnlyAsks observed (makes_and_runs draw) a b
 unmade_worked draw w = record { same = w.same; faults = w.faults; local = w.local_is; extends = λ t. extends_wider (prepares_in draw) (w.extends t) }
 
 -- it runs the pod that it made
 abbrev made_seen : PodId → Handle → Intent → List Entry → Seen
-made_seen draw own intent entries = at_work intent (own_held draw own (Some Exclusive) ∷ []) (handed draw area.Run entries)
+made_seen draw own intent entries = seen_making intent (own_held draw own (Some Exclusive) ∷ []) (handed draw area.Run entries)
 
 runs_made : (draw : PodId) (own : Handle) (intent : Intent) (entries : List Entry) → runs (made_seen draw own intent entries) (pod_text draw.bytes) ≡ true
 runs_made draw own intent entries = rw (same_bytes (pod_text draw.bytes)) refl
 
-never_both : (b c : Bool) → not ((b && false) && c) ≡ true
-never_both true c = refl
-never_both false c = refl
-
-never_deletes : (b : Bool) → ((b && false) || false) ≡ false
-never_deletes true = refl
-never_deletes false = refl
-
-fresh_made : (draw : PodId) (own : Handle) (intent : Intent) (entries : List Entry) → IsFresh draw (made_seen draw own intent entries)
+fresh_made : (draw : PodId) (own : Handle) (intent : Intent) (entries : List Entry) → RunsWithoutNotes draw (made_seen draw own intent entries)
 fresh_made draw own intent entries = record { runs_it = runs_made draw own intent entries; spares_it = never_deletes _; none = refl }
 
 abbrev pub KnowsMade : Draw → ℕ → Owned → DirAt → DirAt → Type 0
-KnowsMade draw now owned a b = From (Began area.Run draw now) IsAlone nothing_made a (λ intent hs. KnowsPrepared draw.uuid area.Run intent (own_held draw.uuid owned.own (Some Exclusive) ∷ []) b)
+KnowsMade draw now owned a b = WhereMakingPod (Began area.Run draw now) IsAlone nothing_made a (λ intent hs. KnowsPrepared draw.uuid area.Run intent (own_held draw.uuid owned.own (Some Exclusive) ∷ []) b)
 
-pub made_knows : (draw : Draw) (now : ℕ) (made : Built) (owned : Owned) (a b : DirAt) → made ≡ built.Running owned → From (Began area.Run draw now) IsAlone nothing_made a (λ intent hs. KnowsPrepared draw.uuid area.Run intent (held_with draw.uuid made []) b) →
+pub made_knows : (draw : Draw) (now : ℕ) (made : Built) (owned : Owned) (a b : DirAt) → made ≡ built.Running owned → WhereMakingPod (Began area.Run draw now) IsAlone nothing_made a (λ intent hs. KnowsPrepared draw.uuid area.Run intent (held_with draw.uuid made []) b) →
     KnowsMade draw now owned a b
-made_knows draw now made owned a b is knows = subst (λ (x : Built). From (Began area.Run draw now) IsAlone nothing_made a (λ intent hs. KnowsPrepared draw.uuid area.Run intent (held_with draw.uuid x []) b)) is knows
+made_knows draw now made owned a b is knows = subst (λ (x : Built). WhereMakingPod (Began area.Run draw now) IsAlone nothing_made a (λ intent hs. KnowsPrepared draw.uuid area.Run intent (held_with draw.uuid x []) b)) is knows
 
 pub made_runs : {observed : Bool} {m : Local} (draw : Draw) (now : ℕ) (owned : Owned) (a b : DirAt) → IsOwned draw.uuid m owned → (observed ≡ true → CanRun draw now a) → (observed ≡ true → KnowsMade draw now owned a b) → observed ≡ true → RunsPod owned.pod b
 made_runs draw now owned a b is can knows t =
@@ -138,17 +131,17 @@ pub made_keeps : {observed : Bool} {m : Local} (draw : Draw) (now : ℕ) (owned 
 made_keeps {observed} draw now owned intent a b c own t began knows keeps k =
     let x = knows t intent [] began refl (record { tied = k.tied; handles = k.handles }) in
     let s = made_seen draw.uuid owned.own intent x.0 in
-    let e = keeps s x.1 (subst (λ (p : PodId). IsFresh p s) (sym own.is) (fresh_made draw.uuid owned.own intent x.0)) (never_both (gives_up (is_gate_shared area.Embryo) owned.own s.standing.holdings) (intends (λ i. holds_own (pod_text i.draw.bytes) s.standing) s.standing.intent)) in
+    let e = keeps s x.1 (subst (λ (p : PodId). RunsWithoutNotes p s) (sym own.is) (fresh_made draw.uuid owned.own intent x.0)) (never_both (gives_up (is_gate_shared area.Embryo) owned.own s.standing.holdings) (intends (λ i. holds_own (pod_text i.draw.bytes) s.standing) s.standing.intent)) in
     record { known = e.known; knows = record { tied = e.knows.tied; handles = e.knows.handles }; kept = e.kept }
 
-pub unmade_keeps : {observed : Bool} (draw : Draw) (now : ℕ) (intent : Intent) (a b : DirAt) → observed ≡ true → Began area.Run draw now intent → (observed ≡ true → From (Began area.Run draw now) IsAlone nothing_made a (λ intent hs. HasOwnFolder draw.uuid intent hs b)) →
+pub unmade_keeps : {observed : Bool} (draw : Draw) (now : ℕ) (intent : Intent) (a b : DirAt) → observed ≡ true → Began area.Run draw now intent → (observed ≡ true → WhereMakingPod (Began area.Run draw now) IsAlone nothing_made a (λ intent hs. HasMakerFolder draw.uuid intent hs b)) →
     StaysConforming intent (dir_seen observed a) (dir_seen observed b)
 unmade_keeps {observed} draw now intent a b t began left k =
     let x = left t intent [] began refl (record { tied = k.tied; handles = k.handles }) in
-    record { known = at_work intent [] x.progress; knows = record { tied = x.knows.tied; handles = x.knows.handles }; kept = refl }
+    record { known = seen_making intent [] x.progress; knows = record { tied = x.knows.tied; handles = x.knows.handles }; kept = refl }
 
 pub unbegun_keeps : {observed : Bool} (intent : Intent) (a : DirAt) → StaysConforming intent (dir_seen observed a) (dir_seen observed a)
-unbegun_keeps {observed} intent a k = record { known = begun intent; knows = k; kept = refl }
+unbegun_keeps {observed} intent a k = record { known = seen_at_begin intent; knows = k; kept = refl }
 
 -- refusals
 apps_in : (r : Refusal) → apps_refusal r ≡ true → new_run_refusal r ≡ true
@@ -178,7 +171,7 @@ never_spawns r known is = cc
 -- what is told
 module _ (seen observed : Bool) (wants : Wants) (address : List ℕ) (now : ℕ) (draw : Draw) (a c : DirAt) (s s' : SpawnerAt) (answer : Answer) where
   pub made_says : (refs : List ImageRef) (b : DirAt) (owned : Owned) → AreReferences wants.images refs → IsOwned draw.uuid a.local owned → b.process ≡ a.process → FindsImagesFree seen a b → IsMadeByPlan seen refs wants.wishes draw now a b → (seen ≡ true → ExtendsBy (prepares draw.uuid area.Run) a b) → (seen ≡ true → KnowsMade draw now owned a b)
-      → (seen ≡ true → IsConforming b.trace → From (Began area.Run draw now) IsAlone nothing_made a (λ intent hs. IsPrepared refs wants.wishes a.process draw.uuid area.Run a.trace b.trace))
+      → (seen ≡ true → IsConforming b.trace → WhereMakingPod (Began area.Run draw now) IsAlone nothing_made a (λ intent hs. IsPrepared refs wants.wishes a.process draw.uuid area.Run a.trace b.trace))
       → (seen ≡ true → Grew b.trace c.trace) → RunSays seen observed owned address (pod_line draw.uuid) b c s s' answer → NewRunSays seen observed wants address now draw a c s s' answer
   made_says refs b owned are is same free planned asked knows prepared then says = inl (record {
     made = b;
@@ -194,8 +187,8 @@ module _ (seen observed : Bool) (wants : Wants) (address : List ℕ) (now : ℕ)
     says = says;
   })
 
-  pub unmade_says : (refs : List ImageRef) (e : BuildError) (r : Refusal) → answer ≡ Err r → AreReferences wants.images refs → IsSaid wants.images e r → IsRefused seen refs wants.wishes draw now e a c
-      → (seen ≡ true → From (Began area.Run draw now) IsAlone nothing_made a (λ intent hs. IsHeldElsewhere e a c)) → (seen ≡ true → From (Began area.Run draw now) IsAlone nothing_made a (λ intent hs. HasOwnFolder draw.uuid intent hs c)) → s' ≡ s
+  pub unmade_says : (refs : List ImageRef) (e : BuildError) (r : Refusal) → answer ≡ Err r → AreReferences wants.images refs → IsSaidOfBuild wants.images e r → IsBuildRefused seen refs wants.wishes draw now e a c
+      → (seen ≡ true → WhereMakingPod (Began area.Run draw now) IsAlone nothing_made a (λ intent hs. AreaHeldElsewhere e a c)) → (seen ≡ true → WhereMakingPod (Began area.Run draw now) IsAlone nothing_made a (λ intent hs. HasMakerFolder draw.uuid intent hs c)) → s' ≡ s
       → NewRunSays seen observed wants address now draw a c s s' answer
   unmade_says refs e r is are said refused another left unasked = inr (inl (record { error = e; is = (r, is, said); cause = (refs, are, refused); another = another; left = left; unasked = unasked }))
 

@@ -1,7 +1,8 @@
 -- Where nobody else steps: what a process leaves as it was that changes some locations alone.
-use Rattle.std.proofs.Common.{arith, ◌≡◌, ℕ, Bool, true, false, not, ◌&&◌, ◌||◌, ◌==◌, cond, Option, Some, None, option_to_list, List, [], ◌∷◌, ◌++◌, map, filter, take, slice_get, append-nil, refl, sym, ap, subst, ◌∙◌}
+use Rattle.std.proofs.Common.{◌≡◌, ℕ, Bool, true, false, not, ◌&&◌, ◌||◌, ◌==◌, cond, Option, Some, None, option_to_list, List, [], ◌∷◌, ◌++◌, map, filter, take, slice_get, append-nil, refl, sym, ap, subst, ◌∙◌}
 use Rattle.std.specs.List.{AllByRecursion}
-use Rattle.std.proofs.lemmas.Bool.Decides.{nat_tests}
+use Rattle.plain_laws.proofs.Booleans.{clash, or_nothing}
+use Rattle.plain_laws.proofs.Lists.{filter_twice}
 use Rattle.dir_model.specs.declared.event.Event.{Event}
 use Rattle.dir_model.specs.declared.opening.Opening.{Opening}
 use Rattle.dir_model.specs.declared.request.Request.{Request}
@@ -19,28 +20,15 @@ use Rattle.dir_model.specs.Locks.{is_handle}
 use Rattle.dir_model.specs.Quiet.{Quiet}
 use Rattle.dir_model.specs.State.{DirState, Namespace, empty_state, folder_at, spot_eq}
 use Rattle.dir_model.specs.Trace.{locked, namespace_replied, opened, opened_gate, placed, removed_in, state_after, state_next, states_next}
-use Rattle.dir_model.specs.Trees.{is_within, without_path}
 use Rattle.dir_model.proofs.Chains.{states_next-append}
-use Rattle.dir_model.proofs.Lists.{filter_past, same_rest, same_self}
-use Rattle.folder_contents.specs.Entries.{entries_in, entry_of, is_inside}
-use Rattle.folder_contents.proofs.Entries.{pushed_away}
+use Rattle.dir_model.proofs.Lists.{filter_past, same_rest, same_self, same_number}
+use Rattle.folder_contents.specs.Entries.{entries_in}
+use Rattle.folder_contents.proofs.Entries.{pushed_away, without_other}
 use Rattle.folder_contents.proofs.Places.{located}
-use Rattle.lifecycle.proofs.Handles.{clash, nat_same}
 use Rattle.commands.specs.NextState.{LeavesBeside, others_openings}
 use Rattle.commands.proofs.PlacesKept.{IsPlace}
 use Rattle.commands.proofs.OwnSteps.{in_process, same_openings}
-use Rattle.commands.proofs.RemovalQuiet.{ChangesAt, elsewhere_from, or_false, own_asked, place_step, places_beside}
-
--- a list without what is kept anyway
-kept_within : {X : Type 0} (p q : X → Bool) → ((x : X) → p x ≡ true → q x ≡ true) → (xs : List X) → filter p (filter q xs) ≡ filter p xs
-kept_within p q keeps [] = refl
-kept_within {X} p q keeps (x ∷ xs) = by (p x) (q x) refl refl (kept_within p q keeps xs)
-  where
-    by : (a b : Bool) → p x ≡ a → q x ≡ b → filter p (filter q xs) ≡ filter p xs → filter p (cond b (x ∷ filter q xs) (filter q xs)) ≡ cond a (x ∷ filter p xs) (filter p xs)
-    by true true e f go = rw e (ap (λ (l : List X). x ∷ l) go)
-    by true false e f go = clash (q x) (keeps x e) f
-    by false true e f go = rw e go
-    by false false e f go = go
+use Rattle.commands.proofs.RemovalQuiet.{ChangesAt, elsewhere_from, own_asked, place_step, places_beside}
 
 -- another number than that of a folder at another location
 apart_number : (n : Namespace) (k j : ℕ) (place spot : Spot) → slice_get n.folders k ≡ Some (Some place) → folder_at n spot ≡ Some j → spot_eq place spot ≡ false → (j == k) ≡ false
@@ -53,7 +41,7 @@ apart_number n k j place spot at found apart = by (j == k) refl
     by false e = refl
     by true e =
         let l = located n spot j found in
-        let is : l.0 ≡ place = same l.0 (sym l.1.0 ∙ (ap (slice_get n.folders) (nat_same j k e) ∙ at)) in
+        let is : l.0 ≡ place = same l.0 (sym l.1.0 ∙ (ap (slice_get n.folders) (same_number j k e) ∙ at)) in
         clash (spot_eq place spot) (subst (λ (here : Spot). spot_eq here spot ≡ true) is l.1.1) apart
 
 placed_apart : (n : Namespace) (k : ℕ) (place spot : Spot) (path : List ℕ) (node : TreeNode) (es : List TreeEntry) → slice_get n.folders k ≡ Some (Some place) → spot_eq place spot ≡ false →
@@ -64,22 +52,13 @@ placed_apart n k place spot path node es at apart = by (folder_at n spot) refl
     by None found = ap (entries_in k) (append-nil es)
     by (Some j) found = pushed_away k es (record { folder = j; path = path; node = node }) (apart_number n k j place spot at found apart)
 
-without_apart : (k j : ℕ) (path : List ℕ) (es : List TreeEntry) → (j == k) ≡ false → entries_in k (without_path j path es) ≡ entries_in k es
-without_apart k j path es apart = ap (map entry_of) (kept_within (is_inside k) (λ e. not ((e.folder == j) && is_within path e.path)) keeps es)
-  where
-    meet : (x : ℕ) → (x == k) ≡ true → (j == k) ≡ false → (x == j) ≡ false
-    meet x e f = grind (arith, nat_tests)
-
-    keeps : (e : TreeEntry) → is_inside k e ≡ true → not ((e.folder == j) && is_within path e.path) ≡ true
-    keeps e h = ap (λ b. not (b && is_within path e.path)) (meet e.folder h apart)
-
 removed_apart : (n : Namespace) (k : ℕ) (place spot : Spot) (path : List ℕ) (es : List TreeEntry) → slice_get n.folders k ≡ Some (Some place) → spot_eq place spot ≡ false →
     entries_in k (removed_in (folder_at n spot) path es ++ []) ≡ entries_in k es
 removed_apart n k place spot path es at apart = ap (entries_in k) (append-nil (removed_in (folder_at n spot) path es)) ∙ by (folder_at n spot) refl
   where
     by : (o : Option ℕ) → folder_at n spot ≡ o → entries_in k (removed_in o path es) ≡ entries_in k es
     by None found = refl
-    by (Some j) found = without_apart k j path es (apart_number n k j place spot at found apart)
+    by (Some j) found = without_other k j path es (apart_number n k j place spot at found apart)
 
 module _ (touched : Spot → Bool) (asks : Request → Bool) (c : ChangesAt touched asks) where
   away : (spot place : Spot) → touched spot ≡ true → touched place ≡ false → spot_eq place spot ≡ false
@@ -87,16 +66,16 @@ module _ (touched : Spot → Bool) (asks : Request → Bool) (c : ChangesAt touc
 
   tree_step : (p : ℕ) (s : DirState) (request : Request) (reply : Reply) (folder : ℕ) (place : Spot) → (is_kill request || in_process asks request) ≡ true → IsPlace folder place s.namespace → touched place ≡ false →
       entries_in folder (state_next s (event p request reply)).entries ≡ entries_in folder s.entries
-  tree_step p s (MakeDirIn i) Done folder place h at other = placed_apart s.namespace folder place i.spot i.path Dir s.entries at (away i.spot place (c.fills (MakeDirIn i) i.spot refl (or_false (asks (MakeDirIn i)) h)) other)
-  tree_step p s (MakeFileIn i) Done folder place h at other = placed_apart s.namespace folder place i.spot i.path (Piece []) s.entries at (away i.spot place (c.fills (MakeFileIn i) i.spot refl (or_false (asks (MakeFileIn i)) h)) other)
-  tree_step p s (AppendIn i piece) Done folder place h at other = placed_apart s.namespace folder place i.spot i.path (Piece piece) s.entries at (away i.spot place (c.fills (AppendIn i piece) i.spot refl (or_false (asks (AppendIn i piece)) h)) other)
+  tree_step p s (MakeDirIn i) Done folder place h at other = placed_apart s.namespace folder place i.spot i.path Dir s.entries at (away i.spot place (c.fills (MakeDirIn i) i.spot refl (or_nothing (asks (MakeDirIn i)) h)) other)
+  tree_step p s (MakeFileIn i) Done folder place h at other = placed_apart s.namespace folder place i.spot i.path (Piece []) s.entries at (away i.spot place (c.fills (MakeFileIn i) i.spot refl (or_nothing (asks (MakeFileIn i)) h)) other)
+  tree_step p s (AppendIn i piece) Done folder place h at other = placed_apart s.namespace folder place i.spot i.path (Piece piece) s.entries at (away i.spot place (c.fills (AppendIn i piece) i.spot refl (or_nothing (asks (AppendIn i piece)) h)) other)
   tree_step p s (AppendIn i piece) (Refused e left) folder place h at other = by (left == 0)
     where
       by : (b : Bool) → entries_in folder (s.entries ++ option_to_list (cond b None (placed (folder_at s.namespace i.spot) i.path (Piece (take left piece))))) ≡ entries_in folder s.entries
       by true = ap (entries_in folder) (append-nil s.entries)
-      by false = placed_apart s.namespace folder place i.spot i.path (Piece (take left piece)) s.entries at (away i.spot place (c.fills (AppendIn i piece) i.spot refl (or_false (asks (AppendIn i piece)) h)) other)
-  tree_step p s (RemoveFileIn i) Done folder place h at other = removed_apart s.namespace folder place i.spot i.path s.entries at (away i.spot place (c.fills (RemoveFileIn i) i.spot refl (or_false (asks (RemoveFileIn i)) h)) other)
-  tree_step p s (RemoveDirIn i) Done folder place h at other = removed_apart s.namespace folder place i.spot i.path s.entries at (away i.spot place (c.fills (RemoveDirIn i) i.spot refl (or_false (asks (RemoveDirIn i)) h)) other)
+      by false = placed_apart s.namespace folder place i.spot i.path (Piece (take left piece)) s.entries at (away i.spot place (c.fills (AppendIn i piece) i.spot refl (or_nothing (asks (AppendIn i piece)) h)) other)
+  tree_step p s (RemoveFileIn i) Done folder place h at other = removed_apart s.namespace folder place i.spot i.path s.entries at (away i.spot place (c.fills (RemoveFileIn i) i.spot refl (or_nothing (asks (RemoveFileIn i)) h)) other)
+  tree_step p s (RemoveDirIn i) Done folder place h at other = removed_apart s.namespace folder place i.spot i.path s.entries at (away i.spot place (c.fills (RemoveDirIn i) i.spot refl (or_nothing (asks (RemoveDirIn i)) h)) other)
   tree_step p s request reply folder place h at other = ap (entries_in folder) (append-nil s.entries)
 
   pub trees_all : (me : ℕ) (s : DirState) (es : List Event) → AllByRecursion (λ e. e.process ≡ me) es → AllByRecursion (λ e. (is_foreign me e || in_process asks e.request) ≡ true) es →
@@ -136,11 +115,11 @@ module _ (me : ℕ) where
   others_step w (Open spot which) reply = refl
   others_step w (TryLock handle mode) Done = others_locked handle mode w.openings
   others_step w (TryLock handle mode) reply = refl
-  others_step w (Close handle) Done = kept_within is_others (λ o. not (is_handle me handle o)) (closed_keeps handle) w.openings
+  others_step w (Close handle) Done = filter_twice is_others (λ o. not (is_handle me handle o)) (closed_keeps handle) w.openings
   others_step w (Close handle) reply = refl
-  others_step w Finish Done = kept_within is_others is_others (λ o h. h) w.openings
+  others_step w Finish Done = filter_twice is_others is_others (λ o h. h) w.openings
   others_step w Finish reply = refl
-  others_step w Kill Done = kept_within is_others is_others (λ o h. h) w.openings
+  others_step w Kill Done = filter_twice is_others is_others (λ o h. h) w.openings
   others_step w Kill reply = refl
   others_step w request reply = ap (filter is_others) (same_openings me w request reply refl (λ handle. refl))
 

@@ -2,6 +2,7 @@
 use Rattle.std.proofs.Common.{◌≡◌, ◌<◌, ◌-◌, ℕ, zero, suc, Ok, List, [], ◌∷◌, ◌++◌, length, map, sym, subst}
 use Rattle.std.specs.List.{All, AllByRecursion}
 use Rattle.std.proofs.lemmas.List.Elements.{All-head, All-tail}
+use Rattle.plain_laws.proofs.Lists.{head_of, tail_of}
 use Rattle.ac_types.specs.declared.store_key.StoreKey.{StoreKey}
 use Rattle.dep_match.specs.declared.dep_tree.DepNode.{DepNode}
 use Rattle.dep_match.specs.declared.dep_tree.DepTree.{DepTree}
@@ -15,9 +16,9 @@ use Rattle.image_reading.specs.Places.{IsPresent}
 use Rattle.pod_plan.specs.Choices.{AreTrees}
 use Rattle.pod_plan.specs.Roots.{node_key}
 use Rattle.pod_plan.proofs.Keys.{key_there}
-use Rattle.pod_plan.proofs.Zips.{each_at, found_at, head_of, tail_of}
+use Rattle.pod_plan.proofs.Zips.{each_at, found_at}
 use Rattle.render.specs.Orders.{all_down, from_last, top_down}
-use Rattle.standing_images.specs.Images.{AreStore, StandsSo}
+use Rattle.standing_images.specs.Images.{AreStore, StandsWithItsFiles}
 
 -- the tree of an image that was picked
 pub tree_among : (images : List Stored) (picks : List ℕ) (before : List DepTree) (tree : DepTree) (after : List DepTree) → All (λ i. i < length images) picks → AreTrees images picks (before ++ tree ∷ after) → IsOrderedTree (length images) tree.nodes
@@ -59,5 +60,5 @@ pub node_stands : (images : List Stored) (s : DirState) → AreStore images s �
 node_stands images s are nodes ordered n within =
     let i = (node_at nodes n).image in
     let f = found_at images i (ordered.images n (record { image = 0; children = [] }) within) in
-    let so : StandsSo f.0 s = each_at (λ image. StandsSo image s) images i f.0 are.together f.1 in
+    let so : StandsWithItsFiles f.0 s = each_at (λ image. StandsWithItsFiles image s) images i f.0 are.together f.1 in
     subst (λ (key : StoreKey). IsPresent key s) (sym (key_there images i f.0 f.1)) (so.folder, so.here)

@@ -1,6 +1,9 @@
 -- Where nobody else steps: a file that a process makes in its pod's folder stands there in the end, with what it appends to it.
 use Rattle.std.proofs.Common.{◌≡◌, ℕ, Bool, true, false, not, ◌&&◌, ◌||◌, ◌==◌, cond, bytes_eq, Option, Some, None, is_some, option_to_list, List, [], ◌∷◌, ◌++◌, filter, length, take, append-nil, refl, sym, ap, subst, ◌∙◌}
 use Rattle.std.specs.List.{AllByRecursion, list_any, flat_map}
+use Rattle.plain_laws.proofs.Texts.{same_bytes, same_text}
+use Rattle.plain_laws.proofs.Booleans.{clash, or_nothing}
+use Rattle.plain_laws.proofs.Lists.{any_left}
 use Rattle.dir_model.specs.declared.event.Event.{Event}
 use Rattle.dir_model.specs.declared.item.Inner.{Inner}
 use Rattle.dir_model.specs.declared.pod.PodId.{PodId}
@@ -19,29 +22,22 @@ use Rattle.dir_model.specs.Trace.{state_next, states_next, entries_kept, entry_m
 use Rattle.dir_model.specs.Trees.{content, has_any, has_file, has_parent, is_apps_own, is_dir, is_dir_entry, is_entry, is_file_entry, bytes_of}
 use Rattle.dir_model.proofs.Allowed.{allowed_reply}
 use Rattle.dir_model.proofs.Chains.{states_next-append, run_from-left, run_from-right}
-use Rattle.dir_model.proofs.Lists.{all_left, all_right, and_left, and_right, and_both, any_last, or_left_false, or_right_false, or_map, same_self}
+use Rattle.dir_model.proofs.Lists.{all_left, all_right, and_left, and_right, and_both, any_last, or_left_false, or_right_false, same_self, same_number}
 use Rattle.dir_laws.proofs.Contents.{content-push, piece_adds, piece_leaves}
 use Rattle.dir_rules.specs.Seen.{inner_eq}
-use Rattle.dir_rules.proofs.Looks.{same_bytes}
 use Rattle.folder_building.specs.Making.{inner_at}
-use Rattle.lifecycle.proofs.Handles.{clash, nat_same}
 use Rattle.lifecycle.proofs.Numbers.{one_spot}
-use Rattle.lifecycle.proofs.Places.{name_same, same_name}
+use Rattle.lifecycle.proofs.Places.{same_name}
 use Rattle.pod_locks.specs.ClaimRequests.{in_run}
-use Rattle.stage1.specs.Keeping.{appends_to, is_append}
+use Rattle.stage1.specs.Keeping.{appends_to, is_own_append}
 use Rattle.stage1.proofs.Appends.{count}
 use Rattle.commands.proofs.OwnSteps.{in_process, own_asked}
-use Rattle.commands.proofs.LateTurns.{or_false}
 use Rattle.commands.proofs.Passing.{Leaves, there_all}
 
 -- it removes nothing inside a folder
 pub record RemovesNothing (asks : Request → Bool) : Type 0 where
   pub files : (inner : Inner) → asks (RemoveFileIn inner) ≡ true → ⊥
   pub dirs : (inner : Inner) → asks (RemoveDirIn inner) ≡ true → ⊥
-
-any_more : {X : Type 0} (t : X → Bool) (xs ys : List X) → list_any t xs ≡ true → list_any t (xs ++ ys) ≡ true
-any_more t [] ys h = cc
-any_more t (x ∷ xs) ys h = or_map (t x) (list_any t xs) (list_any t (xs ++ ys)) (any_more t xs ys) h
 
 -- where nothing stands at a path there are no bytes
 none_there : (k : ℕ) (path : List ℕ) (es : List TreeEntry) → list_any (is_dir_entry k path) es ≡ false → list_any (is_file_entry k path) es ≡ false → content es k path ≡ []
@@ -76,7 +72,7 @@ module _ (k : ℕ) (inner : Inner) where
     other_entry i node off = by (folder_at n i.spot) refl
       where
         apart : (j : ℕ) → folder_at n i.spot ≡ Some j → (a b : Bool) → (j == k) ≡ a → bytes_eq i.path inner.path ≡ b → (a && b) ≡ false
-        apart j found true true e f = clash (inner_eq inner i) (and_both (spot_eq inner.spot i.spot) (bytes_eq inner.path i.path) (one_spot n inner.spot i.spot k at (found ∙ ap Some (nat_same j k e))) (same_name inner.path i.path (sym (name_same i.path inner.path f)))) off
+        apart j found true true e f = clash (inner_eq inner i) (and_both (spot_eq inner.spot i.spot) (bytes_eq inner.path i.path) (one_spot n inner.spot i.spot k at (found ∙ ap Some (same_number j k e))) (same_name inner.path i.path (sym (same_text i.path inner.path f)))) off
         apart j found true false e f = refl
         apart j found false b e f = refl
 
@@ -106,8 +102,8 @@ module _ (pod : PodId) (asks : Request → Bool) (l : Leaves (in_run pod) asks) 
   Asked es = AllByRecursion (λ e. (is_foreign me e || in_process asks e.request) ≡ true) es
 
   kept : (n : Namespace) (es : List TreeEntry) (request : Request) (reply : Reply) → (is_kill request || in_process asks request) ≡ true → entries_kept n es request reply ≡ es
-  kept n es (RemoveFileIn i) Done h = absurd (none.files i (or_false (asks (RemoveFileIn i)) h))
-  kept n es (RemoveDirIn i) Done h = absurd (none.dirs i (or_false (asks (RemoveDirIn i)) h))
+  kept n es (RemoveFileIn i) Done h = absurd (none.files i (or_nothing (asks (RemoveFileIn i)) h))
+  kept n es (RemoveDirIn i) Done h = absurd (none.dirs i (or_nothing (asks (RemoveDirIn i)) h))
   kept n es request reply h = refl
 
   -- a file in the folder with this number
@@ -120,7 +116,7 @@ module _ (pod : PodId) (asks : Request → Bool) (l : Leaves (in_run pod) asks) 
 
     file_on : (k : ℕ) (s : DirState) (request : Request) (reply : Reply) → (is_kill request || in_process asks request) ≡ true → has_file s.entries k path ≡ true → has_file (state_next s (event me request reply)).entries k path ≡ true
     file_on k s request reply h at =
-        any_more (is_file_entry k path) (entries_kept s.namespace s.entries request reply) (option_to_list (entry_made s.namespace request reply)) (ap (λ (es : List TreeEntry). has_file es k path) (kept s.namespace s.entries request reply h) ∙ at)
+        any_left (is_file_entry k path) (entries_kept s.namespace s.entries request reply) (option_to_list (entry_made s.namespace request reply)) (ap (λ (es : List TreeEntry). has_file es k path) (kept s.namespace s.entries request reply h) ∙ at)
 
     file_all : (k : ℕ) (s : DirState) (es : List Event) → Own es → Asked es → has_file s.entries k path ≡ true → has_file (states_next s es).entries k path ≡ true
     file_all k s [] own asked at = at
@@ -139,9 +135,9 @@ module _ (pod : PodId) (asks : Request → Bool) (l : Leaves (in_run pod) asks) 
 
     none_appended : (es : List Event) → Own es → count me inner es ≡ 0 → AllByRecursion (λ e. appends_to inner e.request ≡ false) es
     none_appended [] own is = tt
-    none_appended (e ∷ es) own is = by (is_append me inner e) refl is (λ left. none_appended es own.1 left)
+    none_appended (e ∷ es) own is = by (is_own_append me inner e) refl is (λ left. none_appended es own.1 left)
       where
-        by : (b : Bool) → is_append me inner e ≡ b → length (cond b (e ∷ filter (is_append me inner) es) (filter (is_append me inner) es)) ≡ 0 → (count me inner es ≡ 0 → AllByRecursion (λ x. appends_to inner x.request ≡ false) es) →
+        by : (b : Bool) → is_own_append me inner e ≡ b → length (cond b (e ∷ filter (is_own_append me inner) es) (filter (is_own_append me inner) es)) ≡ 0 → (count me inner es ≡ 0 → AllByRecursion (λ x. appends_to inner x.request ≡ false) es) →
             AllByRecursion (λ x. appends_to inner x.request ≡ false) (e ∷ es)
         by true found is rest = cc
         by false found is rest = (uncounted (e.process == me) e.request (ap (λ (p : ℕ). p == me) own.0 ∙ same_self me) found, rest is)

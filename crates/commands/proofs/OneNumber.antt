@@ -1,6 +1,6 @@
 -- In a conforming execution the folder that stands at a place of a pod has one number at all times.
-use Rattle.std.proofs.Common.{arith, ◌≡◌, ◌⊎◌, inl, inr, ◌≤◌, ℕ, true, nat_le, Option, Some, is_some, List, [], ◌∷◌, ◌++◌, append-nil, refl, sym, ap, subst, ◌∙◌}
-use Rattle.std.proofs.lemmas.Bool.Decides.{nat_tests}
+use Rattle.std.proofs.Common.{◌≡◌, ◌⊎◌, inl, inr, ℕ, true, Option, Some, is_some, List, [], ◌∷◌, ◌++◌, append-nil, refl, sym, ap, subst, ◌∙◌}
+use Rattle.plain_laws.proofs.Numbers.{at_most_back}
 use Rattle.dir_model.specs.declared.event.Event.{Event}
 use Rattle.dir_model.specs.declared.spot.Spot.{Spot}
 use Rattle.dir_model.specs.Areas.{rank, is_stage}
@@ -9,9 +9,6 @@ use Rattle.dir_model.specs.Trace.{state_after}
 use Rattle.lifecycle.specs.Executions.{IsConforming}
 use Rattle.lifecycle.proofs.Stays.{stays_between}
 use Rattle.pod_locks.specs.Work.{Grew}
-
-at_most : (n m : ℕ) → nat_le n m ≡ true → n ≤ m
-at_most n m l = grind (arith, nat_tests)
 
 -- of two moments of one trace, one comes first
 ordered : (a b x y : List Event) → a ++ x ≡ b ++ y → Grew a b ⊎ Grew b a
@@ -31,7 +28,7 @@ module _ (new : List Event) (conforming : IsConforming new) (spot : Spot) (stage
       let end : b ≡ (a ++ x.more) ++ [] = x.grown ∙ sym (append-nil (a ++ x.more)) in
       let whole : new ≡ ((a ++ x.more) ++ []) ++ y.more = y.grown ∙ ap (λ (h : List Event). h ++ y.more) end in
       let there : stands (state_after ((a ++ x.more) ++ [])).namespace spot ≡ true = subst (λ (h : List Event). stands (state_after h).namespace spot ≡ true) end (ap (λ (o : Option ℕ). is_some o) last) in
-      let still = stays_between new conforming spot f a x.more [] y.more (at_most (rank spot.area) 5 stage) whole first there in
+      let still = stays_between new conforming spot f a x.more [] y.more (at_most_back (rank spot.area) 5 stage) whole first there in
       let here : folder_at (state_after b).namespace spot ≡ Some f = subst (λ (h : List Event). folder_at (state_after h).namespace spot ≡ Some f) (sym x.grown) still in
       let same : Some f ≡ Some k = sym here ∙ last in cc
 

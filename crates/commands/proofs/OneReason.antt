@@ -11,7 +11,7 @@ use Rattle.dep_match.specs.Dependencies.{dependency_tree}
 use Rattle.pod_plan.specs.declared.choice.Choice.{Choice}
 use Rattle.pod_plan.specs.declared.choice_error.ChoiceError.{ChoiceError}
 use Rattle.pod_plan.specs.declared.choice_error.ChoiceError.TheVariants as choice
-use Rattle.pod_plan.specs.Choices.{best_of, ArePicks, AreTrees, IsChoice, IsRefused, IsTreeFault, IsUnmatched}
+use Rattle.pod_plan.specs.Choices.{best_of, ArePicks, AreTrees, IsChoice, IsChoiceRefused, IsTreeFault, IsUnmatched}
 use Rattle.pod_plan.proofs.Mapped.{all_ok, all_some}
 use Rattle.pod_manifest.specs.Generation.{first_refusal}
 use Rattle.pod_manifest.specs.Wishes.{Wishes}
@@ -83,7 +83,7 @@ module _ (images : List Stored) (refs : List ImageRef) (wishes : Wishes) where
       let both = sym x.faulty ∙ (ap (dependency_tree images) first.1 ∙ y.faulty) in
       cc
 
-  pub one_reason : (r q : ChoiceError) → IsRefused images refs wishes r → IsRefused images refs wishes q → (r ≡ choice.NoMemory → ⊥) → (q ≡ choice.NoMemory → ⊥) → r ≡ q
+  pub one_reason : (r q : ChoiceError) → IsChoiceRefused images refs wishes r → IsChoiceRefused images refs wishes q → (r ≡ choice.NoMemory → ⊥) → (q ≡ choice.NoMemory → ⊥) → r ≡ q
   one_reason (choice.NoMatch p) (choice.NoMatch k) x y a b =
       let first = first_one Matched x.before y.before x.wanted y.wanted x.after y.after (sym x.is ∙ y.is) (unmatched p x) (unmatched k y) x.earlier y.earlier in
       ap choice.NoMatch (x.at ∙ (first.0 ∙ sym y.at))
@@ -102,7 +102,7 @@ module _ (images : List Stored) (refs : List ImageRef) (wishes : Wishes) where
   one_reason r choice.NoMemory x y a b = absurd (b refl)
 
   -- and none where they make a pod
-  pub no_reason : (pod : Choice) → IsChoice images refs wishes pod → (r : ChoiceError) → IsRefused images refs wishes r → r ≡ choice.NoMemory
+  pub no_reason : (pod : Choice) → IsChoice images refs wishes pod → (r : ChoiceError) → IsChoiceRefused images refs wishes r → r ≡ choice.NoMemory
   no_reason pod c (choice.NoMatch p) x = absurd (never_unmatched p pod.picks x c.0)
   no_reason pod c (choice.DepError f) x = absurd (never_faulty pod.picks f pod.trees (subst (λ (l : List ℕ). IsTreeFault images l f) (one_pick x.0 pod.picks x.1 c.0) x.2) c.1.dependencies)
   no_reason pod c (choice.GenError f) x =

@@ -41,7 +41,7 @@ use Rattle.standing_images.specs.Images.{AreStore}
 use Rattle.standing_images.proofs.OneDamage.{not_whole, one_damage}
 use Rattle.standing_images.proofs.OneStore.{one_store}
 use Rattle.commands.specs.ImageImportTable.{HasListing}
-use Rattle.commands.specs.PrepareTable.{CanCopy, CanCopyAll, CanCopyRoot, IsEmbryoFree, NothingRefuses, FailsFile, FailsRoot, HasBytes, HasSources, IsTaken, IsUntaken, LacksBytes, LacksCopied, LacksFile, LacksName, MakesRoots, root_file, HasEntries, HasRoot, HaveEntries, IsOnly, IsPodOf, IsPodWithRoots, IsReason, IsRoot, IsTold, LocksRefuse, Refuses, StoreRefuses}
+use Rattle.commands.specs.PrepareTable.{CanCopy, CanCopyAll, CanCopyRoot, IsEmbryoFree, NothingRefuses, FailsFile, FailsRoot, HasBytes, RootHasSources, IsTaken, IsUntaken, LacksBytes, LacksCopied, LacksSourceFile, LacksName, MakesRoots, root_file, HasEntries, HasRoot, HaveEntries, IsOnly, IsPodOfReferences, IsPodWithRoots, IsReason, IsRootInStore, IsToldByState, LocksRefuse, RefusesReferences, StoreRefuses}
 use Rattle.commands.proofs.Firsts.{first_bad}
 use Rattle.commands.proofs.NodesStand.{tree_among}
 use Rattle.commands.proofs.OneReason.{one_pick, one_reason}
@@ -66,7 +66,7 @@ module _ (xs ys : List Stored) (same : map stored_data xs ≡ map stored_data ys
     each = all_weaker (λ n. HasEntries (node_key xs nodes n) (own n) s) (λ n. HasEntries (node_key ys nodes n) (own n) s) (entries_same nodes own) first x.each;
   }
 
-  root_same : (tree : DepTree) (whole : Entries) → IsRoot xs tree whole s → IsRoot ys tree whole s
+  root_same : (tree : DepTree) (whole : Entries) → IsRootInStore xs tree whole s → IsRootInStore ys tree whole s
   root_same tree whole x = record {
     own = x.own;
     each = λ n inside. entries_same tree.nodes x.own n (x.each n inside);
@@ -103,7 +103,7 @@ module _ (xs ys : List Stored) (same : map stored_data xs ≡ map stored_data ys
   fails_same tree (build.ListingError error) x = record { whole = x.whole; root = root_same tree x.whole x.root; large = x.large }
   fails_same tree e x = absurd x
 
-  put_same : (tree : DepTree) (r : Rendering) → HasSources xs tree r s → HasSources ys tree r s
+  put_same : (tree : DepTree) (r : Rendering) → RootHasSources xs tree r s → RootHasSources ys tree r s
   unfolding root_same
   put_same tree r x = record {
     root = root_same tree r.map x.root;
@@ -121,7 +121,7 @@ module _ (xs ys : List Stored) (same : map stored_data xs ≡ map stored_data ys
   copies_same : (tree : DepTree) → CanCopyRoot xs s tree → CanCopyRoot ys s tree
   copies_same tree x = (x.0, put_same tree x.0 x.1, all_can_same x.0 x.0.map x.2)
 
-  lacks_same : (tree : DepTree) (path : List ℕ) → LacksFile xs path s tree → LacksFile ys path s tree
+  lacks_same : (tree : DepTree) (path : List ℕ) → LacksSourceFile xs path s tree → LacksSourceFile ys path s tree
   unfolding root_same put_same
   lacks_same tree path x = record {
     rendering = x.rendering;
@@ -161,9 +161,9 @@ module _ (refs : List ImageRef) (wishes : Wishes) (draw : PodId) (s : DirState) 
     picks : List ℕ
     are : ArePicks images refs picks
     dependencies : AreTrees images picks trees
-    unrefused : (reason : ChoiceError) → chosen.IsRefused images refs wishes reason → reason ≡ choice.NoMemory
+    unrefused : (reason : ChoiceError) → chosen.IsChoiceRefused images refs wishes reason → reason ≡ choice.NoMemory
 
-  made_of : (images : List Stored) (x : IsPodOf images refs wishes) → MakesOf images x.pod.trees
+  made_of : (images : List Stored) (x : IsPodOfReferences images refs wishes) → MakesOf images x.pod.trees
   made_of images x = record { picks = x.pod.picks; are = x.chosen.0; dependencies = x.chosen.1.dependencies; unrefused = x.unrefused }
 
   -- one of these fails
@@ -186,7 +186,7 @@ module _ (refs : List ImageRef) (wishes : Wishes) (draw : PodId) (s : DirState) 
     reason : ChoiceError
     is : e ≡ chosen_refusal reason
     told : reason ≡ choice.NoMemory → ⊥
-    refused : chosen.IsRefused images refs wishes reason
+    refused : chosen.IsChoiceRefused images refs wishes reason
 
   record RootFails (images : List Stored) (e : BuildError) : Type 0 where
     trees : List DepTree
@@ -221,7 +221,7 @@ module _ (refs : List ImageRef) (wishes : Wishes) (draw : PodId) (s : DirState) 
   follows : (images : List Stored) (e : BuildError) → IsPodWithRoots images refs wishes s → ComesWithPlan e → PodFollows images e
   follows images e p f = record { trees = p.made.pod.trees; made = made_of images p.made; rooted = p.rooted; follows = f }
 
-  verdict : (e : BuildError) → IsTold e → IsFreeElsewhere me Images Shared s → LocksRefuse me s e → StoreRefuses me draw refs wishes s e → Verdict e
+  verdict : (e : BuildError) → IsToldByState e → IsFreeElsewhere me Images Shared s → LocksRefuse me s e → StoreRefuses me draw refs wishes s e → Verdict e
   verdict (build.Busy Images) told free held x = let clash : false ≡ true = sym free ∙ held in cc
   verdict (build.Busy Embryo) told free held x = inr (x.0, x.1, inr (inr (follows x.0 (build.Busy Embryo) x.2 (held.1, x))))
   verdict (build.Busy area) told free held x = absurd held
@@ -247,7 +247,7 @@ module _ (refs : List ImageRef) (wishes : Wishes) (draw : PodId) (s : DirState) 
     after : List DepTree
     split : trees ≡ before ++ tree ∷ after
     earlier : AllByRecursion (CanCopyRoot images s) before
-    lacks : LacksFile images path s tree
+    lacks : LacksSourceFile images path s tree
 
   file_fails : (images : List Stored) (path : List ℕ) → FailsFile images refs wishes path s → FileFails images path
   file_fails images path x = record { trees = x.is.made.pod.trees; made = made_of images x.is.made; before = x.before; tree = x.tree; after = x.after; split = x.split; earlier = x.earlier; lacks = x.lacks }
@@ -313,7 +313,7 @@ module _ (refs : List ImageRef) (wishes : Wishes) (draw : PodId) (s : DirState) 
         let tree : x.tree ≡ y.tree = first_bad (CanCopyRoot images s) x.before y.before x.tree y.tree x.after y.after (sym x.split ∙ (trees ∙ y.split))
         (lacks_or_can images s x.tree (length images) (ordered x.trees x.made x.before x.tree x.after x.split) x.lacks)
         (lacks_or_can images s y.tree (length images) (ordered y.trees y.made y.before y.tree y.after y.split) y.lacks) x.earlier y.earlier in
-        one_file images s y.tree (length images) (ordered y.trees y.made y.before y.tree y.after y.split) p q (subst (λ (t : DepTree). LacksFile images p s t) tree x.lacks) y.lacks
+        one_file images s y.tree (length images) (ordered y.trees y.made y.before y.tree y.after y.split) p q (subst (λ (t : DepTree). LacksSourceFile images p s t) tree x.lacks) y.lacks
 
     fails_or_rooted : (e : BuildError) → RootFails images e → (trees : List DepTree) → MakesOf images trees → AllByRecursion (HasRoot images s) trees → ⊥
     fails_or_rooted e x trees made rooted =
@@ -373,7 +373,7 @@ module _ (refs : List ImageRef) (wishes : Wishes) (draw : PodId) (s : DirState) 
   two_verdicts e f (inr x) (inr y) = two_kinds x.0 e f x.2 (kind_same y.0 x.0 (one_store s y.0 x.0 y.1 x.1) f y.2)
 
   -- by the lock of images
-  held_or_free : (e : BuildError) → IsTold e → LocksRefuse me s e → ((e ≡ build.Busy Images) × IsBusyElsewhere me Images Shared s) ⊎ IsFreeElsewhere me Images Shared s
+  held_or_free : (e : BuildError) → IsToldByState e → LocksRefuse me s e → ((e ≡ build.Busy Images) × IsBusyElsewhere me Images Shared s) ⊎ IsFreeElsewhere me Images Shared s
   held_or_free (build.Busy Images) told x = inl (refl, x)
   held_or_free (build.Busy Embryo) told x = inr x.0
   held_or_free (build.Busy area) told x = absurd x
@@ -382,7 +382,7 @@ module _ (refs : List ImageRef) (wishes : Wishes) (draw : PodId) (s : DirState) 
   held_or_free build.Stray told x = absurd told
   held_or_free e told x = inr x
 
-  pub one_refusal : (e : BuildError) → Refuses me draw refs wishes s e → IsOnly me draw refs wishes s e
+  pub one_refusal : (e : BuildError) → RefusesReferences me draw refs wishes s e → IsOnly me draw refs wishes s e
   one_refusal e x told f other y = by (held_or_free f other y.0) (held_or_free e told x.0)
     where
       by : ((f ≡ build.Busy Images) × IsBusyElsewhere me Images Shared s) ⊎ IsFreeElsewhere me Images Shared s → ((e ≡ build.Busy Images) × IsBusyElsewhere me Images Shared s) ⊎ IsFreeElsewhere me Images Shared s →

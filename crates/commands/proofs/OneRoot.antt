@@ -20,7 +20,7 @@ use Rattle.path_map.specs.Whitelist.{whitelisted}
 use Rattle.path_map.proofs.Rising.{same_from_tree}
 use Rattle.pod_build.specs.declared.error.BuildError.{BuildError}
 use Rattle.pod_build.specs.declared.error.BuildError.TheVariants as build
-use Rattle.pod_plan.specs.Roots.{node_key, entries_together, AreFew}
+use Rattle.pod_plan.specs.Roots.{node_key, entries_together, AreFewEntries}
 use Rattle.render.specs.Assembly.{IsAssembly, empty_tree, laid, layered, own_whitelist}
 use Rattle.render.specs.Orders.{all_down}
 use Rattle.render.specs.declared.refusals.TheConstants.{MAX_ENTRIES}
@@ -32,14 +32,14 @@ use Rattle.tree_digest.specs.declared.listing_error.ListingError.{ListingError}
 use Rattle.tree_digest.specs.declared.listing_error.ListingError.TheVariants.{TooMany}
 use Rattle.standing_images.specs.Images.{HasFile}
 use Rattle.commands.specs.ImageImportTable.{HasListing}
-use Rattle.commands.specs.PrepareTable.{HasEntries, IsRoot, HasRoot, LacksListing, HasTooMany, HasLargeListing, PassesLimit}
+use Rattle.commands.specs.PrepareTable.{HasEntries, IsRootInStore, HasRoot, TreeLacksListing, HasTooManyEntries, RootListingIsLarge, PassesLimit}
 use Rattle.commands.proofs.NodesStand.{all_within}
 
 -- a tree fails in a manner that gives this refusal
 abbrev pub TreeFails : List Stored → DirState → DepTree → BuildError → Type 0
-TreeFails images s tree (build.Damaged path) = LacksListing images path s tree
+TreeFails images s tree (build.Damaged path) = TreeLacksListing images path s tree
 TreeFails images s tree (build.RenderError error) = PassesLimit images error s tree
-TreeFails images s tree (build.ListingError error) = HasLargeListing images error s tree
+TreeFails images s tree (build.ListingError error) = RootListingIsLarge images error s tree
 TreeFails images s tree error = ⊥
 
 -- ---- one listing
@@ -104,11 +104,11 @@ module _ (images : List Stored) (s : DirState) (tree : DepTree) where
   same_own own other (n ∷ ns) x y = (one_listing s (node_key images tree.nodes n) (own n) (other n) x.0 y.0, same_own own other ns x.1 y.1)
 
   -- what is few enough with more is so with less
-  never_many : (own other : ℕ → Entries) (ns ms : List ℕ) → AllByRecursion (Has own) (ns ++ ms) → AllByRecursion (Has other) ns → AreFew own (ns ++ ms) → MAX_ENTRIES < entries_together other ns → ⊥
+  never_many : (own other : ℕ → Entries) (ns ms : List ℕ) → AllByRecursion (Has own) (ns ++ ms) → AllByRecursion (Has other) ns → AreFewEntries own (ns ++ ms) → MAX_ENTRIES < entries_together other ns → ⊥
   never_many own other ns ms x y few many = omega (arith, few, many, few_more own ns ms, same_count own other ns (same_own own other ns (all_left (Has own) ns ms x) y))
 
   -- a front with listings ends before a listing that lacks
-  before_lack : (path : List ℕ) (x : LacksListing images path s tree) (own : ℕ → Entries) (first others : List ℕ) → all_down tree.nodes 0 ≡ first ++ others → AllByRecursion (Has own) first → (m : List ℕ) × (x.first ≡ first ++ m)
+  before_lack : (path : List ℕ) (x : TreeLacksListing images path s tree) (own : ℕ → Entries) (first others : List ℕ) → all_down tree.nodes 0 ≡ first ++ others → AllByRecursion (Has own) first → (m : List ℕ) × (x.first ≡ first ++ m)
   before_lack path x own first others order each = by (reaches x.first first x.next x.others others (sym x.earlier.order ∙ order))
     where
       by : ((m : List ℕ) × (first ≡ x.first ++ x.next ∷ m)) ⊎ ((m : List ℕ) × (x.first ≡ first ++ m)) → (m : List ℕ) × (x.first ≡ first ++ m)
@@ -117,7 +117,7 @@ module _ (images : List Stored) (s : DirState) (tree : DepTree) where
           absurd (x.lacks (has_listing s (node_key images tree.nodes x.next) (own x.next) there.0))
       by (inr m) = m
 
-  one_lack : (p q : List ℕ) → LacksListing images p s tree → LacksListing images q s tree → p ≡ q
+  one_lack : (p q : List ℕ) → TreeLacksListing images p s tree → TreeLacksListing images q s tree → p ≡ q
   one_lack p q x y =
       let a = before_lack p x y.own y.first (y.next ∷ y.others) y.earlier.order y.earlier.each in
       let b = before_lack q y x.own x.first (x.next ∷ x.others) x.earlier.order x.earlier.each in
@@ -130,21 +130,21 @@ module _ (images : List Stored) (s : DirState) (tree : DepTree) where
       path_of : ℕ → List ℕ
       path_of n = stored_path (node_key images tree.nodes n) tree_name
 
-  lack_or_many : (p : List ℕ) → LacksListing images p s tree → HasTooMany images s tree → ⊥
+  lack_or_many : (p : List ℕ) → TreeLacksListing images p s tree → HasTooManyEntries images s tree → ⊥
   lack_or_many p x y =
       let front = y.first ++ y.next ∷ [] in
       let m = before_lack p x y.own front y.others y.listed.order y.listed.each in
-      never_many x.own y.own front m.0 (subst (λ (l : List ℕ). AllByRecursion (Has x.own) l) m.1 x.earlier.each) y.listed.each (subst (λ (l : List ℕ). AreFew x.own l) m.1 x.few) y.many
+      never_many x.own y.own front m.0 (subst (λ (l : List ℕ). AllByRecursion (Has x.own) l) m.1 x.earlier.each) y.listed.each (subst (λ (l : List ℕ). AreFewEntries x.own l) m.1 x.few) y.many
 
-  lack_or_root : (p : List ℕ) (whole : Entries) → LacksListing images p s tree → IsRoot images tree whole s → ⊥
+  lack_or_root : (p : List ℕ) (whole : Entries) → TreeLacksListing images p s tree → IsRootInStore images tree whole s → ⊥
   lack_or_root p whole x y = x.lacks (has_listing s (node_key images tree.nodes x.next) (y.own x.next) (y.each x.next x.within))
 
   module _ (count : ℕ) (ordered : IsOrderedTree count tree.nodes) where
-    many_or_root : (whole : Entries) → HasTooMany images s tree → IsRoot images tree whole s → ⊥
+    many_or_root : (whole : Entries) → HasTooManyEntries images s tree → IsRootInStore images tree whole s → ⊥
     many_or_root whole x y =
         let front = x.first ++ x.next ∷ [] in
         let all : AllByRecursion (Has y.own) (all_down tree.nodes 0) = all_weaker (λ n. n < length tree.nodes) (Has y.own) y.each (all_down tree.nodes 0) (all_within count tree.nodes ordered) in
-        never_many y.own x.own front x.others (subst (λ (l : List ℕ). AllByRecursion (Has y.own) l) x.listed.order all) x.listed.each (subst (λ (l : List ℕ). AreFew y.own l) x.listed.order y.few) x.many
+        never_many y.own x.own front x.others (subst (λ (l : List ℕ). AllByRecursion (Has y.own) l) x.listed.order all) x.listed.each (subst (λ (l : List ℕ). AreFewEntries y.own l) x.listed.order y.few) x.many
 
     -- one root
     module _ (own other : ℕ → Entries) (same : (n : ℕ) → n < length tree.nodes → own n ≡ other n) where
@@ -173,7 +173,7 @@ module _ (images : List Stored) (s : DirState) (tree : DepTree) where
           ∙ (ap (λ (es : Entries). whitelisted (whites n) (laid (layered empty_tree b.0) es) q) (same n within)
           ∙ sym (b.2.entries q))))
 
-    one_root : (x y : Entries) → IsRoot images tree x s → IsRoot images tree y s → x ≡ y
+    one_root : (x y : Entries) → IsRootInStore images tree x s → IsRootInStore images tree y s → x ≡ y
     one_root x y a b =
         one_assembly a.own b.own (λ n inside. one_listing s (node_key images tree.nodes n) (a.own n) (b.own n) (a.each n inside) (b.each n inside)) (length tree.nodes) 0 x y ordered.top a.rendered b.rendered
 
@@ -184,7 +184,7 @@ module _ (images : List Stored) (s : DirState) (tree : DepTree) where
         by true A B P h k = h ∙ sym k
         by false A B P h k = h.1 ∙ sym k.1
 
-    larges : (e f : ListingError) → HasLargeListing images e s tree → HasLargeListing images f s tree → e ≡ f
+    larges : (e f : ListingError) → RootListingIsLarge images e s tree → RootListingIsLarge images f s tree → e ≡ f
     larges e f x y = one_large (lines_of x.whole) e f x.large (subst (λ (w : Entries). IsTooLarge (lines_of w) f) (one_root y.whole x.whole y.root x.root) y.large)
 
     -- ---- the tree fails for one reason, and then has no root
@@ -218,7 +218,7 @@ module _ (images : List Stored) (s : DirState) (tree : DepTree) where
         by true is A B x = grind (arith, nat_tests, is, few)
         by false is A B x = omega (arith, short, x.0)
 
-    never_large : (error : ListingError) → HasLargeListing images error s tree → HasRoot images s tree → ⊥
+    never_large : (error : ListingError) → RootListingIsLarge images error s tree → HasRoot images s tree → ⊥
     never_large error x root = fits (lines_of x.whole) error (subst (λ (w : Entries). IsListing (lines_of w)) (one_root root.0 x.whole root.1 x.root) root.2) x.large
 
     pub no_root : (e : BuildError) → TreeFails images s tree e → HasRoot images s tree → ⊥

@@ -23,7 +23,7 @@ use Rattle.render.specs.Layers.{is_file_at, layered_origins, maps_of, no_origins
 use Rattle.render.specs.Origins.{OriginMap, laid_origins, origin_at}
 use Rattle.render.specs.Plans.{IsPut}
 use Rattle.render.specs.declared.rendering.Rendering.{Rendering}
-use Rattle.commands.specs.PrepareTable.{CanCopy, CanCopyAll, CanCopyRoot, HasBytes, HasSources, LacksFile, root_file}
+use Rattle.commands.specs.PrepareTable.{CanCopy, CanCopyAll, CanCopyRoot, HasBytes, RootHasSources, LacksSourceFile, root_file}
 use Rattle.commands.proofs.OneRoot.{one_listing}
 use Rattle.commands.proofs.Firsts.{first_bad}
 
@@ -97,7 +97,7 @@ module _ (images : List Stored) (s : DirState) (tree : DepTree) (count : ℕ) (o
     one_put (suc levels) n x y within a b =
         put_same levels n x y within a b (parts_same levels (one_put levels) n (node_at tree.nodes n).children a.0 b.0 (ordered.children n within) a.1 b.1)
 
-  one_rendering : (x y : Rendering) → HasSources images tree x s → HasSources images tree y s → Same x y
+  one_rendering : (x y : Rendering) → RootHasSources images tree x s → RootHasSources images tree y s → Same x y
   one_rendering x y a b =
       one_put a.root.own b.root.own (λ n inside. one_listing s (node_key images tree.nodes n) (a.root.own n) (b.root.own n) (a.root.each n inside) (b.root.each n inside)) (length tree.nodes) 0 x y ordered.top a.put b.put
 
@@ -110,20 +110,20 @@ module _ (images : List Stored) (s : DirState) (tree : DepTree) (count : ℕ) (o
   all_can_same x y same m can = all_weaker (λ e. CanCopy images x s e.0 e.1) (λ e. CanCopy images y s e.0 e.1) (λ e. can_same x y same e.0 e.1) m can
 
   -- the file that is told can't
-  never_can : {path : List ℕ} (x : LacksFile images path s tree) → CanCopy images x.rendering s x.file (File x.meta x.size x.sha) → ⊥
+  never_can : {path : List ℕ} (x : LacksSourceFile images path s tree) → CanCopy images x.rendering s x.file (File x.meta x.size x.sha) → ⊥
   never_can x can =
       let both : Some can.0 ≡ Some (node_at tree.nodes x.node).image = sym can.1 ∙ x.from in
       let place : can.0 ≡ (node_at tree.nodes x.node).image = cc in
       let has = subst (λ (i : ℕ). HasBytes (key_of i) (root_file x.file) x.size x.sha s) place can.2 in
       x.lacks has.bytes has.there has.sized has.hashed
 
-  pub lacks_or_can : {path : List ℕ} → LacksFile images path s tree → CanCopyRoot images s tree → ⊥
+  pub lacks_or_can : {path : List ℕ} → LacksSourceFile images path s tree → CanCopyRoot images s tree → ⊥
   lacks_or_can x root =
       let same = one_rendering root.0 x.rendering root.1 x.sourced in
       let all = subst (λ (m : Entries). CanCopyAll images x.rendering s m) (same.map ∙ x.split) (all_can_same root.0 x.rendering same root.0.map root.2) in
       never_can x (all_right (λ e. CanCopy images x.rendering s e.0 e.1) x.before ((x.file, File x.meta x.size x.sha) ∷ x.after) all).0
 
-  pub one_file : (p q : List ℕ) → LacksFile images p s tree → LacksFile images q s tree → p ≡ q
+  pub one_file : (p q : List ℕ) → LacksSourceFile images p s tree → LacksSourceFile images q s tree → p ≡ q
   one_file p q x y =
       let same = one_rendering x.rendering y.rendering x.sourced y.sourced in
       let back = one_rendering y.rendering x.rendering y.sourced x.sourced in

@@ -1,5 +1,6 @@
 -- What a folder holds gives its apps one list of starts, or one reason for none.
 use Rattle.std.proofs.Common.{◌≡◌, inl, inr, ℕ, Option, Some, None, IfSome, List, [], ◌∷◌, Result, Ok, refl, sym, ap, subst, ◌∙◌}
+use Rattle.plain_laws.proofs.Lists.{both_lists}
 use Rattle.app_section.specs.AppData.{AppData}
 use Rattle.ac_types.specs.Outcomes.{reads}
 use Rattle.ac_types.specs.Outcomes as reading
@@ -16,7 +17,7 @@ use Rattle.stage1.specs.declared.load_error.LoadError.TheVariants.{NoManifest, D
 use Rattle.stage1.specs.declared.start.AppStart.{AppStart}
 use Rattle.stage1.specs.AppPlaces.{tree_path, told_path}
 use Rattle.tree_digest.specs.declared.line.ListingLine.{ListingLine}
-use Rattle.commands.specs.RunTable.{HoldsFile, HoldsManifest, HoldsToken, HoldsListing, HoldsListings, StartsSo, StartSo, AreStartsOf, FirstUnlisted, FirstMissing, HasNoStarts, SameStart, SameStarts, AreTheStarts, IsWhyNone, tree_of}
+use Rattle.commands.specs.RunTable.{HoldsFile, HoldsManifest, HoldsToken, HoldsListing, HoldsListings, IsStartOfApp, AreStartsOfApps, AreStartsOf, FirstUnlisted, FirstMissing, HasNoStarts, SameStart, SameStarts, AreTheStarts, IsWhyNone, tree_of_lines}
 
 -- one file stands at a path
 one_file : {es : List Entry} {path : List ℕ} {P Q : List ℕ → Type 0} (x : HoldsFile es path P) (y : HoldsFile es path Q) → x.bytes ≡ y.bytes
@@ -32,9 +33,6 @@ one_token a b x y = x.so.0 ∙ (one_file x y ∙ sym y.so.0)
 
 one_listing : {es : List Entry} (app : List ℕ) (a b : List ListingLine) → HoldsListing es app a → HoldsListing es app b → a ≡ b
 one_listing app a b x y = no_two_listings_have_one_text a b x.so.kind.follow y.so.kind.follow (sym x.so.text ∙ (one_file x y ∙ y.so.text))
-
-both_lists : {X : Type 0} (a b : X) (xs ys : List X) → a ≡ b → xs ≡ ys → a ∷ xs ≡ b ∷ ys
-both_lists a b xs ys is are = cc
 
 one_listings : (es : List Entry) (apps : List RuntimeAppData) (xs ys : List (List ListingLine)) → HoldsListings es apps xs → HoldsListings es apps ys → xs ≡ ys
 one_listings es [] [] [] x y = refl
@@ -73,15 +71,15 @@ one_launch_of None name address token tree a b found x y = let clash : Some [] �
 one_launch_of (Some app) name address token tree a b found x y = one_launch app name address token tree a b x y
 
 module _ (pod : PodId) (address : List ℕ) where
-  same_start : (token : List ℕ) (app : RuntimeAppData) (lines : List ListingLine) (a b : AppStart) → StartsSo pod address token app lines a → StartsSo pod address token app lines b → SameStart a b
+  same_start : (token : List ℕ) (app : RuntimeAppData) (lines : List ListingLine) (a b : AppStart) → IsStartOfApp pod address token app lines a → IsStartOfApp pod address token app lines b → SameStart a b
   same_start token app lines a b x y = record {
     name = x.name ∙ sym y.name;
     root = x.place ∙ sym y.place;
     listing = x.listing ∙ sym y.listing;
-    launch = one_launch_of app.app app.name address token (tree_of lines) a.launch b.launch x.found x.launch y.launch;
+    launch = one_launch_of app.app app.name address token (tree_of_lines lines) a.launch b.launch x.found x.launch y.launch;
   }
 
-  same_starts : (token : List ℕ) (apps : List RuntimeAppData) (roots : List (List ListingLine)) (xs ys : List AppStart) → StartSo pod address token apps roots xs → StartSo pod address token apps roots ys → SameStarts xs ys
+  same_starts : (token : List ℕ) (apps : List RuntimeAppData) (roots : List (List ListingLine)) (xs ys : List AppStart) → AreStartsOfApps pod address token apps roots xs → AreStartsOfApps pod address token apps roots ys → SameStarts xs ys
   same_starts token [] [] [] [] x y = tt
   same_starts token (app ∷ apps) (lines ∷ roots) (a ∷ xs) (b ∷ ys) x y = (same_start token app lines a b x.0 y.0, same_starts token apps roots xs ys x.1 y.1)
   same_starts token [] [] [] (b ∷ ys) x y = absurd y
@@ -97,9 +95,9 @@ module _ (pod : PodId) (address : List ℕ) where
       let t : x.token ≡ y.token = one_token x.token y.token x.token_told y.token_told in
       let r : x.roots ≡ y.roots = one_listings es y.manifest.apps x.roots y.roots (subst (λ (p : PodData). HoldsListings es p.apps x.roots) m x.listed) y.listed in
       same_starts y.token y.manifest.apps y.roots xs ys
-      (subst (λ (l : List (List ListingLine)). StartSo pod address y.token y.manifest.apps l xs) r
-      (subst (λ (k : List ℕ). StartSo pod address k y.manifest.apps x.roots xs) t
-      (subst (λ (p : PodData). StartSo pod address x.token p.apps x.roots xs) m x.start))) y.start
+      (subst (λ (l : List (List ListingLine)). AreStartsOfApps pod address y.token y.manifest.apps l xs) r
+      (subst (λ (k : List ℕ). AreStartsOfApps pod address k y.manifest.apps x.roots xs) t
+      (subst (λ (p : PodData). AreStartsOfApps pod address x.token p.apps x.roots xs) m x.start))) y.start
 
 -- what is lacking isn't there
 listed_first : (es : List Entry) (apps : List RuntimeAppData) (roots : List (List ListingLine)) (name : List ℕ) → HoldsListings es apps roots → FirstUnlisted es apps name → ⊥
@@ -122,15 +120,15 @@ missing_once : (apps : List RuntimeAppData) (roots : List (List ListingLine)) (a
 missing_once [] roots a v b w x y = absurd x
 missing_once (app ∷ apps) [] a v b w x y = absurd x
 missing_once (app ∷ apps) (lines ∷ roots) a v b w (inl x) (inl y) = (x.0 ∙ sym y.0, let same : Some v ≡ Some w = sym x.1 ∙ y.1 in cc)
-missing_once (app ∷ apps) (lines ∷ roots) a v b w (inl x) (inr y) = absurd (never_both (missing_word app.app (tree_of lines)) x.1 y.0)
-missing_once (app ∷ apps) (lines ∷ roots) a v b w (inr x) (inl y) = absurd (never_both (missing_word app.app (tree_of lines)) y.1 x.0)
+missing_once (app ∷ apps) (lines ∷ roots) a v b w (inl x) (inr y) = absurd (never_both (missing_word app.app (tree_of_lines lines)) x.1 y.0)
+missing_once (app ∷ apps) (lines ∷ roots) a v b w (inr x) (inl y) = absurd (never_both (missing_word app.app (tree_of_lines lines)) y.1 x.0)
 missing_once (app ∷ apps) (lines ∷ roots) a v b w (inr x) (inr y) = missing_once apps roots a v b w x.1 y.1
 
-started_first : (pod : PodId) (address token : List ℕ) (apps : List RuntimeAppData) (roots : List (List ListingLine)) (starts : List AppStart) (a v : List ℕ) → StartSo pod address token apps roots starts → FirstMissing apps roots a v → ⊥
+started_first : (pod : PodId) (address token : List ℕ) (apps : List RuntimeAppData) (roots : List (List ListingLine)) (starts : List AppStart) (a v : List ℕ) → AreStartsOfApps pod address token apps roots starts → FirstMissing apps roots a v → ⊥
 started_first pod address token [] roots starts a v so first = first
 started_first pod address token (app ∷ apps) [] starts a v so first = first
 started_first pod address token (app ∷ apps) (lines ∷ roots) [] a v so first = so
-started_first pod address token (app ∷ apps) (lines ∷ roots) (start ∷ starts) a v so (inl x) = never_both (missing_word app.app (tree_of lines)) x.1 so.0.found
+started_first pod address token (app ∷ apps) (lines ∷ roots) (start ∷ starts) a v so (inl x) = never_both (missing_word app.app (tree_of_lines lines)) x.1 so.0.found
 started_first pod address token (app ∷ apps) (lines ∷ roots) (start ∷ starts) a v so (inr x) = started_first pod address token apps roots starts a v so.1 x.1
 
 module _ (pod : PodId) (es : List Entry) where

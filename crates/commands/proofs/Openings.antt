@@ -1,24 +1,24 @@
 -- Where nobody else steps, what no other process held at an own step none held before.
-use Rattle.std.proofs.Common.{◌≡◌, ℕ, Bool, true, false, not, ◌&&◌, ◌==◌, Option, Some, None, List, refl, sym, ap, subst, ◌∙◌}
+use Rattle.std.proofs.Common.{◌≡◌, ℕ, Bool, true, false, not, ◌&&◌, ◌==◌, List, refl, sym, ap, subst, ◌∙◌}
 use Rattle.std.specs.List.{list_any}
 use Rattle.dir_model.specs.declared.event.Event.{Event}
 use Rattle.dir_model.specs.declared.opening.Opening.{Opening}
 use Rattle.dir_model.specs.declared.opening.Target.{Target}
 use Rattle.dir_model.specs.declared.opening.Target.TheVariants as target
 use Rattle.dir_model.specs.declared.spot.Handle.{Handle}
-use Rattle.dir_model.specs.declared.spot.Mode.{Mode}
-use Rattle.dir_model.specs.declared.spot.Mode.TheVariants.{Shared, Exclusive}
+use Rattle.dir_model.specs.declared.spot.Mode.TheVariants.{Shared}
 use Rattle.dir_model.specs.declared.spot.Which.TheVariants.{Own}
 use Rattle.dir_model.specs.declared.request.Request.{Request}
 use Rattle.dir_model.specs.declared.request.Request.TheVariants.{OpenArea, Open, TryLock, Close, Finish, Kill}
 use Rattle.dir_model.specs.declared.request.Reply.{Reply}
 use Rattle.dir_model.specs.declared.request.Reply.TheVariants.{Done, Opened}
 use Rattle.dir_model.specs.Calls.{Extends, AtOwnStep}
-use Rattle.dir_model.specs.Locks.{is_handle, is_folder, is_own, is_exclusive, opposes, owns}
+use Rattle.dir_model.specs.Locks.{is_handle, is_folder, is_own, opposes, owns}
 use Rattle.dir_model.specs.Quiet.{Quiet}
 use Rattle.dir_model.specs.State.{Namespace}
 use Rattle.dir_model.specs.Trace.{state_after, namespace_replied, locked, opened, opened_gate}
 use Rattle.dir_model.proofs.Lists.{and_left, and_right, any_push, any_filter, any_map}
+use Rattle.dir_model.proofs.OpenHandles.{opposes_shared}
 use Rattle.pod_locks.specs.ClaimCauses.{is_lock}
 use Rattle.pod_locks.specs.Causes.{is_held_against}
 use Rattle.commands.proofs.OwnSteps.{back_at, elsewhere, mine_only, same_openings}
@@ -60,11 +60,6 @@ free_before {asks} {me} test at ext quiet =
 
 -- who holds a folder's own lock against a shared one holds it exclusively
 
-shared_is : (lock : Option Mode) → opposes Shared lock ≡ is_exclusive lock
-shared_is None = refl
-shared_is (Some Shared) = refl
-shared_is (Some Exclusive) = refl
-
 own_is : (t : Target) → is_lock Own t ≡ is_own t
 own_is (target.Own spot) = refl
 own_is (target.Claim spot) = refl
@@ -73,4 +68,4 @@ own_is (target.Gate area) = refl
 pub held_owns : (me folder : ℕ) (o : Opening) → is_held_against me Own Shared folder o ≡ true → owns folder o ≡ true
 held_owns me folder o is =
     let held = and_right (not (o.process == me)) (is_folder folder o.folder && (is_lock Own o.target && opposes Shared o.lock)) is in
-    sym (ap (λ b. is_folder folder o.folder && b) (ap (λ b. b && opposes Shared o.lock) (own_is o.target) ∙ ap (λ b. is_own o.target && b) (shared_is o.lock))) ∙ held
+    sym (ap (λ b. is_folder folder o.folder && b) (ap (λ b. b && opposes Shared o.lock) (own_is o.target) ∙ ap (λ b. is_own o.target && b) (opposes_shared o.lock))) ∙ held

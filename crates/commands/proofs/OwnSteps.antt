@@ -19,7 +19,7 @@ use Rattle.dir_model.proofs.Chains.{extends_more, extends_wider, states_next-app
 use Rattle.dir_model.proofs.Moments.{at_within}
 use Rattle.lifecycle.specs.declared.machine.PodState.{PodState}
 use Rattle.lifecycle.specs.declared.machine.PodState.TheVariants.{Absent}
-use Rattle.lifecycle.specs.PodMachine.{turned, transition, pod_state_next, pod_state_from, pod_state}
+use Rattle.lifecycle.specs.PodMachine.{after_transition, transition, pod_state_next, pod_state_from, pod_state}
 use Rattle.lifecycle.proofs.Stays.{machine_append}
 use Rattle.phase_read.specs.Exact.{AtOwnEvent}
 use Rattle.phase_read.proofs.Exact.{event_within}
@@ -128,12 +128,12 @@ module _ (Q : DirState → Type 0) (asks : Request → Bool) (me : ℕ) (keeps :
 
 -- of a pod's history
 module _ (u : List ℕ) (Q : PodState → Type 0) (asks : Request → Bool) (me : ℕ)
-    (back : (n : Namespace) (x : PodState) (request : Request) (reply : Reply) → (is_kill request || asks request) ≡ true → Q (turned (transition u n x me request reply) me x) → Q x) where
+    (back : (n : Namespace) (x : PodState) (request : Request) (reply : Reply) → (is_kill request || asks request) ≡ true → Q (after_transition (transition u n x me request reply) me x) → Q x) where
   history_all : (s : DirState) (x : PodState) (es : List Event) → AllByRecursion (λ e. e.process ≡ me) es → AllByRecursion (λ e. (is_foreign me e || asks e.request) ≡ true) es → Q (pod_state_from u s x es) → Q x
   history_all s x [] own asked q = q
   history_all s x (e ∷ es) own asked q =
-      let next : Q (turned (transition u s.namespace x e.process e.request e.reply) e.process x) = history_all (state_next s e) (pod_state_next u s.namespace x e) es own.1 asked.1 q in
-      back s.namespace x e.request e.reply (own_asked asks me e own.0 asked.0) (subst (λ (p : ℕ). Q (turned (transition u s.namespace x p e.request e.reply) p x)) own.0 next)
+      let next : Q (after_transition (transition u s.namespace x e.process e.request e.reply) e.process x) = history_all (state_next s e) (pod_state_next u s.namespace x e) es own.1 asked.1 q in
+      back s.namespace x e.request e.reply (own_asked asks me e own.0 asked.0) (subst (λ (p : ℕ). Q (after_transition (transition u s.namespace x p e.request e.reply) p x)) own.0 next)
 
   pub history_back : {old new : List Event} → AtOwnEvent me old new (λ h. Q (pod_state u h)) → Extends asks me old new → Quiet me old new → Q (pod_state u old)
   history_back {old} {new} at ext quiet =
@@ -150,12 +150,12 @@ module _ (u : List ℕ) (Q : PodState → Type 0) (asks : Request → Bool) (me 
       (subst Q (ap (pod_state u) x.grown ∙ machine_append u old x.more empty_state Absent) q)
 
 -- a state that no own step turns
-module _ (u : List ℕ) (x : PodState) (asks : Request → Bool) (me : ℕ) (keeps : (n : Namespace) (request : Request) (reply : Reply) → (is_kill request || asks request) ≡ true → turned (transition u n x me request reply) me x ≡ x) where
+module _ (u : List ℕ) (x : PodState) (asks : Request → Bool) (me : ℕ) (keeps : (n : Namespace) (request : Request) (reply : Reply) → (is_kill request || asks request) ≡ true → after_transition (transition u n x me request reply) me x ≡ x) where
   fixed_all : (s : DirState) (es : List Event) → AllByRecursion (λ e. e.process ≡ me) es → AllByRecursion (λ e. (is_foreign me e || asks e.request) ≡ true) es → pod_state_from u s x es ≡ x
   fixed_all s [] own asked = refl
   fixed_all s (e ∷ es) own asked =
-      let same : turned (transition u s.namespace x e.process e.request e.reply) e.process x ≡ x =
-      subst (λ (p : ℕ). turned (transition u s.namespace x p e.request e.reply) p x ≡ x) (sym own.0) (keeps s.namespace e.request e.reply (own_asked asks me e own.0 asked.0)) in
+      let same : after_transition (transition u s.namespace x e.process e.request e.reply) e.process x ≡ x =
+      subst (λ (p : ℕ). after_transition (transition u s.namespace x p e.request e.reply) p x ≡ x) (sym own.0) (keeps s.namespace e.request e.reply (own_asked asks me e own.0 asked.0)) in
       ap (λ (y : PodState). pod_state_from u (state_next s e) y es) same ∙ fixed_all (state_next s e) es own.1 asked.1
 
   pub history_fixed : {old new : List Event} → pod_state u old ≡ x → Extends asks me old new → Quiet me old new → pod_state u new ≡ x

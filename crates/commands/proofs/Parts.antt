@@ -11,8 +11,8 @@ use Rattle.dir_model.proofs.Moments.{at_within}
 use Rattle.dir_trait.specs.DirCalls.{DirAt, HeldBetween}
 use Rattle.image_reading.specs.declared.error.StoreError.TheVariants.{Damaged}
 use Rattle.image_reading.specs.Within.{Within}
-use Rattle.image_reading.specs.Places.{image_inner, manifest_name, id_name, IsAbsent}
-use Rattle.image_reading.specs.Files.{ReadsFile, LacksFile, ShowsMarks, LacksMoment, IsNoManifest, IsNoId, most_of_manifest, most_of_id}
+use Rattle.image_reading.specs.Places.{image_inner, manifest_name, id_name, IsImageAbsent}
+use Rattle.image_reading.specs.Files.{ReadsFile, LacksFile, ShowsImportMarks, LacksMoment, IsNoImageManifest, IsNoId, most_of_manifest, most_of_id}
 use Rattle.image_reading.specs.Images.{ReadsImage, LacksImage}
 use Rattle.image_reading.specs.Store.{ReadsStore, LacksListed}
 
@@ -47,18 +47,18 @@ module _ {old first last new : DirAt} (p : Part old first last new) where
   lack_wider inner most P (inl missing) = inl (held_wider _ missing)
   lack_wider inner most P (inr read) = inr (file_wider read)
 
-  marks_wider : {key : StoreKey} {P : List ℕ → Type 0} → ShowsMarks key P first last → ShowsMarks key P old new
+  marks_wider : {key : StoreKey} {P : List ℕ → Type 0} → ShowsImportMarks key P first last → ShowsImportMarks key P old new
   marks_wider r = record { items = r.items; shown = within_wider r.shown; holds = r.holds }
 
   moment_wider : (key : StoreKey) → LacksMoment key first last → LacksMoment key old new
-  moment_wider key (inl absent) = inl (held_wider (IsAbsent key) absent)
+  moment_wider key (inl absent) = inl (held_wider (IsImageAbsent key) absent)
   moment_wider key (inr none) = inr (marks_wider none)
 
   image_wider : (image : Stored) → ReadsImage image first last → ReadsImage image old new
   image_wider image r = record { manifest = file_wider r.manifest; id = file_wider r.id; moment = marks_wider r.moment }
 
   image_lack_wider : (key : StoreKey) (path : List ℕ) → LacksImage key (Damaged path) first last → LacksImage key (Damaged path) old new
-  image_lack_wider key path (inl x) = inl (x.0, lack_wider (image_inner key manifest_name) most_of_manifest IsNoManifest x.1)
+  image_lack_wider key path (inl x) = inl (x.0, lack_wider (image_inner key manifest_name) most_of_manifest IsNoImageManifest x.1)
   image_lack_wider key path (inr (inl x)) = inr (inl (x.0, (x.1.0, file_wider x.1.1), lack_wider (image_inner key id_name) most_of_id (IsNoId key) x.2))
   image_lack_wider key path (inr (inr x)) = inr (inr (x.0, (x.1.0, file_wider x.1.1), (x.2.0, file_wider x.2.1), moment_wider key x.3))
 

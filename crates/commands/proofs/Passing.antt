@@ -1,6 +1,9 @@
 -- Where nobody else steps, a pod that its process brought to run stands there in the end, without an owner.
 use Rattle.std.proofs.Common.{◌≡◌, ◌⊎◌, inl, inr, ℕ, Bool, true, false, not, ◌&&◌, ◌||◌, ◌==◌, cond, bytes_eq, Option, Some, None, is_some, List, [], ◌∷◌, ◌++◌, refl, sym, ap, subst, ◌∙◌, append_assoc}
 use Rattle.std.specs.List.{AllByRecursion}
+use Rattle.plain_laws.proofs.Texts.{same_bytes}
+use Rattle.plain_laws.proofs.Booleans.{or_nothing}
+use Rattle.plain_laws.proofs.Numbers.{no_number}
 use Rattle.dir_model.specs.declared.area.Area.{Area}
 use Rattle.dir_model.specs.declared.area.Area.TheVariants as area
 use Rattle.dir_model.specs.declared.area.Phase.{Phase}
@@ -22,14 +25,13 @@ use Rattle.dir_model.specs.Trace.{state_after, state_next, states_next, namespac
 use Rattle.dir_model.proofs.Allowed.{make_says, move_says}
 use Rattle.dir_model.proofs.Chains.{states_next-append, state_after-push, run_from-right}
 use Rattle.dir_model.proofs.Lists.{and_left, and_right, and_both, and_false, any_push, any_last, all_right, same_rest, same_self}
-use Rattle.dir_rules.proofs.Looks.{same_bytes}
-use Rattle.dir_rules.specs.Standing.{is_of}
+use Rattle.dir_rules.specs.Standing.{is_spot_of_pod}
 use Rattle.folder_contents.proofs.Spots.{one_location}
 use Rattle.lifecycle.specs.declared.machine.PodState.{PodState}
 use Rattle.lifecycle.specs.declared.machine.PodState.TheVariants as state
 use Rattle.lifecycle.specs.declared.machine.Transition.{Transition}
 use Rattle.lifecycle.specs.declared.machine.Transition.TheVariants as turn
-use Rattle.lifecycle.specs.PodMachine.{pod_state, pod_state_from, pod_state_next, turned, enabled, leads, if_so, arrival, transition, is_place, phase_of_state}
+use Rattle.lifecycle.specs.PodMachine.{pod_state, pod_state_from, pod_state_next, after_transition, enabled, leads, transition_if, arrival, transition, is_area_of_state, phase_of_state}
 use Rattle.lifecycle.specs.Executions.{IsConforming}
 use Rattle.lifecycle.proofs.Phases.{enabled_each, stands_exists, phase_of_place}
 use Rattle.lifecycle.proofs.Places.{made_elsewhere, moved_there, moved_elsewhere}
@@ -40,7 +42,6 @@ use Rattle.phase_read.specs.declared.found.Found.TheVariants.{At, Gone}
 use Rattle.phase_read.specs.Read.{pod_spot}
 use Rattle.phase_read.specs.Sequential.{sequential_read, found_in, or_in}
 use Rattle.commands.proofs.OwnSteps.{in_process, own_asked, same_folders}
-use Rattle.commands.proofs.LateTurns.{or_false}
 use Rattle.commands.proofs.RmBefore.{has_phase_now}
 use Rattle.commands.specs.RunQuiet.{IsPhaseAt, IsLeftInRun}
 
@@ -58,11 +59,7 @@ pub record Leaves (spot : Spot) (asks : Request → Bool) : Type 0 where
 never_stands : {X : Type 0} (o : Option ℕ) (k : ℕ) → o ≡ Some k → is_some o ≡ false → X
 never_stands {X} o k is none = let clash : true ≡ false = sym (ap (λ (x : Option ℕ). is_some x) is) ∙ none in cc
 
-no_number : (o : Option ℕ) → is_some o ≡ false → o ≡ None
-no_number None h = refl
-no_number (Some k) h = cc
-
-unmarked_if : (b : Bool) (t : Transition) → is_unmarked (Some t) ≡ true → is_unmarked (if_so b t) ≡ true
+unmarked_if : (b : Bool) (t : Transition) → is_unmarked (Some t) ≡ true → is_unmarked (transition_if b t) ≡ true
 unmarked_if true t is = is
 unmarked_if false t is = refl
 
@@ -74,11 +71,11 @@ unmarked_shut : (t : Transition) (me : ℕ) → is_unmarked (Some t) ≡ true �
 unmarked_shut turn.Mark me is = cc
 unmarked_shut t me is = refl
 
-exited_stays : (o : Option Transition) (me : ℕ) → is_unmarked o ≡ true → turned o me state.Exited ≡ state.Exited
+exited_stays : (o : Option Transition) (me : ℕ) → is_unmarked o ≡ true → after_transition o me state.Exited ≡ state.Exited
 exited_stays None me is = refl
 exited_stays (Some t) me is = ap (λ b. cond b (leads t me state.Exited) state.Exited) (unmarked_shut t me is)
 
-running_turns : (o : Option Transition) (me : ℕ) → (turned o me (state.Running me) ≡ state.Running me) ⊎ (turned o me (state.Running me) ≡ state.Exited)
+running_turns : (o : Option Transition) (me : ℕ) → (after_transition o me (state.Running me) ≡ state.Running me) ⊎ (after_transition o me (state.Running me) ≡ state.Exited)
 running_turns None me = inl refl
 running_turns (Some turn.End) me = inr (ap (λ b. cond b state.Exited (state.Running me)) (same_self me))
 running_turns (Some t) me = inl refl
@@ -101,8 +98,8 @@ living me w Kill Done off h = cc
 living me w request Done off h = h
 living me w request reply off h = h
 
-ended_turn : (me : ℕ) → turned (if_so (me == me) turn.End) me (state.Running me) ≡ state.Exited
-ended_turn me = ap (λ b. turned (if_so b turn.End) me (state.Running me)) (same_self me) ∙ ap (λ b. cond b state.Exited (state.Running me)) (same_self me)
+ended_turn : (me : ℕ) → after_transition (transition_if (me == me) turn.End) me (state.Running me) ≡ state.Exited
+ended_turn me = ap (λ b. after_transition (transition_if b turn.End) me (state.Running me)) (same_self me) ∙ ap (λ b. cond b state.Exited (state.Running me)) (same_self me)
 
 -- the process owns the pod and lives, or the pod is exited
 abbrev Ran : ℕ → DirState → PodState → Type 0
@@ -128,9 +125,9 @@ module _ (pod : PodId) (asks : Request → Bool) (l : Leaves (in_run pod) asks) 
     where
       by : (b : Bool) → spot_eq to spot ≡ b → folder_at (namespace_replied s.namespace me (MoveFolder from to) Done) spot ≡ Some k
       by true is = never_stands (folder_at s.namespace to) k (ap (folder_at s.namespace) (one_location to spot is) ∙ at) (move_says s me from to may).free
-      by false off = moved_elsewhere s.namespace spot from to off (l.moves from to (or_false (asks (MoveFolder from to)) h)) ∙ at
+      by false off = moved_elsewhere s.namespace spot from to off (l.moves from to (or_nothing (asks (MoveFolder from to)) h)) ∙ at
   stays_there k s (MoveFolder from to) reply may h at = at
-  stays_there k s (RemoveFolder gone) Done may h at = absurd (l.removes gone (or_false (asks (RemoveFolder gone)) h))
+  stays_there k s (RemoveFolder gone) Done may h at = absurd (l.removes gone (or_nothing (asks (RemoveFolder gone)) h))
   stays_there k s (RemoveFolder gone) reply may h at = at
   stays_there k s request reply may h at = ap (λ (fs : List (Option Spot)). folder_at (record s.namespace { folders = fs }) spot) (same_folders me s.namespace request reply refl (λ handle. refl)) ∙ at
 
@@ -146,7 +143,7 @@ module _ (pod : PodId) (asks : Request → Bool) (l : Leaves (in_run pod) asks) 
   -- its state
   unmarked : (n : Namespace) (x : PodState) (request : Request) (reply : Reply) → (is_kill request || in_process asks request) ≡ true → is_unmarked (transition u n x me request reply) ≡ true
   unmarked n x (MakeFolder here) Done h = unmarked_if _ turn.Make refl
-  unmarked n x (MoveFolder from to) Done h = unmarked_when (is_of u to) (arrival to.area) (l.marks from to (or_false (asks (MoveFolder from to)) h))
+  unmarked n x (MoveFolder from to) Done h = unmarked_when (is_spot_of_pod u to) (arrival to.area) (l.marks from to (or_nothing (asks (MoveFolder from to)) h))
   unmarked n x (TryLock handle Exclusive) Done h = unmarked_if _ turn.BeginDelete refl
   unmarked n x (TryLock handle Shared) Done h = refl
   unmarked n x (Close handle) Done h = unmarked_if _ turn.End refl
@@ -156,12 +153,12 @@ module _ (pod : PodId) (asks : Request → Bool) (l : Leaves (in_run pod) asks) 
   unmarked n x request reply h = refl
 
   abbrev After : DirState → PodState → Request → Reply → Type 0
-  After s x request reply = Ran me (state_next s (event me request reply)) (turned (transition u s.namespace x me request reply) me x)
+  After s x request reply = Ran me (state_next s (event me request reply)) (after_transition (transition u s.namespace x me request reply) me x)
 
   on_running : (s : DirState) (request : Request) (reply : Reply) → is_over request reply ≡ false → lives s.namespace me ≡ true → After s (state.Running me) request reply
   on_running s request reply off live = by (running_turns (transition u s.namespace (state.Running me) me request reply) me)
     where
-      by : (turned (transition u s.namespace (state.Running me) me request reply) me (state.Running me) ≡ state.Running me) ⊎ (turned (transition u s.namespace (state.Running me) me request reply) me (state.Running me) ≡ state.Exited) →
+      by : (after_transition (transition u s.namespace (state.Running me) me request reply) me (state.Running me) ≡ state.Running me) ⊎ (after_transition (transition u s.namespace (state.Running me) me request reply) me (state.Running me) ≡ state.Exited) →
           After s (state.Running me) request reply
       by (inl same) = inl (same, living me s.namespace request reply off live)
       by (inr over) = inr over
@@ -180,7 +177,7 @@ module _ (pod : PodId) (asks : Request → Bool) (l : Leaves (in_run pod) asks) 
   ran_all s x (e ∷ es) own asked r =
       let next = ran_on s x e.request e.reply (own_asked (in_process asks) me e own.0 asked.0) r in
       ran_all (state_next s e) (pod_state_next u s.namespace x e) es own.1 asked.1
-      (subst (λ (p : ℕ). Ran me (state_next s (event p e.request e.reply)) (turned (transition u s.namespace x p e.request e.reply) p x)) (sym own.0) next)
+      (subst (λ (p : ℕ). Ran me (state_next s (event p e.request e.reply)) (after_transition (transition u s.namespace x p e.request e.reply) p x)) (sym own.0) next)
 
 -- a process that has finished doesn't live
 pub is_past : {me : ℕ} {ended new : List Event} → CallStep me ended Finish Done new → lives (state_after new).namespace me ≡ false
@@ -213,15 +210,15 @@ module _ (s : DirState) (pod : PodId) (p : Phase) (q : Area) where
   read_stage is =
       or_staged area.Embryo _ refl (or_staged area.Prepare _ refl (or_staged area.Prepared _ refl (or_staged area.Run _ refl (or_staged area.ExitedGarbage _ refl (or_staged area.Garbage _ refl gone_staged))))) is
 
-pub phase_at : (pod : PodId) (h : List Event) → IsConforming h → (x : PodState) (p : Phase) (a : Area) → phase_of_state x ≡ Some p → ((b : Area) → is_place b x ≡ true → b ≡ a) → pod_state (pod_text pod.bytes) h ≡ x → IsPhaseAt pod p a h
+pub phase_at : (pod : PodId) (h : List Event) → IsConforming h → (x : PodState) (p : Phase) (a : Area) → phase_of_state x ≡ Some p → ((b : Area) → is_area_of_state b x ≡ true → b ≡ a) → pod_state (pod_text pod.bytes) h ≡ x → IsPhaseAt pod p a h
 phase_at pod h conforming x p a has lone is =
     let u : List ℕ = pod_text pod.bytes in
     let y = has_phase_now pod h conforming p (ap phase_of_state is ∙ has) in
-    let its : is_of u (pod_spot pod y.area) ≡ true = and_both (is_stage y.area) (bytes_eq u u) (read_stage (state_after h) pod p y.area y.reads) (same_bytes u) in
+    let its : is_spot_of_pod u (pod_spot pod y.area) ≡ true = and_both (is_stage y.area) (bytes_eq u u) (read_stage (state_after h) pod p y.area y.reads) (same_bytes u) in
     let place = (stands_exists u h (pod_spot pod y.area) conforming its y.is.there).1 in
-    subst (λ (b : Area). IsPhaseAt pod p b h) (lone y.area (sym (ap (is_place y.area) is) ∙ place)) (record { is = y.is; reads = y.reads })
+    subst (λ (b : Area). IsPhaseAt pod p b h) (lone y.area (sym (ap (is_area_of_state y.area) is) ∙ place)) (record { is = y.is; reads = y.reads })
 
-place_exited : (a : Area) → is_place a state.Exited ≡ true → a ≡ area.Run
+place_exited : (a : Area) → is_area_of_state a state.Exited ≡ true → a ≡ area.Run
 place_exited area.Run is = refl
 place_exited a is = cc
 
@@ -279,7 +276,7 @@ module _ (pod : PodId) (asks : Request → Bool) (l : Leaves (in_run pod) asks) 
     starts = ap (λ b. cond b (Some turn.Start) None) (same_bytes its)
 
     started : pod_state_next its (state_after before).namespace (pod_state its before) step ≡ state.Running me
-    started = ap (λ (o : Option Transition). turned o me (pod_state its before)) starts
+    started = ap (λ (o : Option Transition). after_transition o me (pod_state its before)) starts
         ∙ ap (λ b. cond b (state.Running me) (pod_state its before)) (enabled_each its before step later (subst IsConforming moved conforming) turn.Start starts)
 
     ran : Ran me (state_after new) (pod_state its new)

@@ -15,14 +15,14 @@ use Rattle.dir_files.specs.declared.lock_error.LockError.TheVariants as lock
 use Rattle.folder_building.specs.declared.plan.PlanEntry.{PlanEntry}
 use Rattle.image_reading.specs.declared.error.StoreError.TheVariants as store
 use Rattle.image_reading.specs.Places.{image_inner, manifest_name}
-use Rattle.image_reading.specs.Files.{IsNoManifest, most_of_manifest}
+use Rattle.image_reading.specs.Files.{IsNoImageManifest, most_of_manifest}
 use Rattle.image_reading.specs.Store.{ReadsStore, LacksListed}
 use Rattle.pod_build.specs.declared.error.BuildError.{BuildError}
 use Rattle.pod_build.specs.declared.error.BuildError.TheVariants as build
-use Rattle.pod_build.specs.Causes.{IsMadeByPlan, IsPartOf, IsRefused}
+use Rattle.pod_build.specs.Causes.{IsMadeByPlan, IsStretchWithin, IsBuildRefused}
 use Rattle.folder_building.specs.Sources.{in_images}
 use Rattle.folder_building.specs.Stored.{HadContents, LacksAt}
-use Rattle.pod_build.specs.Origins.{IsDamaged}
+use Rattle.pod_build.specs.Origins.{IsOriginDamaged}
 use Rattle.pod_build.specs.Refusals.{gate_refusal, plan_refusal, IsMakeRefusal}
 use Rattle.pod_plan.specs.declared.choice.Choice.{Choice}
 use Rattle.pod_plan.specs.declared.choice_error.ChoiceError.{ChoiceError}
@@ -40,19 +40,19 @@ use Rattle.pod_plan.specs.NoPlans as none
 use Rattle.pod_plan.specs.NoPlans.{IsNoPlan}
 use Rattle.pod_plan.specs.Plans.{apps_of}
 use Rattle.pod_plan.proofs.Ready.{is_ready, picks_within}
-use Rattle.pod_plan.specs.PlanRefusals.{IsNoChoice, LacksAmong, LacksPart, choice_refusal}
+use Rattle.pod_plan.specs.PlanRefusals.{IsNoChoice, LacksAmong, ReadsLackingPart, choice_refusal}
 use Rattle.pod_plan.specs.RootRefusals.{IsFirstRootFault}
 use Rattle.standing_images.specs.Damage.{IsFirstDamage}
-use Rattle.standing_images.specs.Images.{AreStore, ImagesStay, StandsSo}
+use Rattle.standing_images.specs.Images.{AreStore, ImagesStay, StandsWithItsFiles}
 use Rattle.standing_images.proofs.Before.{store_before}
 use Rattle.standing_images.proofs.Damages.{damage_before, lacks_manifest}
 use Rattle.standing_images.proofs.OneDamage.{stands_whole}
 use Rattle.command_outcomes.specs.declared.refusal.Refusal.{Refusal}
-use Rattle.command_outcomes.specs.Conforming.{shown_at}
+use Rattle.command_outcomes.specs.Conforming.{dir_at_moment}
 use Rattle.command_outcomes.specs.Moments.{DirSeen}
 use Rattle.commands.specs.Prepare.{RefusesPod}
 use Rattle.commands.specs.References.{AreReferences, OfReferences}
-use Rattle.commands.specs.PrepareTable.{FailsRoot, HasLargeListing, IsPodWithRoots, LacksCopied, LacksListing, MakesNoRoot, MakesNone, MakesPod, MakesRoots, NothingRefuses, PassesLimit, StoreRefuses, LocksRefuse, Refuses, RefusesByState}
+use Rattle.commands.specs.PrepareTable.{FailsRoot, RootListingIsLarge, IsPodWithRoots, LacksCopied, TreeLacksListing, MakesNoRoot, StoreMakesNoPod, StoreMakesPod, MakesRoots, NothingRefuses, PassesLimit, StoreRefuses, LocksRefuse, RefusesReferences, RefusesByState}
 use Rattle.commands.specs.Wants.{Wants}
 use Rattle.commands.proofs.Words.{one_references}
 use Rattle.commands.proofs.OneReason.{no_reason, one_reason}
@@ -67,10 +67,10 @@ use Rattle.dir_model.specs.declared.pod.PodId.{PodId}
 use Rattle.dir_model.specs.declared.spot.Mode.TheVariants.{Shared}
 use Rattle.dir_files.specs.AreaLocks.{IsBusyElsewhere, IsFreeElsewhere}
 use Rattle.command_outcomes.specs.declared.refusal.Refusal.TheVariants.{Busy}
-use Rattle.commands.specs.PrepareRefusals.{build_refusal}
+use Rattle.commands.specs.PrepareRefusals.{refusal_of_build}
 use Rattle.commands.proofs.OneRefusal.{CanMake, none_refuses, one_refusal}
 
-part_of : {start end old new : DirAt} → IsPartOf start end old new → Part old start end new
+part_of : {start end old new : DirAt} → IsStretchWithin start end old new → Part old start end new
 part_of p = record { earlier = p.before; later = p.after; same = p.same; begins = p.begins; ends = p.ends }
 
 module _ (refs : List ImageRef) (wishes : Wishes) (draw : Draw) (old new : DirAt) (stay : ImagesStay old.trace new.trace) where
@@ -81,33 +81,33 @@ module _ (refs : List ImageRef) (wishes : Wishes) (draw : Draw) (old new : DirAt
   ByStore error = StoreRefuses old.process draw.uuid refs wishes s error
 
   -- what was read in a part of the time
-  store_in : {start end : DirAt} → IsPartOf start end old new → (images : List Stored) → ReadsStore images start end → AreStore images s
+  store_in : {start end : DirAt} → IsStretchWithin start end old new → (images : List Stored) → ReadsStore images start end → AreStore images s
   store_in p images r = store_before old new stay images (store_wider (part_of p) images r)
 
-  damage_in : {start end : DirAt} → IsPartOf start end old new → (path : List ℕ) → LacksListed (store.Damaged path) start end → IsFirstDamage path s
+  damage_in : {start end : DirAt} → IsStretchWithin start end old new → (path : List ℕ) → LacksListed (store.Damaged path) start end → IsFirstDamage path s
   damage_in p path l = damage_before old new stay path (lacks_wider (part_of p) path l)
 
   -- each manifest that was read once can be read once more
-  none_among : {start end : DirAt} → IsPartOf start end old new → (images : List Stored) (path : List ℕ) → AreStore images s → LacksAmong images path start end → ⊥
+  none_among : {start end : DirAt} → IsStretchWithin start end old new → (images : List Stored) (path : List ℕ) → AreStore images s → LacksAmong images path start end → ⊥
   none_among p images path are x =
-      let all = subst (λ (l : List Stored). AllByRecursion (λ image. StandsSo image s) l) x.is are.together in
-      let one = all_right (λ image. StandsSo image s) x.before (x.image ∷ x.after) all in
+      let all = subst (λ (l : List Stored). AllByRecursion (λ image. StandsWithItsFiles image s) l) x.is are.together in
+      let one = all_right (λ image. StandsWithItsFiles image s) x.before (x.image ∷ x.after) all in
       let whole = stands_whole s x.image one.0 in
-      lacks_manifest old new stay x.image.key (lack_wider (part_of p) (image_inner x.image.key manifest_name) most_of_manifest IsNoManifest x.lacks.1) whole.manifest
+      lacks_manifest old new stay x.image.key (lack_wider (part_of p) (image_inner x.image.key manifest_name) most_of_manifest IsNoImageManifest x.lacks.1) whole.manifest
 
   module _ (observed : Bool) (t : observed ≡ true) where
     -- the references make none of the images that were read
-    none_of : {start end : DirAt} → IsPartOf start end old new → (reason : ChoiceError) (error : PlanError) → (reason ≡ choice.NoMemory → ⊥) → ((other : ChoiceError) → error ≡ choice_refusal other → other ≡ reason) →
-        (images : List Stored) → ReadsStore images start end → IsNoChoice images refs wishes error → MakesNone refs wishes s reason
+    none_of : {start end : DirAt} → IsStretchWithin start end old new → (reason : ChoiceError) (error : PlanError) → (reason ≡ choice.NoMemory → ⊥) → ((other : ChoiceError) → error ≡ choice_refusal other → other ≡ reason) →
+        (images : List Stored) → ReadsStore images start end → IsNoChoice images refs wishes error → StoreMakesNoPod refs wishes s reason
     none_of p reason error alive one images read x =
-        let refused = subst (λ (r : ChoiceError). chosen.IsRefused images refs wishes r) (one x.reason x.is) x.refused in
+        let refused = subst (λ (r : ChoiceError). chosen.IsChoiceRefused images refs wishes r) (one x.reason x.is) x.refused in
         (images, store_in p images read, record { refused = refused; only = λ other is kept. one_reason images refs wishes other reason is refused kept alive })
 
-    pod_of : {start end : DirAt} → IsPartOf start end old new → (images : List Stored) → ReadsStore images start end → (pod : Choice) → chosen.IsChoice images refs wishes pod → MakesPod refs wishes s
+    pod_of : {start end : DirAt} → IsStretchWithin start end old new → (images : List Stored) → ReadsStore images start end → (pod : Choice) → chosen.IsChoice images refs wishes pod → StoreMakesPod refs wishes s
     pod_of p images read pod is = (images, store_in p images read, record { pod = pod; chosen = is; unrefused = no_reason images refs wishes pod is })
 
     -- a tree of the pod fails, and those before it have their roots
-    root_of : {start end : DirAt} → IsPartOf start end old new → {error : PlanError} (Fails : DepTree → Type 0) (images : List Stored) → ReadsStore images start end → (pod : Choice) → chosen.IsChoice images refs wishes pod →
+    root_of : {start end : DirAt} → IsStretchWithin start end old new → {error : PlanError} (Fails : DepTree → Type 0) (images : List Stored) → ReadsStore images start end → (pod : Choice) → chosen.IsChoice images refs wishes pod →
         (x : IsFirstRootFault observed images pod.trees error start end) → Fails x.tree → FailsRoot images refs wishes Fails s
     root_of p Fails images read pod is x fails = record {
       made = record { pod = pod; chosen = is; unrefused = no_reason images refs wishes pod is };
@@ -125,10 +125,10 @@ module _ (refs : List ImageRef) (wishes : Wishes) (draw : Draw) (old new : DirAt
     one_place place (choice.GenError refusal) is = cc
     one_place place choice.NoMemory is = cc
 
-    no_plan : {start end : DirAt} → IsPartOf start end old new → (reason : PlanError) → IsNoPlan observed refs wishes start end reason → ByStore (plan_refusal reason)
+    no_plan : {start end : DirAt} → IsStretchWithin start end old new → (reason : PlanError) → IsNoPlan observed refs wishes start end reason → ByStore (plan_refusal reason)
     no_plan {start} {end} p (plan.Damaged path) x = by (x t)
       where
-        by : LacksPart path start end ⊎ none.MakesNone observed refs wishes (plan.Damaged path) start end → IsFirstDamage path s ⊎ (MakesNoRoot refs wishes s (λ images. LacksListing images path) ⊎ LacksCopied old.process draw.uuid refs wishes path s)
+        by : ReadsLackingPart path start end ⊎ none.HasNoPlan observed refs wishes (plan.Damaged path) start end → IsFirstDamage path s ⊎ (MakesNoRoot refs wishes s (λ images. TreeLacksListing images path) ⊎ LacksCopied old.process draw.uuid refs wishes path s)
         by (inl (inl listed)) = inl (damage_in p path listed)
         by (inl (inr (images, read, among))) = absurd (none_among p images path (store_in p images read) among)
         by (inr m) =
@@ -137,7 +137,7 @@ module _ (refs : List ImageRef) (wishes : Wishes) (draw : Draw) (old new : DirAt
             inr (inl (
               m.images,
               store_in p m.images read,
-              root_of p (LacksListing m.images path s) m.images read m.none.choice m.none.chosen x
+              root_of p (TreeLacksListing m.images path s) m.images read m.none.choice m.none.chosen x
                   (lacks_before old new stay (part_of p) observed t m.images x.tree path
                   (tree_among m.images m.none.choice.picks x.before x.tree x.after (picks_within m.images refs m.none.choice.picks m.none.chosen.0) (subst (λ (ts : List DepTree). AreTrees m.images m.none.choice.picks ts) x.is m.none.chosen.1.dependencies))
                   (store_in p m.images read) (x.faulty t)),
@@ -165,7 +165,7 @@ module _ (refs : List ImageRef) (wishes : Wishes) (draw : Draw) (old new : DirAt
     no_plan p (plan.ListingError error) m =
         let x = m.none.lacks in
         let read = m.listed t in
-        (m.images, store_in p m.images read, root_of p (HasLargeListing m.images error s) m.images read m.none.choice m.none.chosen x (large_before old new stay (part_of p) observed t m.images x.tree error x.faulty))
+        (m.images, store_in p m.images read, root_of p (RootListingIsLarge m.images error s) m.images read m.none.choice m.none.chosen x (large_before old new stay (part_of p) observed t m.images x.tree error x.faulty))
     no_plan p plan.DirFault m = tt
     no_plan p plan.NoMemory m = tt
 
@@ -175,18 +175,18 @@ module _ (refs : List ImageRef) (wishes : Wishes) (draw : Draw) (old new : DirAt
     no_gate lock.NoMemory = tt
 
     -- a plan is of a pod that the store makes
-    abbrev with_roots : {start end : DirAt} {now : ℕ} {token : List ℕ} {entries : List PlanEntry} → IsPartOf start end old new → (x : PlansFaithfully refs wishes now token entries start end) → IsPodWithRoots x.images refs wishes s
+    abbrev with_roots : {start end : DirAt} {now : ℕ} {token : List ℕ} {entries : List PlanEntry} → IsStretchWithin start end old new → (x : PlansFaithfully refs wishes now token entries start end) → IsPodWithRoots x.images refs wishes s
     with_roots p x = record {
       made = record { pod = x.choice; chosen = x.chosen; unrefused = no_reason x.images refs wishes x.choice x.chosen };
       rooted = roots_before old new stay (part_of p) true refl x.images x.choice.trees x.roots x.rooted;
     }
 
-    planned_pod : {start end : DirAt} {now : ℕ} {token : List ℕ} {entries : List PlanEntry} → IsPartOf start end old new → PlansFaithfully refs wishes now token entries start end → MakesRoots refs wishes s
+    planned_pod : {start end : DirAt} {now : ℕ} {token : List ℕ} {entries : List PlanEntry} → IsStretchWithin start end old new → PlansFaithfully refs wishes now token entries start end → MakesRoots refs wishes s
     planned_pod p x = (x.images, store_in p x.images x.listed, with_roots p x)
 
     -- a file of the plan couldn't be copied
-    module _ {now : ℕ} {token : List ℕ} (entries : List PlanEntry) {start end begun ended : DirAt} (p : IsPartOf start end old new) (x : PlansFaithfully refs wishes now token entries start end) (q : IsPartOf begun ended old new) where
-      damaged : (place : ℕ) (error : BuildError) → EmbryoBefore draw.uuid old new → IsDamaged entries place error → HasMadeFolder draw.uuid begun ended → LacksAt in_images entries place begun ended → ByStore error
+    module _ {now : ℕ} {token : List ℕ} (entries : List PlanEntry) {start end begun ended : DirAt} (p : IsStretchWithin start end old new) (x : PlansFaithfully refs wishes now token entries start end) (q : IsStretchWithin begun ended old new) where
+      damaged : (place : ℕ) (error : BuildError) → EmbryoBefore draw.uuid old new → IsOriginDamaged entries place error → HasMadeFolder draw.uuid begun ended → LacksAt in_images entries place begun ended → ByStore error
       damaged place (build.Damaged path) told is makes lacks =
           let here = store_in p x.images x.listed in
           let f = copy_first old new stay (part_of q) (part_of p) x.images here path entries place is lacks in
@@ -211,7 +211,7 @@ module _ (refs : List ImageRef) (wishes : Wishes) (draw : Draw) (old new : DirAt
       not_made told make.Stray error is cause = subst (λ (e : BuildError). ByStore e) (sym is) (planned_pod p x)
       not_made told make.NoMemory error is cause = subst (λ (e : BuildError). ByStore e) (sym is) tt
 
-    pub store_refuses : (now : ℕ) (error : BuildError) → EmbryoBefore draw.uuid old new → IsRefused observed refs wishes draw now error old new → ByStore error
+    pub store_refuses : (now : ℕ) (error : BuildError) → EmbryoBefore draw.uuid old new → IsBuildRefused observed refs wishes draw now error old new → ByStore error
     store_refuses now error told (inl x) = subst (λ (e : BuildError). ByStore e) (sym x.1) (no_gate x.0)
     store_refuses now error told (inr (free, inl x)) =
         let fails = x.3 in
@@ -265,7 +265,7 @@ module _ (refs : List ImageRef) (wishes : Wishes) (draw : Draw) (old new : DirAt
     plan_says plan.DirFault free = tt
     plan_says plan.NoMemory free = tt
 
-    copy_says : (entries : List PlanEntry) (place : ℕ) (error : BuildError) → IsDamaged entries place error → Unheld → LocksRefuse old.process s error
+    copy_says : (entries : List PlanEntry) (place : ℕ) (error : BuildError) → IsOriginDamaged entries place error → Unheld → LocksRefuse old.process s error
     copy_says entries place (build.Damaged path) is free = free
     copy_says entries place build.NoMemory is free = tt
     copy_says entries place error is free = absurd is
@@ -280,15 +280,15 @@ module _ (refs : List ImageRef) (wishes : Wishes) (draw : Draw) (old new : DirAt
     make_says entries pod make.NoMemory error is free held = subst (λ (e : BuildError). LocksRefuse old.process s e) (sym is) tt
 
     pub locks_refuse : (now : ℕ) (error : BuildError) → (HeldBetween old new (IsFreeElsewhere old.process Images Shared) → Unheld) → ((area : Area) → error ≡ build.Busy area → IsBusyElsewhere old.process area Shared s) →
-        IsRefused observed refs wishes draw now error old new → LocksRefuse old.process s error
+        IsBuildRefused observed refs wishes draw now error old new → LocksRefuse old.process s error
     locks_refuse now error free held (inl x) = subst (λ (e : BuildError). LocksRefuse old.process s e) (sym x.1) (gate_says x.0 (λ area is. held area (x.1 ∙ is)))
     locks_refuse now error free held (inr (found, inl x)) = subst (λ (e : BuildError). LocksRefuse old.process s e) (sym x.3.1) (plan_says x.3.0 (free (found t)))
     locks_refuse now error free held (inr (found, inr x)) = make_says x.0 draw.uuid x.2.3.0 error x.2.3.1 (free (found t)) held
 
 -- what is said of the words, where the making of the folder tells of embryo before, and locks that were had or refused were free or held before
 pub refuses_by_state : (wants : Wants) (now : ℕ) (draw : Draw) (old new : DirSeen) (refusal : Refusal) → old.observed ≡ true → ImagesStay old.trace new.trace →
-    EmbryoBefore draw.uuid (shown_at old) (shown_at new) →
-    (HeldBetween (shown_at old) (shown_at new) (IsFreeElsewhere old.process Images Shared) → IsFreeElsewhere old.process Images Shared (state_after old.trace)) →
+    EmbryoBefore draw.uuid (dir_at_moment old) (dir_at_moment new) →
+    (HeldBetween (dir_at_moment old) (dir_at_moment new) (IsFreeElsewhere old.process Images Shared) → IsFreeElsewhere old.process Images Shared (state_after old.trace)) →
     ((area : Area) → refusal ≡ Busy area → IsBusyElsewhere old.process area Shared (state_after old.trace)) →
     RefusesPod wants now draw old new refusal → RefusesByState wants draw.uuid refusal old.process (state_after old.trace)
 refuses_by_state wants now draw old new refusal t stay told free held x = record {
@@ -300,10 +300,10 @@ refuses_by_state wants now draw old new refusal t stay told free held x = record
   only = one_refusal x.cause.0 wants.wishes draw.uuid (state_after old.trace) old.process x.error refuses;
 }
   where
-    refuses : Refuses old.process draw.uuid x.cause.0 wants.wishes (state_after old.trace) x.error
+    refuses : RefusesReferences old.process draw.uuid x.cause.0 wants.wishes (state_after old.trace) x.error
     refuses = (
-      locks_refuse x.cause.0 wants.wishes draw (shown_at old) (shown_at new) stay old.observed t now x.error free (λ area is. held area (x.is ∙ ap (λ (e : BuildError). build_refusal wants.images e) is)) x.cause.2,
-      store_refuses x.cause.0 wants.wishes draw (shown_at old) (shown_at new) stay old.observed t now x.error told x.cause.2,
+      locks_refuse x.cause.0 wants.wishes draw (dir_at_moment old) (dir_at_moment new) stay old.observed t now x.error free (λ area is. held area (x.is ∙ ap (λ (e : BuildError). refusal_of_build wants.images e) is)) x.cause.2,
+      store_refuses x.cause.0 wants.wishes draw (dir_at_moment old) (dir_at_moment new) stay old.observed t now x.error told x.cause.2,
     )
 
 -- and that nothing refuses them, where a pod of theirs was made by a plan

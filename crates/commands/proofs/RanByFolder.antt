@@ -1,5 +1,7 @@
 -- Where nobody else steps: the run of a pod's apps is told by what its folder holds.
 use Rattle.std.proofs.Common.{◌≡◌, ◌⊎◌, inl, inr, ℕ, Bool, true, false, ◌||◌, Option, Some, None, List, [], ◌∷◌, ◌++◌, map, append-nil, append_assoc, refl, sym, ap, subst, ◌∙◌}
+use Rattle.plain_laws.proofs.Booleans.{or_nothing}
+use Rattle.plain_laws.proofs.Lists.{both_lists}
 use Rattle.ac_types.specs.declared.image_ref.ImageRef.{ImageRef}
 use Rattle.dir_model.specs.declared.area.Area.TheVariants.{Prepare, Run}
 use Rattle.dir_model.specs.declared.event.Event.{Event}
@@ -21,12 +23,12 @@ use Rattle.folder_contents.specs.Entries.{entries_in}
 use Rattle.folder_contents.specs.Handing.{then_moved}
 use Rattle.folder_contents.proofs.Spots.{one_location}
 use Rattle.lifecycle.specs.Executions.{IsConforming}
-use Rattle.lifecycle.proofs.Draws.{conforming_left}
 use Rattle.pod_build.specs.Preparations.{IsPrepared}
 use Rattle.pod_build.specs.Requests.{prepares}
 use Rattle.pod_locks.specs.ClaimRequests.{claims, in_prepared, in_run}
 use Rattle.pod_locks.specs.Work.{Grew, TookBoth}
 use Rattle.pod_locks.proofs.Traces.{grown_call, grown_more}
+use Rattle.pod_locks.proofs.ClaimLawful.{conforms_before}
 use Rattle.pod_files.specs.Places.{run_spot}
 use Rattle.stage1.specs.declared.load_error.LoadError.{LoadError}
 use Rattle.stage1.specs.declared.load_error.LoadError.TheVariants as load
@@ -38,17 +40,16 @@ use Rattle.stage1.specs.declared.end.AppEnd.{AppEnd}
 use Rattle.stage1.specs.declared.error.RunError.{RunError}
 use Rattle.stage1.specs.declared.error.RunError.TheVariants as run
 use Rattle.stage1.specs.Runs.{AreEnds, HasRun, IsRefusedRun, LoadsStarts, end_of, reads_or_closes}
-use Rattle.stage1.specs.Sequences.{Ending, status_of}
+use Rattle.stage1.specs.Sequences.{Ending, app_status_of}
 use Rattle.stage1.proofs.Starting.{reads_pod_reads}
 use Rattle.command_outcomes.specs.Moments.{SpawnerSeen}
 use Rattle.commands.specs.Run.{makes_and_runs}
 use Rattle.commands.specs.RunPrepared.{runs_prepared}
-use Rattle.commands.specs.RunQuiet.{made_by}
+use Rattle.commands.specs.RunQuiet.{entries_made}
 use Rattle.commands.specs.RunTable.{AreTheStarts, IsWhyNone, RunsAll, StoppedFor}
 use Rattle.commands.proofs.ClaimQuiet.{claim_leaves, claim_move, folder_back}
 use Rattle.commands.proofs.EndsQuiet.{since_begin}
 use Rattle.commands.proofs.FolderHolds.{Spares, filled_in}
-use Rattle.commands.proofs.LateTurns.{or_false}
 use Rattle.commands.proofs.NewRunQuiet.{run_leaves}
 use Rattle.commands.proofs.OneStart.{the_reason, the_starts}
 use Rattle.commands.proofs.OwnSteps.{back_from, in_process, own_first}
@@ -60,15 +61,11 @@ use Rattle.commands.proofs.StartsTold.{HoldsOn, reason_told, starts_told}
 abbrev pub KeepsHeld : PodId → ℕ → List Entry → DirAt → DirAt → Type 0
 KeepsHeld pod folder es from to = (d : DirAt) → ExtendsBy reads_or_closes from d → (z : List Event) → to.trace ≡ d.trace ++ z → HoldsOn pod folder es from d
 
--- the ends by the endings
-both_lists : {X : Type 0} (a b : X) (xs ys : List X) → a ≡ b → xs ≡ ys → a ∷ xs ≡ b ∷ ys
-both_lists a b xs ys is are = cc
-
-ends_by : (endings : List Ending) (ends : List AppEnd) → AreEnds (map (λ e. e.begun.app) endings) (map status_of endings) ends → ends ≡ map (λ e. end_of e.begun.app (status_of e)) endings
+ends_by : (endings : List Ending) (ends : List AppEnd) → AreEnds (map (λ e. e.begun.app) endings) (map app_status_of endings) ends → ends ≡ map (λ e. end_of e.begun.app (app_status_of e)) endings
 ends_by [] [] are = refl
 ends_by [] (x ∷ ends) are = absurd are
 ends_by (e ∷ endings) [] are = absurd are
-ends_by (e ∷ endings) (x ∷ ends) are = both_lists x (end_of e.begun.app (status_of e)) ends (map (λ y. end_of y.begun.app (status_of y)) endings) are.0 (ends_by endings ends are.1)
+ends_by (e ∷ endings) (x ∷ ends) are = both_lists x (end_of e.begun.app (app_status_of e)) ends (map (λ y. end_of y.begun.app (app_status_of y)) endings) are.0 (ends_by endings ends are.1)
 
 module _ (pod : PodId) (address : List ℕ) (folder : ℕ) (es : List Entry) (from to : DirAt) (keeps : KeepsHeld pod folder es from to) where
   loaded : (starts : List AppStart) (x : DirAt) (z : List Event) → to.trace ≡ x.trace ++ z → LoadsStarts pod address starts from x → AreTheStarts pod address es starts
@@ -130,7 +127,7 @@ claim_spares pod r h = spares_none (run_spot pod) r refl
 
 off_run : (draw : PodId) (here spot : Spot) → ((spot_eq here (pod_at Prepare draw) || false) || false) ≡ true → ◌≡◌ {A = Option Spot} (Some here) (Some spot) → spot_eq (run_spot draw) spot ≡ false
 off_run draw here spot h is =
-    let at : here ≡ pod_at Prepare draw = one_location here (pod_at Prepare draw) (or_false (spot_eq here (pod_at Prepare draw)) (or_false (spot_eq here (pod_at Prepare draw) || false) h)) in
+    let at : here ≡ pod_at Prepare draw = one_location here (pod_at Prepare draw) (or_nothing (spot_eq here (pod_at Prepare draw)) (or_nothing (spot_eq here (pod_at Prepare draw) || false) h)) in
     let same : here ≡ spot = cc in
     subst (λ (x : Spot). spot_eq (run_spot draw) x ≡ false) (sym at ∙ same) refl
 
@@ -144,9 +141,6 @@ prepare_spares draw r h spot is = spares_none (run_spot draw) r refl spot is
 
 one_number : {j k : ℕ} → ◌≡◌ {A = Option ℕ} (Some j) (Some k) → j ≡ k
 one_number is = cc
-
-conforms_to : {a b : List Event} → Grew a b → IsConforming b → IsConforming a
-conforms_to {a} {b} g conforming = conforming_left a g.more (subst IsConforming g.grown conforming)
 
 -- the folder of a claimed pod
 module _ (pod : PodId) (own : Handle) {me : ℕ} {old begun new : List Event} (c to : DirAt) (mine : c.process ≡ me) (ext : Extends (in_process (runs_prepared pod)) me old new) (quiet : Quiet me old new) (first : Grew old begun) (took : TookBoth pod own me begun c.trace)
@@ -172,7 +166,7 @@ module _ (pod : PodId) (own : Handle) {me : ℕ} {old begun new : List Event} (c
       same_entries (claims pod) (claim_fills pod) me early m.before m.meanwhile (e ∷ m.later) m.begins m.moved (own_first quiet to_move from_move) in
       let held : entries_in k (state_after mv).entries ≡ entries_in k (state_after old).entries =
       ap (λ (s : DirState). entries_in k s.entries) (state_after-push m.before e) ∙ (ap (entries_in k) (append-nil (state_after m.before).entries) ∙ ap (entries_in k) same) in
-      let x = holds_moved pod me k (entries_in k (state_after old).entries) (in_prepared pod) m.before (conforms_to from_move conforming) refl was here held in
+      let x = holds_moved pod me k (entries_in k (state_after old).entries) (in_prepared pod) m.before (conforms_before from_move conforming) refl was here held in
       let end = grown_call finish in
       keeps_on pod (runs_prepared pod) (claims pod) (claim_leaves pod) (claim_spares pod) me old new ext quiet finish.run mv u from k (entries_in k (state_after old).entries) x c m.later mine tail early d reads (z ++ end.more)
       (end.grown ∙ (ap (λ (h : List Event). h ++ end.more) goes ∙ append_assoc d.trace z end.more))
@@ -181,7 +175,7 @@ module _ (pod : PodId) (own : Handle) {me : ℕ} {old begun new : List Event} (c
 module _ (draw : PodId) {refs : List ImageRef} {wishes : Wishes} {me : ℕ} {old new : List Event} (c to : DirAt) (mine : c.process ≡ me) (ext : Extends (in_process (makes_and_runs draw)) me old new) (quiet : Quiet me old new)
     (after : Grew c.trace to.trace) (finish : CallStep me to.trace Finish Done new) (early : Extends (since_begin (prepares draw Run)) me old c.trace) (y : IsPrepared refs wishes me draw Run old new) (tail : List Event)
     (past : c.trace ≡ then_moved y.before me (pod_at Prepare draw) (pod_at Run draw) ++ tail) where
-  pub made_keeps : IsConforming new → KeepsHeld draw y.folder (made_by y) c to
+  pub made_keeps : IsConforming new → KeepsHeld draw y.folder (entries_made y) c to
   made_keeps conforming d reads z goes =
       let e = event me (MoveFolder (pod_at Prepare draw) (pod_at Run draw)) Done in
       let mv : List Event = y.before ++ e ∷ [] in
@@ -189,7 +183,7 @@ module _ (draw : PodId) {refs : List ImageRef} {wishes : Wishes} {me : ℕ} {old
       let from : mv ≡ old ++ u = ap (λ (h : List Event). h ++ e ∷ []) y.begins ∙ append_assoc old y.meanwhile (e ∷ []) in
       let was : folder_at (state_after y.before).namespace (pod_at Prepare draw) ≡ Some y.folder =
       sym (moved_here draw (makes_and_runs draw) (run_leaves draw) me old new y.before y.later (pod_at Prepare draw) ext quiet y.meanwhile y.begins y.moved finish.run) ∙ y.stands in
-      let x = holds_moved draw me y.folder (made_by y) (pod_at Prepare draw) y.before (conforms_to (record { more = e ∷ y.later; grown = y.moved }) conforming) refl was y.stands y.holds in
+      let x = holds_moved draw me y.folder (entries_made y) (pod_at Prepare draw) y.before (conforms_before (record { more = e ∷ y.later; grown = y.moved }) conforming) refl was y.stands y.holds in
       let end = grown_call finish in
-      keeps_on draw (makes_and_runs draw) (prepares draw Run) (run_leaves draw) (prepare_spares draw) me old new ext quiet finish.run mv u from y.folder (made_by y) x c tail mine past early d reads (z ++ end.more)
+      keeps_on draw (makes_and_runs draw) (prepares draw Run) (run_leaves draw) (prepare_spares draw) me old new ext quiet finish.run mv u from y.folder (entries_made y) x c tail mine past early d reads (z ++ end.more)
       (end.grown ∙ (ap (λ (h : List Event). h ++ end.more) goes ∙ append_assoc d.trace z end.more))

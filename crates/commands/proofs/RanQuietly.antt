@@ -27,7 +27,7 @@ use Rattle.pod_locks.specs.ClaimRequests.{claims}
 use Rattle.pod_locks.specs.Work.{Grew}
 use Rattle.pod_locks.proofs.ClaimLawful.{never_stray}
 use Rattle.pod_locks.proofs.Traces.{grown_more, grown_call, grown_by}
-use Rattle.pod_build.specs.Progress.{at_work, nothing_made}
+use Rattle.pod_build.specs.Progress.{seen_making, nothing_made}
 use Rattle.command_outcomes.specs.declared.refusal.Refusal.{Refusal}
 use Rattle.command_outcomes.specs.declared.told.Told.{Told}
 use Rattle.command_outcomes.specs.Moments.{Answer, SpawnerSeen}
@@ -37,7 +37,7 @@ use Rattle.commands.proofs.Openings.{free_before}
 use Rattle.commands.proofs.OwnSteps.{in_process}
 use Rattle.commands.specs.RunPrepared.{runs_prepared, CanClaim, ClaimsAndRuns, IsUnclaimed}
 use Rattle.commands.specs.Run.{makes_and_runs, MakesAndRuns}
-use Rattle.commands.specs.RunQuiet.{HasPassed, HasMadeAndLeft, UnclaimedFor, TellsItsEnds, held_before, made_by}
+use Rattle.commands.specs.RunQuiet.{HasPassed, HasMadeAndLeft, UnclaimedFor, TellsItsEnds, held_before, entries_made}
 use Rattle.commands.specs.RunTable.{IsRefusedFor, RunsAll, StoppedFor}
 use Rattle.stage1.specs.Runs.{HasRun}
 use Rattle.commands.proofs.EndsQuiet.{early_part, ran_ends, unborn_before}
@@ -92,7 +92,7 @@ module _ (seen observed : Bool) (pod : PodId) (address : List ℕ) (d d' : DirAt
 module _ (seen observed : Bool) (wants : Wants) (address : List ℕ) (now : ℕ) (draw : Draw) (d d' : DirAt) (s s' : SpawnerAt) (answer : Answer) (t : seen ≡ true) (old new : List Event) where
   -- a pod that was made for its run, whatever came of it
   pub run_made_left : Extends (in_process (makes_and_runs draw.uuid)) d.process old new → Quiet d.process old new → Grew old d.trace → CallStep d.process d'.trace Finish Done new → has_begun (state_after old).namespace d.process ≡ false → (intent : Intent) → Began Run draw now intent →
-      Knows d (at_work intent [] nothing_made) → (x : MakesAndRuns seen observed wants address now draw d d' s s' answer) → Grew x.made.trace d'.trace → IsConforming new → MadeUntil wants d.process draw.uuid old x.made.trace new
+      Knows d (seen_making intent [] nothing_made) → (x : MakesAndRuns seen observed wants address now draw d d' s s' answer) → Grew x.made.trace d'.trace → IsConforming new → MadeUntil wants d.process draw.uuid old x.made.trace new
   run_made_left ext quiet first finish unborn intent began knows x after conforming =
       let made = grown_more after (grown_call finish) in
       let early : DirAt = record d { trace = old } in
@@ -132,11 +132,11 @@ module _ (seen : Bool) (so sn : SpawnerSeen) (d d' : DirAt) (t : seen ≡ true) 
     }
 
   module _ (wants : Wants) (address : List ℕ) (now : ℕ) (draw : Draw) (ext : Extends (in_process (makes_and_runs draw.uuid)) d.process old new) where
-    made_holds : {answer : Answer} (x : MakesAndRuns seen so.observed wants address now draw d d' so.shown sn.shown answer) (h : MadeUntil wants d.process draw.uuid old x.made.trace new) → IsConforming new → KeepsHeld draw.uuid h.0.2.0.folder (made_by h.0.2.0) x.made d'
+    made_holds : {answer : Answer} (x : MakesAndRuns seen so.observed wants address now draw d d' so.shown sn.shown answer) (h : MadeUntil wants d.process draw.uuid old x.made.trace new) → IsConforming new → KeepsHeld draw.uuid h.0.2.0.folder (entries_made h.0.2.0) x.made d'
     made_holds x h conforming = made_keeps draw.uuid x.made d' x.same ext quiet (x.then t) finish (early_part d approach intent refl begins (x.asked t)) h.0.2.0 h.1.0 h.1.1 conforming
 
     pub run_ends : (told : Told) (x : MakesAndRuns seen so.observed wants address now draw d d' so.shown sn.shown (Ok told)) (h : MadeUntil wants d.process draw.uuid old x.made.trace new) → IsConforming new →
-        (y : TellsItsEnds draw.uuid (pod_line draw.uuid) new told.text) × RunsAll draw.uuid address (made_by h.0.2.0) y.ends so sn
+        (y : TellsItsEnds draw.uuid (pod_line draw.uuid) new told.text) × RunsAll draw.uuid address (entries_made h.0.2.0) y.ends so sn
     run_ends told x h conforming =
         let pod = draw.uuid in
         let ran = subst (λ (p : PodId). HasRun seen so.observed p x.owned.own address x.says.ends x.made d' so.shown sn.shown) x.is_owned.is x.says.ran in (
@@ -146,15 +146,15 @@ module _ (seen : Bool) (so sn : SpawnerSeen) (d d' : DirAt) (t : seen ≡ true) 
             stand = ran_ends pod (makes_and_runs pod) (prepares pod Run) (run_leaves pod) (run_removes pod) (run_notes pod) d.process old new ext quiet finish.run (unborn_before intent begins.begins) t x.owned.own address x.says.ends x.made d' so.shown sn.shown x.same stays
                 (early_part d approach intent refl begins (x.asked t)) (x.then t) finish ran h.0.2.0.folder h.0.2.1.there;
           },
-          runs_all pod address h.0.2.0.folder (made_by h.0.2.0) x.made d' (made_holds x h conforming) t x.owned.own x.says.ends so sn ran,
+          runs_all pod address h.0.2.0.folder (entries_made h.0.2.0) x.made d' (made_holds x h conforming) t x.owned.own x.says.ends so sn ran,
         )
 
     pub run_stopped : {answer : Answer} (x : MakesAndRuns seen so.observed wants address now draw d d' so.shown sn.shown answer) (r : Refusal) → (IsConforming new → MadeUntil wants d.process draw.uuid old x.made.trace new) → WasStopped seen draw.uuid address r x.made d' so sn →
-        IsRefusedFor draw.uuid r new (λ error. (y : HasMadeAndLeft wants d.process draw.uuid old new) × StoppedFor draw.uuid address (made_by y.2.0) error so sn)
+        IsRefusedFor draw.uuid r new (λ error. (y : HasMadeAndLeft wants d.process draw.uuid old new) × StoppedFor draw.uuid address (entries_made y.2.0) error so sn)
     run_stopped x r made w = record {
       error = w.0;
       is = w.1;
       why = λ conforming.
           let h = made conforming in
-          (h.0, stopped_for draw.uuid address h.0.2.0.folder (made_by h.0.2.0) x.made d' (made_holds x h conforming) t so sn w.0 (λ is. w.3 is t (conforms_before (grown_call finish) conforming)) w.2);
+          (h.0, stopped_for draw.uuid address h.0.2.0.folder (entries_made h.0.2.0) x.made d' (made_holds x h conforming) t so sn w.0 (λ is. w.3 is t (conforms_before (grown_call finish) conforming)) w.2);
     }

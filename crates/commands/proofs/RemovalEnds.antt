@@ -2,6 +2,7 @@
 use Rattle.std.proofs.Common.{◌≡◌, ◌⊎◌, inl, inr, ◌+◌, ℕ, Bool, true, false, not, ◌&&◌, ◌||◌, ◌==◌, cond, Option, Some, None, List, [], ◌∷◌, ◌++◌, map, append-nil, refl, sym, ap, subst, ◌∙◌, append_assoc}
 use Rattle.std.specs.List.{position, position_from, AllByRecursion}
 use Rattle.std.proofs.lemmas.Iterator.Adapters.{position_from-zero}
+use Rattle.plain_laws.proofs.Booleans.{or_nothing}
 use Rattle.ac_types.specs.declared.store_key.StoreKey.{StoreKey}
 use Rattle.dir_model.specs.declared.area.Area.TheVariants.{Images, Removed}
 use Rattle.dir_model.specs.declared.event.Event.{Event}
@@ -20,19 +21,19 @@ use Rattle.dir_model.specs.Quiet.{Quiet}
 use Rattle.dir_model.proofs.Lists.{and_left, or_last, all_left, all_right, all_both, all_map, same_rest, same_self}
 use Rattle.dir_model.proofs.Chains.{states_next-append, state_after-push}
 use Rattle.dir_model.proofs.Moments.{at_within}
-use Rattle.dir_files.specs.AreaLocks.{takes, is_against, IsBusyElsewhere}
+use Rattle.dir_files.specs.AreaLocks.{is_taking_area, is_against, IsBusyElsewhere}
 use Rattle.folder_contents.proofs.Spots.{one_location}
-use Rattle.image_reading.specs.Places.{image_spot, IsAbsent}
-use Rattle.image_removal.specs.Calls.{Called}
-use Rattle.image_removal.specs.Causes.{FoundNone}
+use Rattle.image_reading.specs.Places.{image_spot, IsImageAbsent}
+use Rattle.image_removal.specs.Calls.{WasCalled}
+use Rattle.image_removal.specs.Causes.{FoundNoImage}
 use Rattle.image_removal.specs.Removals.{IsGone}
 use Rattle.image_removal.specs.Requests.{away_spot, puts_away, removes_at}
 use Rattle.lifecycle.proofs.Places.{none_stands}
 use Rattle.command_outcomes.specs.Meanwhile.{Meanwhile}
-use Rattle.commands.specs.ImageRm.{Removes}
-use Rattle.commands.proofs.PlacesKept.{same_folders}
-use Rattle.commands.proofs.OwnSteps.{in_process}
+use Rattle.commands.specs.ImageRm.{RemovesStoredImage}
+use Rattle.commands.proofs.OwnSteps.{in_process, same_folders}
 use Rattle.commands.proofs.RemovalQuiet.{held_before}
+use Rattle.commands.proofs.GcQuiet.{Leaves, leaves_same}
 
 -- no folder stands at the location
 abbrev pub NoneAt : Spot → List (Option Spot) → Type 0
@@ -121,10 +122,6 @@ module _ (Q : List (Option Spot) → Type 0) (asks : Request → Bool)
       let here : state_after b ≡ states_next (state_after a) y.0 = ap state_after y.1 ∙ states_next-append empty_state a y.0 in
       subst (λ (s : DirState). Q s.namespace.folders) (sym here) (kept_all me (state_after a) y.0 own asked q)
 
-pub or_false : (b : Bool) → (b || false) ≡ true → b ≡ true
-or_false true h = refl
-or_false false h = cc
-
 -- just after the own move was answered Ok none stands where it moved from, and after the own removal none where it removed
 pub after_move : (from to : Spot) → spot_eq to from ≡ false → {me : ℕ} {old new : List Event} → CallStep me old (MoveFolder from to) Done new → NoneAt from (state_after new).namespace.folders
 after_move from to apart {me} {old} {new} s = by s.own
@@ -159,7 +156,7 @@ module _ (key : StoreKey) (draw : PodId) where
   -- an own move is from the image's place, and so it moves nothing where none stands there
   same_after_move : (a b : Spot) (folders : List (Option Spot)) → Own (MoveFolder a b) → NoneAt home folders → map (moved a b) folders ≡ folders
   same_after_move a b folders h none =
-      let m : (spot_eq a home && spot_eq b away) ≡ true = or_false _ (or_false (removes_at key draw (MoveFolder a b)) h) in
+      let m : (spot_eq a home && spot_eq b away) ≡ true = or_nothing _ (or_nothing (removes_at key draw (MoveFolder a b)) h) in
       moves_nothing a b folders (subst (λ (x : Spot). NoneAt x folders) (sym (one_location a home (and_left (spot_eq a home) (spot_eq b away) m))) none)
 
   none_kept : (p : ℕ) (w : Namespace) (request : Request) (reply : Reply) → Own request → NoneAt home w.folders → NoneAt home (namespace_replied w p request reply).folders
@@ -178,11 +175,11 @@ module _ (key : StoreKey) (draw : PodId) where
   both_kept p w (RemoveFolder gone) reply h both = both
   both_kept p w request reply h both = subst Both (sym (same_folders p w request reply refl (λ handle. refl))) both
 
-  module _ {me : ℕ} {old new : List Event} (ext : Extends (in_process (removes_at key draw)) me old new) (quiet : Quiet me old new) (m : Meanwhile (Removes key draw) me old new) where
+  module _ {me : ℕ} {old new : List Event} (ext : Extends (in_process (removes_at key draw)) me old new) (quiet : Quiet me old new) (m : Meanwhile (RemovesStoredImage key draw) me old new) where
     abbrev between : List Event
     between = m.so.between
 
-    put : Called (puts_away key draw) Done me m.begun between
+    put : WasCalled (puts_away key draw) Done me m.begun between
     put = m.so.moved
 
     started : Upto old put.after
@@ -205,7 +202,7 @@ module _ (key : StoreKey) (draw : PodId) where
         (none_home b y z, none)
 
     abbrev Ends : Type 0
-    Ends = IsAbsent key (state_after new) × ((folder_at (state_after new).namespace away ≡ None) ⊎ IsBusyElsewhere me Removed Exclusive (state_after old))
+    Ends = IsImageAbsent key (state_after new) × ((folder_at (state_after new).namespace away ≡ None) ⊎ IsBusyElsewhere me Removed Exclusive (state_after old))
 
     both_ends : Both (state_after new).namespace.folders → Ends
     both_ends both = (absent_at (state_after new).namespace home both.0, inl (absent_at (state_after new).namespace away both.1))
@@ -231,22 +228,14 @@ module _ (key : StoreKey) (draw : PodId) where
             let z = upto_more b m.ended new (at.rest, at.ends) last in
             (absent_at (state_after new).namespace home (none_home new (upto_more between b new y z) ([], sym (append-nil new))), inr (held_before (is_against Removed Exclusive) whole quiet))
 
--- a step that leaves each folder where it is
-abbrev pub Leaves : Event → Type 0
-Leaves e = (p : ℕ) (w : Namespace) → (namespace_replied w p e.request e.reply).folders ≡ w.folders
-
-pub folders_same : (s : DirState) (es : List Event) → AllByRecursion Leaves es → (states_next s es).namespace.folders ≡ s.namespace.folders
-folders_same s [] all = refl
-folders_same s (e ∷ es) all = folders_same (state_next s e) es all.1 ∙ all.0 e.process s.namespace
-
-leaves_folders : (request : Request) (reply : Reply) → (is_kill request || (is_begin request || takes Images Exclusive request)) ≡ true → (p : ℕ) (w : Namespace) → (namespace_replied w p request reply).folders ≡ w.folders
+leaves_folders : (request : Request) (reply : Reply) → (is_kill request || (is_begin request || is_taking_area Images Exclusive request)) ≡ true → (p : ℕ) (w : Namespace) → (namespace_replied w p request reply).folders ≡ w.folders
 leaves_folders (MakeFolder here) reply h p w = cc
 leaves_folders (MoveFolder a b) reply h p w = cc
 leaves_folders (RemoveFolder gone) reply h p w = cc
 leaves_folders request reply h p w = same_folders p w request reply refl (λ handle. refl)
 
 abbrev before_move : Request → Bool
-before_move request = is_begin request || takes Images Exclusive request
+before_move request = is_begin request || is_taking_area Images Exclusive request
 
 all_leave : (me : ℕ) (asks : Request → Bool) → ((r : Request) → asks r ≡ true → before_move r ≡ true) → (es : List Event) → AllByRecursion (λ e. e.process ≡ me) es → AllByRecursion (λ e. (is_foreign me e || asks e.request) ≡ true) es → AllByRecursion Leaves es
 all_leave me asks wider [] own asked = tt
@@ -273,13 +262,13 @@ all_foreign me (e ∷ es) foreign = (by (is_foreign me e) foreign.0, all_foreign
 begin_first : (r : Request) → is_begin r ≡ true → before_move r ≡ true
 begin_first r h = by (is_begin r) h
   where
-    by : (b : Bool) → b ≡ true → (b || takes Images Exclusive r) ≡ true
+    by : (b : Bool) → b ≡ true → (b || is_taking_area Images Exclusive r) ≡ true
     by true k = refl
     by false k = cc
 
 -- no image had the key before, where none had it when its own move was answered so
-module _ (key : StoreKey) (draw : PodId) {me : ℕ} {old new : List Event} (quiet : Quiet me old new) (m : Meanwhile (FoundNone key draw) me old new) where
-  abbrev f : FoundNone key draw me m.begun m.ended
+module _ (key : StoreKey) (draw : PodId) {me : ℕ} {old new : List Event} (quiet : Quiet me old new) (m : Meanwhile (FoundNoImage key draw) me old new) where
+  abbrev f : FoundNoImage key draw me m.begun m.ended
   f = m.so
 
   abbrev call : CallStep me f.before (puts_away key draw) (Refused Missing 0) f.after
@@ -318,12 +307,12 @@ module _ (key : StoreKey) (draw : PodId) {me : ℕ} {old new : List Event} (quie
       let later = all_right _ m.begins.more (f.first.more ++ (call.meanwhile.others ++ step ∷ [])) own in
       all_both Leaves m.begins.more f.first.more
       (all_leave me is_begin begin_first m.begins.more (all_left _ m.begins.more (f.first.more ++ (call.meanwhile.others ++ step ∷ [])) own) m.begins.asked)
-      (all_leave me (takes Images Exclusive) (λ r h. or_last (is_begin r) (takes Images Exclusive r) h) f.first.more (all_left _ f.first.more (call.meanwhile.others ++ step ∷ []) later) f.first.asked)
+      (all_leave me (is_taking_area Images Exclusive) (λ r h. or_last (is_begin r) (is_taking_area Images Exclusive r) h) f.first.more (all_left _ f.first.more (call.meanwhile.others ++ step ∷ []) later) f.first.asked)
 
-  pub none_before : IsAbsent key (state_after old)
+  pub none_before : IsImageAbsent key (state_after old)
   none_before = by call.own
     where
-      by : TookPlace call.before me (puts_away key draw) (Refused Missing 0) f.after ⊎ LeftNothing call.before me (puts_away key draw) (Refused Missing 0) f.after → IsAbsent key (state_after old)
+      by : TookPlace call.before me (puts_away key draw) (Refused Missing 0) f.after ⊎ LeftNothing call.before me (puts_away key draw) (Refused Missing 0) f.after → IsImageAbsent key (state_after old)
       by (inr left) = let clash : false ≡ true = left.late in cc
       by (inl took) =
           let at = f.told.absent in
@@ -334,5 +323,5 @@ module _ (key : StoreKey) (draw : PodId) {me : ℕ} {old new : List Event} (quie
           (all_left Leaves es at.rest (subst (λ (l : List Event). AllByRecursion Leaves l) parted (leaves_call took))) in
           let here : at.before ++ at.step ∷ [] ≡ old ++ ((m.begins.more ++ f.first.more) ++ es) = ap (λ (h : List Event). h ++ at.step ∷ []) at.begins ∙ (ap (λ (h : List Event). (h ++ at.later) ++ at.step ∷ []) at_before ∙ simp append_assoc) in
           let same : (state_after (at.before ++ at.step ∷ [])).namespace.folders ≡ (state_after old).namespace.folders =
-          ap (λ (s : DirState). s.namespace.folders) (ap state_after here ∙ states_next-append empty_state old ((m.begins.more ++ f.first.more) ++ es)) ∙ folders_same (state_after old) ((m.begins.more ++ f.first.more) ++ es) leaves in
+          ap (λ (s : DirState). s.namespace.folders) (ap state_after here ∙ states_next-append empty_state old ((m.begins.more ++ f.first.more) ++ es)) ∙ leaves_same (state_after old) ((m.begins.more ++ f.first.more) ++ es) leaves in
           ap (λ (fs : List (Option Spot)). position (is_at (image_spot key)) fs) (sym same) ∙ at.holds

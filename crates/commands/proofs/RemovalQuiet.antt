@@ -3,6 +3,8 @@
 use Rattle.std.proofs.Common.{◌≡◌, ℕ, Bool, true, false, not, ◌||◌, ◌==◌, cond, Option, Some, None, option_map, List, [], ◌∷◌, ◌++◌, slice_get, refl, sym, ap, subst, ◌∙◌, append_assoc}
 use Rattle.std.specs.List.{list_any, AllByRecursion}
 use Rattle.std.proofs.lemmas.Option.{slice_get-map}
+use Rattle.plain_laws.proofs.Lists.{get_pushed}
+use Rattle.plain_laws.proofs.Booleans.{or_nothing}
 use Rattle.dir_model.specs.declared.event.Event.{Event}
 use Rattle.dir_model.specs.declared.opening.Opening.{Opening}
 use Rattle.dir_model.specs.declared.spot.Spot.{Spot}
@@ -17,10 +19,9 @@ use Rattle.dir_model.specs.Quiet.{Quiet}
 use Rattle.dir_model.proofs.Lists.{same_rest, same_self, all_left}
 use Rattle.dir_model.proofs.Chains.{states_next-append}
 use Rattle.folder_contents.proofs.Spots.{one_location}
-use Rattle.folder_contents.proofs.StaysWhole.{get_pushed}
 use Rattle.command_outcomes.specs.Ends.{StaysBeside}
-use Rattle.commands.proofs.PlacesKept.{same_folders, IsPlace}
-use Rattle.commands.proofs.OwnSteps.{elsewhere, in_process, step_others}
+use Rattle.commands.proofs.PlacesKept.{IsPlace}
+use Rattle.commands.proofs.OwnSteps.{elsewhere, in_process, step_others, same_folders}
 
 -- the location of the folder in which a request changes something
 abbrev pub changed_in : Request → Option Spot
@@ -37,10 +38,6 @@ pub record ChangesAt (touched : Spot → Bool) (asks : Request → Bool) : Type 
   pub removes : (spot : Spot) → asks (RemoveFolder spot) ≡ true → touched spot ≡ true
   pub fills : (request : Request) (spot : Spot) → changed_in request ≡ Some spot → asks request ≡ true → touched spot ≡ true
 
-pub or_false : (b : Bool) → (b || false) ≡ true → b ≡ true
-or_false true h = refl
-or_false false h = cc
-
 module _ (touched : Spot → Bool) (asks : Request → Bool) (c : ChangesAt touched asks) where
   -- another location
   pub elsewhere_from : (from place : Spot) → touched from ≡ true → touched place ≡ false → spot_eq place from ≡ false
@@ -56,11 +53,11 @@ module _ (touched : Spot → Bool) (asks : Request → Bool) (c : ChangesAt touc
   place_step p w (MakeFolder here) reply folder place h at other = at
   place_step p w (MoveFolder from to) Done folder place h at other =
       slice_get-map (moved from to) w.folders folder
-      ∙ (ap (option_map (moved from to)) at ∙ ap (λ b. Some (cond b (Some to) (Some place))) (elsewhere_from from place (c.moves from to (or_false (asks (MoveFolder from to)) h)) other))
+      ∙ (ap (option_map (moved from to)) at ∙ ap (λ b. Some (cond b (Some to) (Some place))) (elsewhere_from from place (c.moves from to (or_nothing (asks (MoveFolder from to)) h)) other))
   place_step p w (MoveFolder from to) reply folder place h at other = at
   place_step p w (RemoveFolder gone) Done folder place h at other =
       slice_get-map (removed gone) w.folders folder
-      ∙ (ap (option_map (removed gone)) at ∙ ap (λ b. Some (cond b None (Some place))) (elsewhere_from gone place (c.removes gone (or_false (asks (RemoveFolder gone)) h)) other))
+      ∙ (ap (option_map (removed gone)) at ∙ ap (λ b. Some (cond b None (Some place))) (elsewhere_from gone place (c.removes gone (or_nothing (asks (RemoveFolder gone)) h)) other))
   place_step p w (RemoveFolder gone) reply folder place h at other = at
   place_step p w request reply folder place h at other = ap (λ (fs : List (Option Spot)). slice_get fs folder) (same_folders p w request reply refl (λ handle. refl)) ∙ at
 

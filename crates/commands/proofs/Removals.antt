@@ -2,16 +2,16 @@
 use Rattle.std.proofs.Common.{◌≡◌, Bool, true, Err, ℕ, refl, sym, ap, subst}
 use Rattle.dir_model.specs.declared.pod.PodId.{PodId}
 use Rattle.dir_trait.specs.DirCalls.{DirAt}
-use Rattle.pod_locks.specs.Holding.{Stays}
+use Rattle.dir_trait.specs.Effects.{Given}
 use Rattle.pod_gc.specs.declared.remove_error.RemoveError.{RemoveError}
 use Rattle.pod_gc.specs.declared.remove_error.RemoveError.TheVariants as error
 use Rattle.pod_gc.specs.RemovalHolding.{MayRemovePod}
-use Rattle.pod_gc.specs.Removals.{RemoveCause, RefusedByAnother}
+use Rattle.pod_gc.specs.Removals.{PodRemovalCause, RemovalRefusedByAnother}
 use Rattle.pod_gc.specs.Found.{RefusedFirst}
 use Rattle.commands.specs.Strays.{ComesOfApp}
 use Rattle.command_outcomes.specs.declared.refusal.Refusal.{Refusal}
 use Rattle.command_outcomes.specs.declared.refusal.Refusal.TheVariants.{DirFault}
-use Rattle.command_outcomes.specs.Moments.{Outcome}
+use Rattle.command_outcomes.specs.Moments.{CommandOutcome}
 use Rattle.command_outcomes.proofs.Seen.{seen_at}
 use Rattle.commands.specs.Rm.{remove_refusal, rm_refusal, RmSays}
 
@@ -25,19 +25,19 @@ allowed pod e = refl
 
 -- why the pod wasn't removed, and what is said of it
 module _ (observed : Bool) (a b : DirAt) (pod : PodId) (now : ℕ) where
-  abbrev Says : Outcome → Type 0
+  abbrev Says : CommandOutcome → Type 0
   Says o = RmSays pod now (seen_at observed a) (seen_at observed b) o
 
   abbrev Another : RemoveError → Type 0
-  Another e = observed ≡ true → Stays (MayRemovePod pod now) a (λ s. RefusedByAnother pod e a b)
+  Another e = observed ≡ true → Given (MayRemovePod pod now) a (λ s. RemovalRefusedByAnother pod e a b)
 
   abbrev First : RemoveError → Type 0
-  First e = observed ≡ true → Stays (MayRemovePod pod now) a (λ s. RefusedFirst pod e a b)
+  First e = observed ≡ true → Given (MayRemovePod pod now) a (λ s. RefusedFirst pod e a b)
 
   abbrev Lawful : RemoveError → Type 0
-  Lawful e = e ≡ error.Stray → observed ≡ true → Stays (MayRemovePod pod now) a (λ s. ComesOfApp a.process a.trace b.trace)
+  Lawful e = e ≡ error.Stray → observed ≡ true → Given (MayRemovePod pod now) a (λ s. ComesOfApp a.process a.trace b.trace)
 
-  said : (e : RemoveError) → RemoveCause observed pod e a b → Another e → First e → Lawful e → Says (Err (remove_refusal pod e))
+  said : (e : RemoveError) → PodRemovalCause observed pod e a b → Another e → First e → Lawful e → Says (Err (remove_refusal pod e))
   said error.NoPod cause another first lawful = λ t. cause.nowhere refl t
   said (error.WrongPhase phase) cause another first lawful = record {
     was = λ t conforming. cause.phase phase refl t conforming;
@@ -52,5 +52,5 @@ module _ (observed : Bool) (a b : DirAt) (pod : PodId) (now : ℕ) where
   said error.Stray cause another first lawful = (λ t. cause.stray refl t, λ t s k may. lawful refl t s (record { tied = k.tied; handles = k.handles }) may)
   said error.NoMemory cause another first lawful = tt
 
-  pub refused_says : (e : RemoveError) (r : Refusal) → r ≡ remove_refusal pod e → RemoveCause observed pod e a b → Another e → First e → Lawful e → Says (Err r)
+  pub refused_says : (e : RemoveError) (r : Refusal) → r ≡ remove_refusal pod e → PodRemovalCause observed pod e a b → Another e → First e → Lawful e → Says (Err r)
   refused_says e r is cause another first lawful = subst (λ (x : Refusal). Says (Err x)) (sym is) (said e cause another first lawful)

@@ -13,7 +13,7 @@ use Rattle.pod_gc.specs.declared.ages.Times.{Times}
 use Rattle.pod_gc.specs.Requests.{sweeps}
 use Rattle.command_outcomes.specs.declared.refusal.Refusal.TheVariants.{NoPod, WrongPhase, NoManifest, PodBusy}
 use Rattle.command_outcomes.specs.Moments.{DirSeen}
-use Rattle.commands.specs.Rm.{removed_text, HasRemovedPod, HasFoundNoPod, HasFoundWrong, HasFoundNoManifest, HasFoundBusy}
+use Rattle.commands.specs.Rm.{removed_pod_text, HasRemovedPod, HasFoundNoPod, HasFoundWrong, HasFoundNoManifest, HasFoundBusy}
 use Rattle.commands.specs.Gc.{HasSweptPods}
 use Rattle.commands.specs.RemovalQuiet.{RemovesPodQuietly, SweepsPodsQuietly}
 use Rattle.commands.proofs.OwnSteps.{in_process}
@@ -43,7 +43,7 @@ module _ (pod : PodId) (now : ℕ) (old new : DirSeen) (ext : Extends (in_proces
   before : IsConforming new.trace → IsConforming old.trace
   before conforming = conforming_left old.trace quiet.more (subst IsConforming quiet.grown conforming)
 
-  pub rm_removed_quietly : (text : List ℕ) → text ≡ removed_text pod → HasRemovedPod pod old new → RemovesPodQuietly pod old new (Ok text)
+  pub rm_removed_quietly : (text : List ℕ) → text ≡ removed_pod_text pod → HasRemovedPod pod old new → RemovesPodQuietly pod old new (Ok text)
   rm_removed_quietly text is done = (is, done, λ conforming. (rm_gone pod done conforming, rm_removable_before pod now ext quiet idle done conforming, rm_unrefused pod now ext quiet idle conforming done))
 
   pub rm_none_quietly : HasFoundNoPod pod old new → RemovesPodQuietly pod old new (Err NoPod)

@@ -12,27 +12,27 @@ use Rattle.phase_read.specs.Exact.{AtOwnEvent, IsNowhere}
 use Rattle.pod_report.specs.declared.error.ReportError.{ReportError}
 use Rattle.pod_report.specs.declared.error.ReportError.TheVariants as report
 use Rattle.pod_report.specs.declared.line.PodLine.{PodLine}
-use Rattle.pod_report.specs.Before.{AnswersQuietly, IsManifestBy, ListsQuietly}
-use Rattle.pod_report.specs.Manifests.{HasManifest, LacksManifest}
+use Rattle.pod_report.specs.Before.{ReadsManifestQuietly, IsManifestBy, ListsPodsQuietly}
+use Rattle.pod_report.specs.Manifests.{PodHasManifest, PodLacksManifest}
 use Rattle.pod_report.specs.Outside.{IsUnsaid}
 use Rattle.pod_report.specs.Snapshot.{IsSnapshotBetween}
 use Rattle.command_outcomes.specs.declared.refusal.Refusal.{Refusal}
 use Rattle.command_outcomes.specs.declared.refusal.Refusal.TheVariants.{DirFault, NoMemory}
 use Rattle.command_outcomes.specs.Ends.{is_own_end}
-use Rattle.command_outcomes.specs.Moments.{Outcome, dir_seen}
+use Rattle.command_outcomes.specs.Moments.{CommandOutcome, dir_seen}
 use Rattle.commands.specs.CatManifest.{IsManifestIn, SeesPod, TellsManifest, cat_manifest_refusal, cat_manifest_report, manifest_line, unread_refusal}
 use Rattle.commands.specs.PodList.{IsListOf, SeesLines, TellsLines, list_refusal, list_report, list_text, unlisted_refusal}
 use Rattle.pod_report.specs.declared.status.PodStatus.{PodStatus}
 use Rattle.pod_report.specs.OwnReadings.{AnswersSeen}
 use Rattle.pod_report.specs.SeenLines.{ListsSeenBetween}
 use Rattle.pod_report.specs.SeenManifests.{AnswersRead}
-use Rattle.pod_report.specs.Status.{IsAnswer, IsStatusBetween, TellsQuietly}
+use Rattle.pod_report.specs.Status.{IsStatusAnswer, IsStatusBetween, TellsQuietly}
 use Rattle.commands.specs.Report.{ReportSays}
-use Rattle.commands.specs.Status.{IsStatusIn, SeesStatus, TellsStatus, status_said, status_lines, status_refusal, status_report, unknown_refusal}
+use Rattle.commands.specs.Status.{IsStatusIn, SeesStatusOutcome, TellsStatus, status_said, status_lines, status_refusal, status_report, unknown_refusal}
 use Rattle.commands.proofs.ReportsBefore.{conforming_before, lacking_is, list_is, manifest_is, nowhere_is}
 
 -- an outcome is of a text or of a refusal, or memory ran out while the text was made
-module _ {V : Type 0} (text : V → List ℕ) (refusal : ReportError → Refusal) (result : Outcome) (P : Outcome → Type 0) where
+module _ {V : Type 0} (text : V → List ℕ) (refusal : ReportError → Refusal) (result : CommandOutcome) (P : CommandOutcome → Type 0) where
   pub came : (found : Result V ReportError) → IfOk found (λ v. (result ≡ Ok (text v)) ⊎ (result ≡ Err NoMemory)) → IfErr found (λ e. result ≡ Err (refusal e)) →
       ((v : V) → found ≡ Ok v → P (Ok (text v))) → ((e : ReportError) → found ≡ Err e → P (Err (refusal e))) → P (Err NoMemory) → P result
   came (Ok v) (inl is) refuses done refused short = subst P (sym is) (done v refl)
@@ -64,7 +64,7 @@ unlisted_never report.Stray kind stray own = absurd (stray refl)
 unlisted_never report.NoPod kind stray own = absurd kind
 unlisted_never report.NoManifest kind stray own = absurd kind
 
-module _ {V : Type 0} (items : V → List PodLine) (observed : Bool) (old new : DirAt) (result : Outcome) (found : Result V ReportError)
+module _ {V : Type 0} (items : V → List PodLine) (observed : Bool) (old new : DirAt) (result : CommandOutcome) (found : Result V ReportError)
     (lists : IfOk found (λ v. (result ≡ Ok (list_text (items v))) ⊎ (result ≡ Err NoMemory))) (refuses : IfErr found (λ e. result ≡ Err (unlisted_refusal e))) where
   abbrev lines_text : V → List ℕ
   lines_text v = list_text (items v)
@@ -80,7 +80,7 @@ module _ {V : Type 0} (items : V → List PodLine) (observed : Bool) (old new : 
       IfErr found IsUnsaid →
       IfOk found (λ v. observed ≡ true → ListsSeenBetween (items v) old new) →
       IfOk found (λ v. observed ≡ true → IsConforming new.trace → IsSnapshotBetween old new (items v)) →
-      IfOk found (λ v. observed ≡ true → IsConforming new.trace → ListsQuietly old new (items v)) →
+      IfOk found (λ v. observed ≡ true → IsConforming new.trace → ListsPodsQuietly old new (items v)) →
       (IsErrOf found report.Stray → observed ≡ true → IsConforming new.trace → ⊥) →
       ReportSays list_report (dir_seen observed old) (dir_seen observed new) result
   list_says kind seen snapshot quiet stray = record {
@@ -111,7 +111,7 @@ unread_own pod report.DirFault = refl
 unread_own pod report.Stray = refl
 unread_own pod report.NoMemory = refl
 
-module _ (pod : PodId) (observed : Bool) (old new : DirAt) (result : Outcome) (found : Result PodManifest ReportError)
+module _ (pod : PodId) (observed : Bool) (old new : DirAt) (result : CommandOutcome) (found : Result PodManifest ReportError)
     (writes : IfOk found (λ m. (result ≡ Ok (manifest_line (pod_data m))) ⊎ (result ≡ Err NoMemory))) (refuses : IfErr found (λ e. result ≡ Err (unread_refusal pod e))) where
   abbrev its_line : PodManifest → List ℕ
   its_line m = manifest_line (pod_data m)
@@ -124,10 +124,10 @@ module _ (pod : PodId) (observed : Bool) (old new : DirAt) (result : Outcome) (f
   cat_refusals = came its_line (unread_refusal pod) result (λ o. IfErr o (λ r. cat_manifest_refusal r ≡ true)) found writes refuses (λ m is. tt) (λ e is. unread_own pod e) refl
 
   module _ (seen : observed ≡ true → AnswersRead pod found old new)
-      (read : IfOk found (λ m. observed ≡ true → IsConforming new.trace → HeldBetween old new (HasManifest pod (pod_data m))))
+      (read : IfOk found (λ m. observed ≡ true → IsConforming new.trace → HeldBetween old new (PodHasManifest pod (pod_data m))))
       (nowhere : IsErrOf found report.NoPod → observed ≡ true → IsConforming new.trace → AtOwnEvent old.process old.trace new.trace (IsNowhere pod))
-      (lacking : IsErrOf found report.NoManifest → observed ≡ true → IsConforming new.trace → HeldBetween old new (LacksManifest pod))
-      (quiet : observed ≡ true → IsConforming new.trace → AnswersQuietly pod found old new)
+      (lacking : IsErrOf found report.NoManifest → observed ≡ true → IsConforming new.trace → HeldBetween old new (PodLacksManifest pod))
+      (quiet : observed ≡ true → IsConforming new.trace → ReadsManifestQuietly pod found old new)
       (stray : IsErrOf found report.Stray → observed ≡ true → IsConforming new.trace → ⊥) where
     unread_told : (e : ReportError) → found ≡ Err e → is_own_end (Err (unread_refusal pod e)) ≡ true → observed ≡ true → IsConforming new.trace → TellsManifest pod old.process old.trace new.trace (Err (unread_refusal pod e))
     unread_told report.NoPod is own t conforming = nowhere is t conforming
@@ -179,7 +179,7 @@ unknown_own report.DirFault = refl
 unknown_own report.NoMemory = refl
 unknown_own e = refl
 
-module _ (pod : PodId) (observed : Bool) (old new : DirAt) (result : Outcome) (found : Result PodStatus ReportError)
+module _ (pod : PodId) (observed : Bool) (old new : DirAt) (result : CommandOutcome) (found : Result PodStatus ReportError)
     (says : IfOk found (λ s. (result ≡ Ok (status_lines s)) ⊎ (result ≡ Err NoMemory))) (refuses : IfErr found (λ e. result ≡ Err (unknown_refusal e))) where
   pub status_cause : (IsErrOf found report.DirFault → Rose old.faults new.faults) → IsErrOf result DirFault → Rose old.faults new.faults
   status_cause cause = came status_lines unknown_refusal result (λ o. IsErrOf o DirFault → Rose old.faults new.faults) found says refuses
@@ -201,19 +201,19 @@ module _ (pod : PodId) (observed : Bool) (old new : DirAt) (result : Outcome) (f
     unknown_told report.DirFault is own t conforming = let clash : false ≡ true = own in cc
     unknown_told report.NoMemory is own t conforming = let clash : false ≡ true = own in cc
 
-    unknown_answers : (e : ReportError) → is_own_end (Err (unknown_refusal e)) ≡ true → IsAnswer (Err e)
+    unknown_answers : (e : ReportError) → is_own_end (Err (unknown_refusal e)) ≡ true → IsStatusAnswer (Err e)
     unknown_answers report.DirFault own = let clash : false ≡ true = own in cc
     unknown_answers report.NoMemory own = let clash : false ≡ true = own in cc
     unknown_answers e own = tt
 
-    unknown_seen : (e : ReportError) → AnswersSeen pod (Err e) old new → SeesStatus pod old.process old.trace new.trace (Err (unknown_refusal e))
+    unknown_seen : (e : ReportError) → AnswersSeen pod (Err e) old new → SeesStatusOutcome pod old.process old.trace new.trace (Err (unknown_refusal e))
     unknown_seen report.NoPod missed = missed
     unknown_seen e missed = tt
 
     pub status_says : ReportSays (status_report pod) (dir_seen observed old) (dir_seen observed new) result
     status_says = record {
       prints = came status_lines unknown_refusal result (λ o. IfOk o (status_report pod).prints) found says refuses (λ s is. (s, refl)) (λ e is. tt) tt;
-      seen = came status_lines unknown_refusal result (λ o. observed ≡ true → SeesStatus pod old.process old.trace new.trace o) found says refuses
+      seen = came status_lines unknown_refusal result (λ o. observed ≡ true → SeesStatusOutcome pod old.process old.trace new.trace o) found says refuses
           (λ s is t. record { status = s; so = subst (λ (x : Result PodStatus ReportError). AnswersSeen pod x old new) is (seen t); is = refl })
           (λ e is t. unknown_seen e (subst (λ (x : Result PodStatus ReportError). AnswersSeen pod x old new) is (seen t)))
           (λ t. tt);
@@ -223,7 +223,7 @@ module _ (pod : PodId) (observed : Bool) (old new : DirAt) (result : Outcome) (f
           (λ own t conforming. let clash : false ≡ true = own in cc);
       quiet = came status_lines unknown_refusal result
           (λ o. is_own_end o ≡ true → observed ≡ true → IsConforming new.trace → Quiet old.process old.trace new.trace → OwnsNothing old.process (state_after old.trace).namespace → IsStatusIn pod (state_after old.trace) o) found says refuses
-          (λ s is own t conforming alone idle. ap status_said (sym is ∙ quiet t conforming alone idle (subst IsAnswer (sym is) tt)))
-          (λ e is own t conforming alone idle. ap status_said (sym is ∙ quiet t conforming alone idle (subst IsAnswer (sym is) (unknown_answers e own))))
+          (λ s is own t conforming alone idle. ap status_said (sym is ∙ quiet t conforming alone idle (subst IsStatusAnswer (sym is) tt)))
+          (λ e is own t conforming alone idle. ap status_said (sym is ∙ quiet t conforming alone idle (subst IsStatusAnswer (sym is) (unknown_answers e own))))
           (λ own t conforming alone idle. let clash : false ≡ true = own in cc);
     }

@@ -1,5 +1,6 @@
 -- Where nobody else steps, what refused a removal was so before.
-use Rattle.std.proofs.Common.{◌≡◌, ℕ, Bool, true, false, not, ◌&&◌, ◌==◌, cond, bytes_eq, Option, Some, List, [], ◌∷◌, ◌++◌, refl, sym, ap, subst, ◌∙◌}
+use Rattle.std.proofs.Common.{◌≡◌, ℕ, Bool, true, false, not, ◌&&◌, ◌==◌, cond, bytes_eq, Option, Some, List, ◌++◌, refl, sym, ap, subst, ◌∙◌}
+use Rattle.plain_laws.proofs.Texts.{same_bytes}
 use Rattle.dir_model.specs.declared.area.Area.{Area}
 use Rattle.dir_model.specs.declared.area.Area.TheVariants as area
 use Rattle.dir_model.specs.declared.area.Phase.{Phase}
@@ -15,7 +16,6 @@ use Rattle.dir_model.specs.State.{DirState, folder_at, stands, is_owned_in, is_o
 use Rattle.dir_model.specs.Trace.{state_after}
 use Rattle.dir_model.proofs.Lists.{and_left}
 use Rattle.dir_model.proofs.Moments.{some_number}
-use Rattle.dir_rules.proofs.Looks.{same_bytes}
 use Rattle.lifecycle.specs.declared.machine.PodState.{PodState}
 use Rattle.lifecycle.specs.declared.machine.PodState.TheVariants as state
 use Rattle.lifecycle.specs.PodMachine.{pod_state, pod_phase, phase_of_state, owner_of, exists}
@@ -29,19 +29,17 @@ use Rattle.phase_read.specs.declared.found.Found.TheVariants.{At}
 use Rattle.phase_read.specs.Read.{pod_spot, is_pod_spot}
 use Rattle.phase_read.specs.Sequential.{sequential_read, found_in}
 use Rattle.phase_read.specs.Exact.{AtOwnEvent}
+use Rattle.metadata.proofs.Views.{event_so}
 use Rattle.pod_locks.specs.Elsewhere.{IsOwnedElsewhere}
 use Rattle.pod_gc.specs.RemovalRequests.{removes}
 use Rattle.commands.specs.Opening.{OnceFound}
-use Rattle.commands.specs.Rm.{FindsPodBusy, WasSo, WasOwned}
+use Rattle.commands.specs.Rm.{FindsPodBusy, ConformingHadPhase, WasOwned}
 use Rattle.commands.specs.RemovalQuiet.{HasPhaseNow, IsHeldNow}
 use Rattle.commands.proofs.OwnSteps.{in_process, event_process}
 use Rattle.commands.proofs.Held.{was_held}
 use Rattle.commands.proofs.LateTurns.{is_lasting, lasting_back, removes_late, rm_moves}
 
 -- the phase that didn't allow the removal
-
-pub event_weaker : {me : ℕ} {a b : List Event} {P : List Event → Type 0} (Q : List Event → Type 0) → ((h : List Event) → P h → Q h) → AtOwnEvent me a b P → AtOwnEvent me a b Q
-event_weaker Q f at = record { before = at.before; step = at.step; later = at.later; rest = at.rest; begins = at.begins; ends = at.ends; own = at.own; holds = f (at.before ++ at.step ∷ []) at.holds }
 
 embryo_lasts : (me : ℕ) (x : PodState) → phase_of_state x ≡ Some kind.Embryo → is_lasting me x ≡ true
 embryo_lasts me (state.Embryo maker) is = refl
@@ -119,19 +117,19 @@ module _ (pod : PodId) (now : ℕ) {me : ℕ} {old new : List Event} (ext : Exte
   before_end : {ended : List Event} → (more : List Event) → new ≡ ended ++ more → IsConforming new → IsConforming ended
   before_end {ended} more grown conforming = conforming_left ended more (subst IsConforming grown conforming)
 
-  by_embryo : OnceFound (WasSo pod kind.Embryo) me old new → IsConforming new → pod_phase its old ≡ Some kind.Embryo
+  by_embryo : OnceFound (ConformingHadPhase pod kind.Embryo) me old new → IsConforming new → pod_phase its old ≡ Some kind.Embryo
   by_embryo m conforming =
       let w = m.so (before_end m.finishes.more m.finishes.grown conforming) in
-      had_phase kind.Embryo (event_process m.begins m.finishes (event_weaker (λ h. (phase_of_state (pod_state its h) ≡ Some kind.Embryo) × (is_lasting me (pod_state its h) ≡ true)) (λ h x. (x.is, embryo_lasts me (pod_state its h) x.is)) w.was))
+      had_phase kind.Embryo (event_process m.begins m.finishes (event_so (λ h. (phase_of_state (pod_state its h) ≡ Some kind.Embryo) × (is_lasting me (pod_state its h) ≡ true)) (λ h x. (x.is, embryo_lasts me (pod_state its h) x.is)) w.was))
 
   by_owner : (p : Phase) → (a : Area) × AtOwnEvent me old new (IsOwnedElsewhere me pod p a) → pod_phase its old ≡ Some p
   by_owner p other =
-      had_phase p (event_weaker (λ h. (phase_of_state (pod_state its h) ≡ Some p) × (is_lasting me (pod_state its h) ≡ true)) (λ h x. (x.was.is, owned_lasts me x.owner (pod_state its h) x.is x.other)) other.1)
+      had_phase p (event_so (λ h. (phase_of_state (pod_state its h) ≡ Some p) × (is_lasting me (pod_state its h) ≡ true)) (λ h x. (x.was.is, owned_lasts me x.owner (pod_state its h) x.is x.other)) other.1)
 
   owner_process : (p : Phase) (m : OnceFound (WasOwned pod p) me old new) → (a : Area) × AtOwnEvent me m.begun m.ended (IsOwnedElsewhere me pod p a) → (a : Area) × AtOwnEvent me old new (IsOwnedElsewhere me pod p a)
   owner_process p m x = (x.0, event_process m.begins m.finishes x.1)
 
-  had : (p : Phase) → OnceFound (WasSo pod p) me old new → OnceFound (WasOwned pod p) me old new → IsConforming new → pod_phase its old ≡ Some p
+  had : (p : Phase) → OnceFound (ConformingHadPhase pod p) me old new → OnceFound (WasOwned pod p) me old new → IsConforming new → pod_phase its old ≡ Some p
   had kind.Embryo m o conforming = by_embryo m conforming
   had kind.Preparing m o conforming = by_owner kind.Preparing (owner_process kind.Preparing o (o.so (before_end o.finishes.more o.finishes.grown conforming) refl))
   had kind.Running m o conforming = by_owner kind.Running (owner_process kind.Running o (o.so (before_end o.finishes.more o.finishes.grown conforming) refl))
@@ -142,7 +140,7 @@ module _ (pod : PodId) (now : ℕ) {me : ℕ} {old new : List Event} (ext : Exte
   had kind.ExitedGarbage m o conforming = let clash : true ≡ false = (m.so (before_end m.finishes.more m.finishes.grown conforming)).wrong in cc
   had kind.Garbage m o conforming = let clash : true ≡ false = (m.so (before_end m.finishes.more m.finishes.grown conforming)).wrong in cc
 
-  pub rm_wrong_before : (p : Phase) → OnceFound (WasSo pod p) me old new → OnceFound (WasOwned pod p) me old new → IsConforming new → HasPhaseNow pod p old
+  pub rm_wrong_before : (p : Phase) → OnceFound (ConformingHadPhase pod p) me old new → OnceFound (WasOwned pod p) me old new → IsConforming new → HasPhaseNow pod p old
   rm_wrong_before p m o conforming =
       has_phase_now pod old (conforming_left old quiet.more (subst IsConforming quiet.grown conforming)) p (had p m o conforming)
 

@@ -2,6 +2,8 @@
 use Rattle.std.proofs.Common.{◌≡◌, inl, inr, ℕ, Bool, true, false, not, ◌&&◌, ◌||◌, ◌==◌, cond, bytes_eq, Option, Some, None, is_some, List, [], ◌∷◌, refl, sym, ap, subst, ◌∙◌}
 use Rattle.std.specs.List.{AllByRecursion}
 use Rattle.std.proofs.lemmas.Bool.{eqb-true}
+use Rattle.plain_laws.proofs.Texts.{same_bytes}
+use Rattle.plain_laws.proofs.Booleans.{or_nothing}
 use Rattle.dir_model.specs.declared.area.Area.{Area}
 use Rattle.dir_model.specs.declared.area.Area.TheVariants as area
 use Rattle.dir_model.specs.declared.area.Phase.{Phase}
@@ -22,13 +24,12 @@ use Rattle.dir_model.specs.Quiet.{Quiet, OwnsNothing}
 use Rattle.dir_model.specs.State.{DirState, spot_eq, stands}
 use Rattle.dir_model.specs.Trace.{state_after, namespace_replied}
 use Rattle.dir_model.proofs.Lists.{and_right, same_self}
-use Rattle.dir_rules.proofs.Looks.{same_bytes}
-use Rattle.dir_rules.specs.Standing.{is_of}
+use Rattle.dir_rules.specs.Standing.{is_spot_of_pod}
 use Rattle.lifecycle.specs.declared.machine.PodState.{PodState}
 use Rattle.lifecycle.specs.declared.machine.PodState.TheVariants as state
 use Rattle.lifecycle.specs.declared.machine.Transition.{Transition}
 use Rattle.lifecycle.specs.declared.machine.Transition.TheVariants as turn
-use Rattle.lifecycle.specs.PodMachine.{pod_state, phase_of_state, exists, is_owner, is_place, enabled, leads, turned, transition}
+use Rattle.lifecycle.specs.PodMachine.{pod_state, phase_of_state, exists, is_owner, is_area_of_state, enabled, leads, after_transition, transition}
 use Rattle.lifecycle.specs.Executions.{IsConforming}
 use Rattle.lifecycle.proofs.Draws.{conforming_left}
 use Rattle.lifecycle.proofs.Lists.{In}
@@ -39,10 +40,10 @@ use Rattle.phase_read.specs.Read.{pod_spot}
 use Rattle.pod_locks.proofs.Traces.{grown_none}
 use Rattle.pod_gc.specs.RemovalRequests.{is_removable, removes}
 use Rattle.commands.specs.Opening.{OnceFound}
-use Rattle.commands.specs.Rm.{Removes}
+use Rattle.commands.specs.Rm.{RemovesPod}
 use Rattle.commands.specs.RemovalQuiet.{IsRemovableNow}
 use Rattle.commands.proofs.OwnSteps.{in_process, forward, history_fixed, same_folders}
-use Rattle.commands.proofs.LateTurns.{is_late, late_turn, removes_late, rm_not_embryo, in_garbage, embryo_apart, or_false}
+use Rattle.commands.proofs.LateTurns.{is_late, late_turn, removes_late, rm_not_embryo, in_garbage, embryo_apart}
 use Rattle.commands.proofs.RmQuiet.{rm_gone, was_there}
 use Rattle.commands.proofs.RmBefore.{has_phase_now}
 
@@ -82,7 +83,7 @@ unturned turn.Finish me x late fixed = cc
 unturned turn.Start me x late fixed = cc
 unturned t me x late fixed = refl
 
-stays_fixed : (me : ℕ) (o : Option Transition) (x : PodState) → is_late o ≡ true → is_fixed me x ≡ true → turned o me x ≡ x
+stays_fixed : (me : ℕ) (o : Option Transition) (x : PodState) → is_late o ≡ true → is_fixed me x ≡ true → after_transition o me x ≡ x
 stays_fixed me None x late fixed = refl
 stays_fixed me (Some t) x late fixed = ap (λ b. cond b (leads t me x) x) (unturned t me x late fixed)
 
@@ -98,7 +99,7 @@ owns_nothing u me h conforming idle own =
     let shut = all_in (λ (x : Opening). (x.process == me) ≡ true → is_exclusive x.lock ≡ false) o.0 (state_after h).namespace.openings idle o.1.0 (ap (λ (p : ℕ). p == me) o.1.1.1 ∙ same_self me) in
     let clash : true ≡ false = sym (and_right (is_own_of u o.0.target) (is_exclusive o.0.lock) o.1.1.0) ∙ shut in cc
 
-module _ (pod : PodId) (now : ℕ) {me : ℕ} {old new : List Event} (ext : Extends (in_process (removes pod now)) me old new) (quiet : Quiet me old new) (idle : OwnsNothing me (state_after old).namespace) (m : OnceFound (Removes pod) me old new) (conforming : IsConforming new) where
+module _ (pod : PodId) (now : ℕ) {me : ℕ} {old new : List Event} (ext : Extends (in_process (removes pod now)) me old new) (quiet : Quiet me old new) (idle : OwnsNothing me (state_after old).namespace) (m : OnceFound (RemovesPod pod) me old new) (conforming : IsConforming new) where
   abbrev u : List ℕ
   u = pod_text pod.bytes
 
@@ -127,27 +128,27 @@ module _ (pod : PodId) (now : ℕ) {me : ℕ} {old new : List Event} (ext : Exte
   embryo_kept : (s : DirState) (request : Request) (reply : Reply) → (is_kill request || in_process (removes pod now) request) ≡ true → stands s.namespace spot ≡ true → stands (namespace_replied s.namespace me request reply) spot ≡ true
   embryo_kept s (MakeFolder here) reply h there = cc
   embryo_kept s (MoveFolder from to) Done h there =
-      let asked = or_false (removes pod now (MoveFolder from to)) h in
+      let asked = or_nothing (removes pod now (MoveFolder from to)) h in
       let f : spot_eq from spot ≡ false = ap (λ b. b && bytes_eq from.name u) (rm_not_embryo pod now from to asked) in
       let t : spot_eq to spot ≡ false = ap (λ b. b && bytes_eq to.name u) (embryo_apart to.area ((removes_late pod now).moves from to asked)) in
       ap (λ (o : Option ℕ). is_some o) (moved_elsewhere s.namespace spot from to t f) ∙ there
   embryo_kept s (MoveFolder from to) reply h there = there
   embryo_kept s (RemoveFolder gone) Done h there =
-      let g : spot_eq gone spot ≡ false = ap (λ b. b && bytes_eq gone.name u) (embryo_apart gone.area (in_garbage pod now gone (or_false _ h))) in
+      let g : spot_eq gone spot ≡ false = ap (λ b. b && bytes_eq gone.name u) (embryo_apart gone.area (in_garbage pod now gone (or_nothing _ h))) in
       ap (λ (o : Option ℕ). is_some o) (removed_elsewhere s.namespace spot gone g) ∙ there
   embryo_kept s (RemoveFolder gone) reply h there = there
   embryo_kept s request reply h there = ap (λ (fs : List (Option Spot)). stands (record s.namespace { folders = fs }) spot) (same_folders me s.namespace request reply refl (λ handle. refl)) ∙ there
 
-  place_embryo : (maker : ℕ) (a : Area) → is_place a (state.Embryo maker) ≡ true → a ≡ area.Embryo
+  place_embryo : (maker : ℕ) (a : Area) → is_area_of_state a (state.Embryo maker) ≡ true → a ≡ area.Embryo
   place_embryo maker area.Embryo is = refl
   place_embryo maker a is = cc
 
   never_embryo : (maker : ℕ) → pod_state u old ≡ state.Embryo maker → ⊥
   never_embryo maker is =
       let x = exists_stands u old before (subst (λ (s : PodState). exists s ≡ true) (sym is) refl) in
-      let its : is_of u (pod_spot pod x.0) ≡ true = ap (λ b. b && bytes_eq u u) x.1.0 ∙ same_bytes u in
+      let its : is_spot_of_pod u (pod_spot pod x.0) ≡ true = ap (λ b. b && bytes_eq u u) x.1.0 ∙ same_bytes u in
       let at = (stands_exists u old (pod_spot pod x.0) before its x.1.1).1 in
-      let here = place_embryo maker x.0 (sym (ap (is_place x.0) is) ∙ at) in
+      let here = place_embryo maker x.0 (sym (ap (is_area_of_state x.0) is) ∙ at) in
       let there = subst (λ (a : Area). stands (state_after old).namespace (pod_spot pod a) ≡ true) here x.1.1 in
       let last = forward (λ s. stands s.namespace spot ≡ true) (in_process (removes pod now)) me (λ s request reply h q. embryo_kept s request reply h q) old grown_none (record { more = quiet.more; grown = quiet.grown }) ext quiet there in
       let clash : true ≡ false = sym last ∙ (rm_gone pod m conforming).nowhere area.Embryo refl in cc

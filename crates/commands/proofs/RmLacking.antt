@@ -7,7 +7,7 @@ use Rattle.dir_model.specs.Quiet.{Quiet}
 use Rattle.dir_model.specs.Trace.{state_after}
 use Rattle.lifecycle.specs.Executions.{IsConforming}
 use Rattle.lifecycle.proofs.Draws.{conforming_left}
-use Rattle.pod_locks.specs.ClaimCauses.{LacksManifest}
+use Rattle.pod_locks.specs.ClaimCauses.{IsPreparedWithoutManifest}
 use Rattle.pod_gc.specs.RemovalRequests.{removes}
 use Rattle.commands.specs.Opening.{OnceFound}
 use Rattle.commands.specs.Rm.{HadNoManifest}
@@ -18,7 +18,7 @@ use Rattle.commands.proofs.Lacking.{Aside, Lacks, lacks_back}
 pub removes_aside : (pod : PodId) (now : ℕ) → Aside (removes pod now)
 removes_aside pod now = record { late = removes_late pod now; files = λ inner is. in_garbage pod now inner.spot is; dirs = λ inner is. in_garbage pod now inner.spot is }
 
-pub rm_lacked_before : (pod : PodId) (now : ℕ) {me : ℕ} {old new : List Event} → Extends (in_process (removes pod now)) me old new → Quiet me old new → OnceFound (HadNoManifest pod) me old new → IsConforming new → LacksManifest pod (state_after old)
+pub rm_lacked_before : (pod : PodId) (now : ℕ) {me : ℕ} {old new : List Event} → Extends (in_process (removes pod now)) me old new → Quiet me old new → OnceFound (HadNoManifest pod) me old new → IsConforming new → IsPreparedWithoutManifest pod (state_after old)
 rm_lacked_before pod now {me} {old} {new} ext quiet m conforming =
     let at = m.so (conforming_left m.ended m.finishes.more (subst IsConforming m.finishes.grown conforming)) in
     let k = at.holds.folder in

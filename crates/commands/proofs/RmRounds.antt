@@ -1,5 +1,6 @@
 -- Where nobody else steps, what the first round of a removal found and did, by the state before.
 use Rattle.std.proofs.Common.{◌≡◌, inl, inr, ◌||◌, ◌==◌, ℕ, Bool, true, false, cond, codes, Option, Some, None, is_some, position, List, refl, sym, ap, subst, ◌∙◌}
+use Rattle.plain_laws.proofs.Booleans.{or_nothing}
 use Rattle.dir_model.specs.declared.area.Area.{Area}
 use Rattle.dir_model.specs.declared.area.Area.TheVariants as area
 use Rattle.dir_model.specs.declared.area.Phase.{Phase}
@@ -12,7 +13,7 @@ use Rattle.dir_model.specs.declared.spot.Spot.{Spot}
 use Rattle.dir_model.specs.declared.spot.Which.TheVariants.{Own, Claim}
 use Rattle.dir_model.specs.declared.request.Request.{Request}
 use Rattle.dir_model.specs.declared.request.Request.TheVariants.{MakeDirIn, AppendIn, MakeFileIn, RemoveFileIn, RemoveDirIn}
-use Rattle.dir_model.specs.Areas.{rank, is_stage, phase_in}
+use Rattle.dir_model.specs.Areas.{rank, phase_in}
 use Rattle.dir_model.specs.Calls.{is_kill, Extends}
 use Rattle.dir_model.specs.Quiet.{Quiet, OwnsNothing, SameNamespace}
 use Rattle.dir_model.specs.Replies.{is_look, is_look_at, is_any_spot}
@@ -33,14 +34,14 @@ use Rattle.phase_read.proofs.Quiet.{read_quiet}
 use Rattle.pod_locks.specs.Work.{Grew}
 use Rattle.pod_locks.proofs.Times.{at_part}
 use Rattle.pod_locks.proofs.Traces.{grown_none, grown_more, grown_by, grown_call}
-use Rattle.pod_gc.specs.RemovalRequests.{is_removable, aside, place_of, puts_aside, removes}
-use Rattle.pod_gc.specs.Found.{is_moved, HadClaim, PutAway, TakenAway, MissedAt, WasMissed, FoundAnd, MissedFirst}
-use Rattle.pod_gc.specs.Requests.{lists_marks, moves_on}
+use Rattle.pod_gc.specs.RemovalRequests.{is_removable, aside, area_of_phase, puts_aside, removes}
+use Rattle.pod_gc.specs.Found.{is_moved, ClaimWasFree, PutAway, TakenAway, MissedAt, WasMissed, FoundAnd, MissedFirst}
+use Rattle.pod_gc.specs.Requests.{lists_marks, puts_aside_only}
 use Rattle.commands.specs.RemovalTable.{is_held_in}
 use Rattle.commands.proofs.OwnSteps.{in_process, forward}
 use Rattle.commands.specs.Opening.{opens}
 use Rattle.commands.proofs.Starts.{open_is_harmless}
-use Rattle.commands.proofs.LateTurns.{removes_late, in_garbage, or_false}
+use Rattle.commands.proofs.LateTurns.{removes_late, in_garbage}
 use Rattle.commands.proofs.OneNumber.{one_number}
 use Rattle.commands.proofs.Lacking.{garbage_apart}
 use Rattle.commands.proofs.FolderItems.{changed}
@@ -48,40 +49,36 @@ use Rattle.commands.proofs.Manifests.{had_manifest}
 use Rattle.commands.proofs.RmLacking.{removes_aside}
 use Rattle.commands.proofs.GcTurn.{quiet_between, untaken_at}
 use Rattle.commands.proofs.GcGoes.{on_leaves}
-use Rattle.pod_gc.proofs.Onward.{moved_stands, stage_place}
+use Rattle.pod_gc.proofs.Onward.{moved_stands, stage_place, stage_aside}
 use Rattle.commands.proofs.GcArrived.{moved_by}
 use Rattle.commands.proofs.GcLocks.{turn_free}
+use Rattle.commands.proofs.GcWaited.{run_prepared}
 
 -- places and phases
 
-pub removable_place : (a : Area) (owned : Bool) (p : Phase) → is_removable p ≡ true → phase_in a owned ≡ Some p → a ≡ place_of p
+pub removable_place : (a : Area) (owned : Bool) (p : Phase) → is_removable p ≡ true → phase_in a owned ≡ Some p → a ≡ area_of_phase p
 removable_place area.Embryo owned p may is = let same : kind.Embryo ≡ p = cc in let clash : false ≡ true = ap is_removable same ∙ may in cc
 removable_place area.Prepare true p may is = let same : kind.Preparing ≡ p = cc in let clash : false ≡ true = ap is_removable same ∙ may in cc
-removable_place area.Prepare false p may is = let same : kind.AbortedPrepare ≡ p = cc in ap place_of same
-removable_place area.Prepared owned p may is = let same : kind.Prepared ≡ p = cc in ap place_of same
+removable_place area.Prepare false p may is = let same : kind.AbortedPrepare ≡ p = cc in ap area_of_phase same
+removable_place area.Prepared owned p may is = let same : kind.Prepared ≡ p = cc in ap area_of_phase same
 removable_place area.Run true p may is = let same : kind.Running ≡ p = cc in let clash : false ≡ true = ap is_removable same ∙ may in cc
-removable_place area.Run false p may is = let same : kind.Exited ≡ p = cc in ap place_of same
+removable_place area.Run false p may is = let same : kind.Exited ≡ p = cc in ap area_of_phase same
 removable_place area.ExitedGarbage true p may is = let same : kind.Deleting ≡ p = cc in let clash : false ≡ true = ap is_removable same ∙ may in cc
-removable_place area.ExitedGarbage false p may is = let same : kind.ExitedGarbage ≡ p = cc in ap place_of same
+removable_place area.ExitedGarbage false p may is = let same : kind.ExitedGarbage ≡ p = cc in ap area_of_phase same
 removable_place area.Garbage true p may is = let same : kind.Deleting ≡ p = cc in let clash : false ≡ true = ap is_removable same ∙ may in cc
-removable_place area.Garbage false p may is = let same : kind.Garbage ≡ p = cc in ap place_of same
+removable_place area.Garbage false p may is = let same : kind.Garbage ≡ p = cc in ap area_of_phase same
 removable_place a owned p may is = cc
 
-pub waits_there : (p : Phase) → is_removable p ≡ true → place_of p ≡ area.Prepared → p ≡ kind.Prepared
+pub waits_there : (p : Phase) → is_removable p ≡ true → area_of_phase p ≡ area.Prepared → p ≡ kind.Prepared
 waits_there kind.Prepared may at = refl
 waits_there p may at = cc
 
-unmoved_place : (p : Phase) → is_moved p ≡ false → place_of p ≡ aside p
+unmoved_place : (p : Phase) → is_moved p ≡ false → area_of_phase p ≡ aside p
 unmoved_place kind.AbortedPrepare is = cc
 unmoved_place kind.Prepared is = cc
 unmoved_place kind.Exited is = cc
 unmoved_place kind.ExitedGarbage is = refl
 unmoved_place p is = refl
-
-pub aside_stage : (p : Phase) → is_stage (aside p) ≡ true
-aside_stage kind.Exited = refl
-aside_stage kind.ExitedGarbage = refl
-aside_stage p = refl
 
 pub put_grown : {pod : PodId} {me : ℕ} {a b : List Event} (p : Phase) → PutAway pod p me a b → Grew a b
 put_grown {pod} {me} {a} {b} p put = over (is_moved p) refl
@@ -89,11 +86,6 @@ put_grown {pod} {me} {a} {b} p put = over (is_moved p) refl
     over : (c : Bool) → is_moved p ≡ c → Grew a b
     over true is = grown_by (put.only is)
     over false is = subst (λ (h : List Event). Grew a h) (sym (put.still is)) grown_none
-
--- a removal changes nothing in prepared
-run_prepared : (x : Area) → (rank area.Run == rank x) ≡ true → (rank x == rank area.Prepared) ≡ false
-run_prepared area.Run is = refl
-run_prepared x is = cc
 
 apart : (pod : PodId) (spot : Spot) → (rank spot.area == rank area.Prepared) ≡ false → spot_eq spot (pod_spot pod area.Prepared) ≡ false
 apart pod spot other = rw other refl
@@ -103,15 +95,15 @@ rm_changed_off pod now (MakeDirIn i) h inner is = cc
 rm_changed_off pod now (AppendIn i piece) h inner is = cc
 rm_changed_off pod now (MakeFileIn i) h inner is =
     let same : i ≡ inner = cc in
-    let asked = or_false (removes pod now (MakeFileIn i)) h in
+    let asked = or_nothing (removes pod now (MakeFileIn i)) h in
     let run = and_left (rank area.Run == rank i.spot.area) _ (and_left (spot_eq (pod_spot pod area.Run) i.spot) _ asked) in
     subst (λ (x : Inner). spot_eq x.spot (pod_spot pod area.Prepared) ≡ false) same (apart pod i.spot (run_prepared i.spot.area run))
 rm_changed_off pod now (RemoveFileIn i) h inner is =
     let same : i ≡ inner = cc in
-    subst (λ (x : Inner). spot_eq x.spot (pod_spot pod area.Prepared) ≡ false) same (apart pod i.spot (garbage_apart i.spot.area (in_garbage pod now i.spot (or_false (removes pod now (RemoveFileIn i)) h))))
+    subst (λ (x : Inner). spot_eq x.spot (pod_spot pod area.Prepared) ≡ false) same (apart pod i.spot (garbage_apart i.spot.area (in_garbage pod now i.spot (or_nothing (removes pod now (RemoveFileIn i)) h))))
 rm_changed_off pod now (RemoveDirIn i) h inner is =
     let same : i ≡ inner = cc in
-    subst (λ (x : Inner). spot_eq x.spot (pod_spot pod area.Prepared) ≡ false) same (apart pod i.spot (garbage_apart i.spot.area (in_garbage pod now i.spot (or_false (removes pod now (RemoveDirIn i)) h))))
+    subst (λ (x : Inner). spot_eq x.spot (pod_spot pod area.Prepared) ≡ false) same (apart pod i.spot (garbage_apart i.spot.area (in_garbage pod now i.spot (or_nothing (removes pod now (RemoveDirIn i)) h))))
 rm_changed_off pod now request h inner is = cc
 
 -- a read of one state is that of another with the same folders and owners
@@ -185,33 +177,33 @@ module _ (pod : PodId) (now : ℕ) {me : ℕ} {old new : List Event} (ext : Exte
     its_phase : Is s pod f.phase f.area
     its_phase = read_says s pod f.phase f.area found_before
 
-    pub found_place : f.area ≡ place_of f.phase
+    pub found_place : f.area ≡ area_of_phase f.phase
     found_place = removable_place f.area (is_owned_at s.namespace (pod_spot pod f.area)) f.phase f.removable its_phase.1
 
     -- its folder, before and after the read
-    pub found_folder : (k : ℕ) × (folder_at s.namespace (pod_spot pod (place_of f.phase)) ≡ Some k)
-    found_folder = some_number (folder_at s.namespace (pod_spot pod (place_of f.phase)))
+    pub found_folder : (k : ℕ) × (folder_at s.namespace (pod_spot pod (area_of_phase f.phase)) ≡ Some k)
+    found_folder = some_number (folder_at s.namespace (pod_spot pod (area_of_phase f.phase)))
         (subst (λ (a : Area). stands s.namespace (pod_spot pod a) ≡ true) found_place its_phase.0)
 
-    pub stands_read : stands (state_after f.between).namespace (pod_spot pod (place_of f.phase)) ≡ true
+    pub stands_read : stands (state_after f.between).namespace (pod_spot pod (area_of_phase f.phase)) ≡ true
     stands_read = subst (λ (a : Area). stands (state_after f.between).namespace (pod_spot pod a) ≡ true) found_place (ap (λ (l : List (Option Spot)). is_some (position (is_at (pod_spot pod f.area)) l)) (later_same.folders ∙ first_same.folders) ∙ its_phase.0)
 
   -- where it was brought to
 
   did_moved : (p : Phase) (a b : List Event) → Grew old a → (g : Grew a b) → Grew b new → PutAway pod p me a b → is_moved p ≡ true → stands (state_after b).namespace (pod_spot pod (aside p)) ≡ true
   did_moved p a b to_a g from_b put is =
-      let here = place_of p in
+      let here = area_of_phase p in
       let to = aside p in
       let did = put.moved is in
-      let turn : Extends (moves_on pod here to) me a b = extends_wider (λ r h. wider pod here to r h) (put.only is) in
-      forward (λ z. stands z.namespace (pod_spot pod to) ≡ true) (moves_on pod here to) me (λ z request reply h q. on_leaves pod here to me z request reply h q) did.each.1 (grown_more did.each.2 (grown_call did.each.3)) did.each.4 turn
+      let turn : Extends (puts_aside_only pod here to) me a b = extends_wider (λ r h. wider pod here to r h) (put.only is) in
+      forward (λ z. stands z.namespace (pod_spot pod to) ≡ true) (puts_aside_only pod here to) me (λ z request reply h q. on_leaves pod here to me z request reply h q) did.each.1 (grown_more did.each.2 (grown_call did.each.3)) did.each.4 turn
       (quiet_between quiet to_a (grown_by turn) from_b) (moved_stands me (pod_spot pod here) (pod_spot pod to) did.each.0 did.each.1 did.each.3)
     where
-      wider : (q : PodId) (here to : Area) (r : Request) → puts_aside q here to r ≡ true → moves_on q here to r ≡ true
+      wider : (q : PodId) (here to : Area) (r : Request) → puts_aside q here to r ≡ true → puts_aside_only q here to r ≡ true
       wider q here to r h = or_last (lists_marks q here r) (puts_aside q here to r) h
 
   -- it stands there after that
-  stands_aside : (p : Phase) (a b : List Event) → Grew old a → (g : Grew a b) → Grew b new → PutAway pod p me a b → stands (state_after a).namespace (pod_spot pod (place_of p)) ≡ true → stands (state_after b).namespace (pod_spot pod (aside p)) ≡ true
+  stands_aside : (p : Phase) (a b : List Event) → Grew old a → (g : Grew a b) → Grew b new → PutAway pod p me a b → stands (state_after a).namespace (pod_spot pod (area_of_phase p)) ≡ true → stands (state_after b).namespace (pod_spot pod (aside p)) ≡ true
   stands_aside p a b to_a g from_b put there = by (is_moved p) refl
     where
       by : (c : Bool) → is_moved p ≡ c → stands (state_after b).namespace (pod_spot pod (aside p)) ≡ true
@@ -219,13 +211,13 @@ module _ (pod : PodId) (now : ℕ) {me : ℕ} {old new : List Event} (ext : Exte
       by false is = subst (λ (h : List Event). stands (state_after h).namespace (pod_spot pod (aside p)) ≡ true) (sym (put.still is)) (subst (λ (x : Area). stands (state_after a).namespace (pod_spot pod x) ≡ true) (unmoved_place p is) there)
 
   -- by the same folder
-  pub folder_aside : (p : Phase) (k : ℕ) → folder_at s.namespace (pod_spot pod (place_of p)) ≡ Some k → (a b : List Event) → Grew old a → Grew b new → PutAway pod p me a b → (h : List Event) × Grew h new × (folder_at (state_after h).namespace (pod_spot pod (aside p)) ≡ Some k)
+  pub folder_aside : (p : Phase) (k : ℕ) → folder_at s.namespace (pod_spot pod (area_of_phase p)) ≡ Some k → (a b : List Event) → Grew old a → Grew b new → PutAway pod p me a b → (h : List Event) × Grew h new × (folder_at (state_after h).namespace (pod_spot pod (aside p)) ≡ Some k)
   folder_aside p k at a b to_a from_b put = by (is_moved p) refl
     where
       by : (c : Bool) → is_moved p ≡ c → (h : List Event) × Grew h new × (folder_at (state_after h).namespace (pod_spot pod (aside p)) ≡ Some k)
       by true is =
-          let y = moved_by (pod_spot pod (place_of p)) (pod_spot pod (aside p)) me a b (put.moved is) in
-          let one = one_number new conforming (pod_spot pod (place_of p)) (stage_place p) old y.before to_new (grown_more y.rest from_b) k y.folder at y.was in
+          let y = moved_by (pod_spot pod (area_of_phase p)) (pod_spot pod (aside p)) me a b (put.moved is) in
+          let one = one_number new conforming (pod_spot pod (area_of_phase p)) (stage_place p) old y.before to_new (grown_more y.rest from_b) k y.folder at y.was in
           (y.after, grown_more y.last from_b, y.is ∙ ap Some (sym one))
       by false is = (old, to_new, subst (λ (x : Area). folder_at s.namespace (pod_spot pod x) ≡ Some k) (unmoved_place p is) at)
 
@@ -248,7 +240,7 @@ module _ (pod : PodId) (now : ℕ) {me : ℕ} {old new : List Event} (ext : Exte
       by : WasMissed pod m.missed.phase me m.missed.between m.upto → ⊥
       by (inl y) =
           let upto = grown_more (absent_grown m.missed.between m.upto y) last in
-          missed_at (place_of m.missed.phase) m.missed.between m.upto (grown_more to_begun (grown_by m.missed.looks)) last y (stands_read (WasMissed pod) m.upto m.missed upto)
+          missed_at (area_of_phase m.missed.phase) m.missed.between m.upto (grown_more to_begun (grown_by m.missed.looks)) last y (stands_read (WasMissed pod) m.upto m.missed upto)
       by (inr y) =
           let p = m.missed.phase in
           let to_read = grown_more to_begun (grown_by m.missed.looks) in
@@ -258,7 +250,7 @@ module _ (pod : PodId) (now : ℕ) {me : ℕ} {old new : List Event} (ext : Exte
 
   -- what was free
 
-  pub claim_free : (p : Phase) → p ≡ kind.Prepared → (k : ℕ) → folder_at s.namespace (pod_spot pod area.Prepared) ≡ Some k → (a b : List Event) → Grew old a → Grew b new → HadClaim pod p me a b → (has_file s.entries k (codes "pod") ≡ true) × (is_held_in me Claim Exclusive (Some k) s ≡ false)
+  pub claim_free : (p : Phase) → p ≡ kind.Prepared → (k : ℕ) → folder_at s.namespace (pod_spot pod area.Prepared) ≡ Some k → (a b : List Event) → Grew old a → Grew b new → ClaimWasFree pod p me a b → (has_file s.entries k (codes "pod") ≡ true) × (is_held_in me Claim Exclusive (Some k) s ≡ false)
   claim_free p is k at a b to_a from_b had =
       let y = had is in
       let g = at_grown y.free in
@@ -268,11 +260,11 @@ module _ (pod : PodId) (now : ℕ) {me : ℕ} {old new : List Event} (ext : Exte
         turn_free ext quiet conforming to_a from_b pod area.Prepared refl k old to_new at Claim Exclusive y,
       )
 
-  pub own_free : (p : Phase) (k : ℕ) → folder_at s.namespace (pod_spot pod (place_of p)) ≡ Some k → (a b : List Event) → Grew old a → Grew b new → (t : TakenAway pod p me a b) → is_held_in me Own Exclusive (Some k) s ≡ false
+  pub own_free : (p : Phase) (k : ℕ) → folder_at s.namespace (pod_spot pod (area_of_phase p)) ≡ Some k → (a b : List Event) → Grew old a → Grew b new → (t : TakenAway pod p me a b) → is_held_in me Own Exclusive (Some k) s ≡ false
   own_free p k at a b to_a from_b t =
       let first = grown_more to_a (put_grown p t.put) in
       let g = at_grown t.alone.found in
       let h = at_grown t.alone.free in
       let rest = grown_more (record { more = g.0; grown = g.1 }) (grown_more (record { more = h.0; grown = h.1 }) from_b) in
       let x = folder_aside p k at a t.between to_a rest t.put in
-      turn_free ext quiet conforming first from_b pod (aside p) (aside_stage p) k x.0 x.1 x.2 Own Exclusive t.alone
+      turn_free ext quiet conforming first from_b pod (aside p) (stage_aside p) k x.0 x.1 x.2 Own Exclusive t.alone

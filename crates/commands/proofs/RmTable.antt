@@ -26,18 +26,18 @@ use Rattle.phase_read.specs.declared.found.Found.{Found}
 use Rattle.phase_read.specs.declared.found.Found.TheVariants.{At, Gone}
 use Rattle.phase_read.specs.Read.{pod_spot}
 use Rattle.phase_read.specs.Sequential.{sequential_read, found_in}
-use Rattle.pod_locks.specs.ClaimCauses.{LacksManifest, is_lock}
+use Rattle.pod_locks.specs.ClaimCauses.{IsPreparedWithoutManifest, is_lock}
 use Rattle.pod_locks.specs.Work.{Grew}
 use Rattle.pod_locks.proofs.Times.{at_part}
 use Rattle.pod_locks.proofs.Traces.{grown_more, grown_by}
-use Rattle.pod_locks.specs.Causes.{is_held_against, HeldByAnother}
-use Rattle.pod_gc.specs.RemovalRequests.{is_removable, aside, place_of, removes}
+use Rattle.pod_locks.specs.Causes.{is_held_against, PodHeldByAnother}
+use Rattle.pod_gc.specs.RemovalRequests.{is_removable, aside, area_of_phase, removes}
 use Rattle.pod_gc.specs.RemovalCauses.{asked_mode}
-use Rattle.pod_gc.specs.Found.{HadClaim, TakenAway, RefusedAt, RefusedAside, WasRefused, FoundAnd}
+use Rattle.pod_gc.specs.Found.{ClaimWasFree, TakenAway, RefusedAt, RefusedAside, LockWasRefused, FoundAnd}
 use Rattle.command_outcomes.specs.declared.refusal.Refusal.{Refusal}
 use Rattle.command_outcomes.specs.declared.refusal.Refusal.TheVariants.{NoPod, WrongPhase, NoManifest, PodBusy}
 use Rattle.commands.specs.Opening.{OnceFound, opens}
-use Rattle.commands.specs.Rm.{Removes, FindsPodBusy, WasSo}
+use Rattle.commands.specs.Rm.{RemovesPod, FindsPodBusy, ConformingHadPhase}
 use Rattle.commands.specs.RemovalQuiet.{StandsNowhere, HasPhaseNow}
 use Rattle.commands.specs.RemovalTable.{is_held_in, is_held_at, has_manifest, own_refusal, waiting_refusal, place_refusal, found_refusal, removal_refusal}
 use Rattle.commands.proofs.OwnSteps.{in_process}
@@ -46,8 +46,8 @@ use Rattle.commands.proofs.GcTable.{held_at}
 use Rattle.commands.proofs.GcLocks.{turn_held}
 use Rattle.commands.proofs.Manifests.{had_manifest}
 use Rattle.commands.proofs.RmLacking.{removes_aside}
-use Rattle.commands.proofs.RmRounds.{waits_there, aside_stage, rm_changed_off, found_before, found_place, found_folder, folder_aside, put_grown, never_missed, claim_free, own_free}
-use Rattle.pod_gc.proofs.Onward.{stage_place}
+use Rattle.commands.proofs.RmRounds.{waits_there, rm_changed_off, found_before, found_place, found_folder, folder_aside, put_grown, never_missed, claim_free, own_free}
+use Rattle.pod_gc.proofs.Onward.{stage_place, stage_aside}
 
 -- what one state asks for
 
@@ -121,7 +121,7 @@ pub wrong_refused : (me : ℕ) (pod : PodId) (p : Phase) (h : List Event) → is
 wrong_refused me pod p h wrong has = ap (found_refusal me pod (state_after h)) has.reads ∙ ap (λ (b : Bool). cond b (place_refusal me pod has.area (state_after h)) (Some (WrongPhase p))) wrong
 
 -- it stood in prepared without its manifest
-pub lacking_refused : (me : ℕ) (pod : PodId) (h : List Event) → IsConforming h → LacksManifest pod (state_after h) → removal_refusal me pod (state_after h) ≡ Some (NoManifest pod)
+pub lacking_refused : (me : ℕ) (pod : PodId) (h : List Event) → IsConforming h → IsPreparedWithoutManifest pod (state_after h) → removal_refusal me pod (state_after h) ≡ Some (NoManifest pod)
 lacking_refused me pod h conforming lacks =
     let s = state_after h in
     found_is me pod s kind.Prepared area.Prepared (Some (NoManifest pod)) (prepared_read pod h conforming (ap (λ (o : Option ℕ). is_some o) lacks.there)) refl
@@ -137,13 +137,13 @@ module _ (pod : PodId) (now : ℕ) {me : ℕ} {old new : List Event} (ext : Exte
 
   module _ (begun : List Event) (begins : Extends opens me old begun) (x : List Event) (from_x : Grew x new) where
     -- a prepared pod was such
-    waited : (p : Phase) → is_removable p ≡ true → (k : ℕ) → folder_at s.namespace (pod_spot pod (place_of p)) ≡ Some k → (a b : List Event) → Grew old a → Grew b new → HadClaim pod p me a b → place_of p ≡ area.Prepared → Waits me pod s k
+    waited : (p : Phase) → is_removable p ≡ true → (k : ℕ) → folder_at s.namespace (pod_spot pod (area_of_phase p)) ≡ Some k → (a b : List Event) → Grew old a → Grew b new → ClaimWasFree pod p me a b → area_of_phase p ≡ area.Prepared → Waits me pod s k
     waited p may k at a b to_a from_b had here =
         let y = claim_free pod now ext quiet idle conforming begun begins p (waits_there p may here) k (subst (λ (q : Area). folder_at s.namespace (pod_spot pod q) ≡ Some k) here at) a b to_a from_b had in
         record { manifest = y.0; unclaimed = y.1 }
 
     -- of a pod that was found: what is so where it stood is the answer
-    answer : (P : Phase → ℕ → List Event → List Event → Type 0) (f : FoundAnd pod P me begun x) (upto : Grew f.between new) (why : Option Refusal) → place_refusal me pod (place_of f.phase) s ≡ why → removal_refusal me pod s ≡ why
+    answer : (P : Phase → ℕ → List Event → List Event → Type 0) (f : FoundAnd pod P me begun x) (upto : Grew f.between new) (why : Option Refusal) → place_refusal me pod (area_of_phase f.phase) s ≡ why → removal_refusal me pod s ≡ why
     answer P f upto why is =
         found_is me pod s f.phase f.area why (found_before pod now ext quiet idle conforming begun begins P x f upto) f.removable
         (ap (λ (a : Area). place_refusal me pod a s) (found_place pod now ext quiet idle conforming begun begins P x f upto) ∙ is)
@@ -151,7 +151,7 @@ module _ (pod : PodId) (now : ℕ) {me : ℕ} {old new : List Event} (ext : Exte
     to_read : (P : Phase → ℕ → List Event → List Event → Type 0) (f : FoundAnd pod P me begun x) → Grew old f.between
     to_read P f = grown_more (grown_by begins) (grown_by f.looks)
 
-    held_grown : {place : Area} {which : Which} {mode : Mode} (a b : List Event) → HeldByAnother pod place which mode me a b → Grew a b
+    held_grown : {place : Area} {which : Which} {mode : Mode} (a b : List Event) → PodHeldByAnother pod place which mode me a b → Grew a b
     held_grown a b h =
         let g = at_grown h.found in
         let l = at_grown h.held in
@@ -169,36 +169,36 @@ module _ (pod : PodId) (now : ℕ) {me : ℕ} {old new : List Event} (ext : Exte
         let first = to_read (TakenAway pod) f in
         let k = found_folder pod now ext quiet idle conforming begun begins (TakenAway pod) x f upto in
         answer (TakenAway pod) f upto None
-        (by_own me pod s k.0 false (place_of p) k.1 (λ here. waited p f.removable k.0 k.1 f.between t.between first from_mid t.put.claimed here)
+        (by_own me pod s k.0 false (area_of_phase p) k.1 (λ here. waited p f.removable k.0 k.1 f.between t.between first from_mid t.put.claimed here)
         (own_free pod now ext quiet idle conforming begun begins p k.0 k.1 f.between x first from_x t))
 
     -- a lock was refused where it stood
-    refused_there : (which : Which) (f : FoundAnd pod (WasRefused pod which) me begun x) → RefusedAt pod f.phase which me f.between x → removal_refusal me pod s ≡ Some (PodBusy pod which)
+    refused_there : (which : Which) (f : FoundAnd pod (LockWasRefused pod which) me begun x) → RefusedAt pod f.phase which me f.between x → removal_refusal me pod s ≡ Some (PodBusy pod which)
     refused_there which f r = by which refl r
       where
         by : (w : Which) → which ≡ w → RefusedAt pod f.phase which me f.between x → removal_refusal me pod s ≡ Some (PodBusy pod which)
         by w is y =
             let p = f.phase in
             let upto = grown_more (held_grown f.between x y.held) from_x in
-            let first = to_read (WasRefused pod which) f in
-            let k = found_folder pod now ext quiet idle conforming begun begins (WasRefused pod which) x f upto in
-            let held = turn_held ext quiet conforming first from_x pod (place_of p) (stage_place p) k.0 old to_new k.1 which (asked_mode which) y.held in
-            answer (WasRefused pod which) f upto (Some (PodBusy pod which)) (at_place w is p f.removable k.0 k.1 first y held)
+            let first = to_read (LockWasRefused pod which) f in
+            let k = found_folder pod now ext quiet idle conforming begun begins (LockWasRefused pod which) x f upto in
+            let held = turn_held ext quiet conforming first from_x pod (area_of_phase p) (stage_place p) k.0 old to_new k.1 which (asked_mode which) y.held in
+            answer (LockWasRefused pod which) f upto (Some (PodBusy pod which)) (at_place w is p f.removable k.0 k.1 first y held)
           where
-            at_place : (w : Which) → which ≡ w → (p : Phase) → is_removable p ≡ true → (k : ℕ) → folder_at s.namespace (pod_spot pod (place_of p)) ≡ Some k → Grew old f.between → RefusedAt pod p which me f.between x → is_held_in me which (asked_mode which) (Some k) s ≡ true → place_refusal me pod (place_of p) s ≡ Some (PodBusy pod which)
+            at_place : (w : Which) → which ≡ w → (p : Phase) → is_removable p ≡ true → (k : ℕ) → folder_at s.namespace (pod_spot pod (area_of_phase p)) ≡ Some k → Grew old f.between → RefusedAt pod p which me f.between x → is_held_in me which (asked_mode which) (Some k) s ≡ true → place_refusal me pod (area_of_phase p) s ≡ Some (PodBusy pod which)
             at_place Own is p may k at first y held =
                 let own = subst (λ (w : Which). is_held_in me w (asked_mode w) (Some k) s ≡ true) is held in
-                by_own me pod s k true (place_of p) at (λ here. waited p may k at f.between x first from_x (y.claimed is) here) (held_more me Own Shared k s own) ∙ ap (λ (w : Which). Some (PodBusy pod w)) (sym is)
+                by_own me pod s k true (area_of_phase p) at (λ here. waited p may k at f.between x first from_x (y.claimed is) here) (held_more me Own Shared k s own) ∙ ap (λ (w : Which). Some (PodBusy pod w)) (sym is)
             at_place Claim is p may k at first y held =
                 let prepared = y.waits is in
-                let here : place_of p ≡ area.Prepared = ap place_of prepared in
+                let here : area_of_phase p ≡ area.Prepared = ap area_of_phase prepared in
                 let claim = subst (λ (w : Which). is_held_in me w (asked_mode w) (Some k) s ≡ true) is held in
                 let there = subst (λ (q : Area). folder_at s.namespace (pod_spot pod q) ≡ Some k) here at in
                 ap (λ (q : Area). place_refusal me pod q s) here
-                ∙ (claimed me pod s k there (manifest k there first (subst (λ (w : Which). HeldByAnother pod area.Prepared w (asked_mode w) me f.between x) is (subst (λ (q : Area). HeldByAnother pod q which (asked_mode which) me f.between x) here y.held))) claim
+                ∙ (claimed me pod s k there (manifest k there first (subst (λ (w : Which). PodHeldByAnother pod area.Prepared w (asked_mode w) me f.between x) is (subst (λ (q : Area). PodHeldByAnother pod q which (asked_mode which) me f.between x) here y.held))) claim
                 ∙ ap (λ (w : Which). Some (PodBusy pod w)) (sym is))
               where
-                manifest : (k : ℕ) → folder_at s.namespace (pod_spot pod area.Prepared) ≡ Some k → Grew old f.between → HeldByAnother pod area.Prepared Claim Exclusive me f.between x → has_file s.entries k (codes "pod") ≡ true
+                manifest : (k : ℕ) → folder_at s.namespace (pod_spot pod area.Prepared) ≡ Some k → Grew old f.between → PodHeldByAnother pod area.Prepared Claim Exclusive me f.between x → has_file s.entries k (codes "pod") ≡ true
                 manifest k there first h =
                     let l = at_grown h.held in
                     let m = had_manifest (removes pod now) (removes_aside pod now) pod (λ request a inner c. rm_changed_off pod now request a inner c) h.folder me ext quiet (at_part first refl (grown_more (record { more = l.0; grown = l.1 }) from_x) h.found) in
@@ -206,25 +206,25 @@ module _ (pod : PodId) (now : ℕ) {me : ℕ} {old new : List Event} (ext : Exte
                     subst (λ (n : ℕ). has_file s.entries n (codes "pod") ≡ true) one m.1
 
     -- or where it was brought to
-    refused_aside : (which : Which) (f : FoundAnd pod (WasRefused pod which) me begun x) → RefusedAside pod f.phase which me f.between x → removal_refusal me pod s ≡ Some (PodBusy pod which)
+    refused_aside : (which : Which) (f : FoundAnd pod (LockWasRefused pod which) me begun x) → RefusedAside pod f.phase which me f.between x → removal_refusal me pod s ≡ Some (PodBusy pod which)
     refused_aside which f r =
         let p = f.phase in
         let from_mid = grown_more (held_grown r.between x r.held) from_x in
         let upto = grown_more (put_grown p r.put) from_mid in
-        let first = to_read (WasRefused pod which) f in
-        let k = found_folder pod now ext quiet idle conforming begun begins (WasRefused pod which) x f upto in
+        let first = to_read (LockWasRefused pod which) f in
+        let k = found_folder pod now ext quiet idle conforming begun begins (LockWasRefused pod which) x f upto in
         let h = folder_aside pod now ext quiet idle conforming begun begins p k.0 k.1 f.between r.between first from_mid r.put in
-        let held = turn_held ext quiet conforming (grown_more first (put_grown p r.put)) from_x pod (aside p) (aside_stage p) k.0 h.0 h.1 h.2 Own Exclusive r.held in
-        answer (WasRefused pod which) f upto (Some (PodBusy pod which))
-        (by_own me pod s k.0 true (place_of p) k.1 (λ here. waited p f.removable k.0 k.1 f.between r.between first from_mid r.put.claimed here) held ∙ ap (λ (w : Which). Some (PodBusy pod w)) (sym r.own))
+        let held = turn_held ext quiet conforming (grown_more first (put_grown p r.put)) from_x pod (aside p) (stage_aside p) k.0 h.0 h.1 h.2 Own Exclusive r.held in
+        answer (LockWasRefused pod which) f upto (Some (PodBusy pod which))
+        (by_own me pod s k.0 true (area_of_phase p) k.1 (λ here. waited p f.removable k.0 k.1 f.between r.between first from_mid r.put.claimed here) held ∙ ap (λ (w : Which). Some (PodBusy pod w)) (sym r.own))
 
-    refused : (which : Which) → FoundAnd pod (WasRefused pod which) me begun x → removal_refusal me pod s ≡ Some (PodBusy pod which)
+    refused : (which : Which) → FoundAnd pod (LockWasRefused pod which) me begun x → removal_refusal me pod s ≡ Some (PodBusy pod which)
     refused which f = elim f.so [ inl r ↦ refused_there which f r | inr r ↦ refused_aside which f r ]
 
   ending : {ended : List Event} (more : List Event) → new ≡ ended ++ more → Grew ended new
   ending more grown = record { more = more; grown = grown }
 
-  pub rm_unrefused : OnceFound (Removes pod) me old new → removal_refusal me pod s ≡ None
+  pub rm_unrefused : OnceFound (RemovesPod pod) me old new → removal_refusal me pod s ≡ None
   rm_unrefused m = elim m.so.first [
     | inl f ↦ taken m.begun m.begins m.ended (ending m.finishes.more m.finishes.grown) f
     | inr missed ↦ absurd (never_missed pod now ext quiet idle conforming m.begun m.begins m.ended (ending m.finishes.more m.finishes.grown) missed)
@@ -236,5 +236,5 @@ module _ (pod : PodId) (now : ℕ) {me : ℕ} {old new : List Event} (ext : Exte
     | inr missed ↦ absurd (never_missed pod now ext quiet idle conforming m.begun m.begins m.ended (ending m.finishes.more m.finishes.grown) missed)
   ]
 
-  pub rm_wrong : (p : Phase) → OnceFound (WasSo pod p) me old new → is_removable p ≡ false
+  pub rm_wrong : (p : Phase) → OnceFound (ConformingHadPhase pod p) me old new → is_removable p ≡ false
   rm_wrong p m = (m.so (conforming_left m.ended m.finishes.more (subst IsConforming m.finishes.grown conforming))).wrong

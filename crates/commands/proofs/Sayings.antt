@@ -21,7 +21,7 @@ use Rattle.tree_digest.specs.declared.listing_error.ListingError.{ListingError}
 use Rattle.tree_digest.specs.declared.listing_error.ListingError.TheVariants as listing
 use Rattle.pod_plan.specs.declared.choice_error.ChoiceError.{ChoiceError}
 use Rattle.pod_plan.specs.declared.choice_error.ChoiceError.TheVariants as choice
-use Rattle.pod_plan.specs.Choices.{IsUnmatched, IsRefused as IsNoPod}
+use Rattle.pod_plan.specs.Choices.{IsUnmatched, IsChoiceRefused as IsNoPod}
 use Rattle.pod_plan.specs.declared.plan_error.PlanError.{PlanError}
 use Rattle.pod_plan.specs.declared.plan_error.PlanError.TheVariants as plan
 use Rattle.pod_plan.specs.PlanRefusals.{choice_refusal, IsNoChoice}
@@ -31,13 +31,13 @@ use Rattle.pod_build.specs.declared.make_error.MakeError.TheVariants as make
 use Rattle.pod_build.specs.declared.error.BuildError.{BuildError}
 use Rattle.pod_build.specs.declared.error.BuildError.TheVariants as build
 use Rattle.pod_build.specs.Refusals.{gate_refusal, plan_refusal, IsMakeRefusal}
-use Rattle.pod_build.specs.Causes.{IsRefused}
+use Rattle.pod_build.specs.Causes.{IsBuildRefused}
 use Rattle.command_outcomes.specs.declared.refusal.Refusal.{Refusal}
 use Rattle.command_outcomes.specs.declared.refusal.Refusal.TheVariants.{Busy, BadManifest, NoDependency, Cycle, Limit, DirFault, NoMemory, Taken}
 use Rattle.command_outcomes.specs.Moments.{DirSeen}
 use Rattle.commands.specs.Prepare.{RefusesPod}
 use Rattle.commands.specs.References.{AreReferences}
-use Rattle.commands.specs.PrepareRefusals.{prepare_refusal, dependency_refusal, manifest_refusal, root_refusal, listing_refusal, build_refusal, IsSaid}
+use Rattle.commands.specs.PrepareRefusals.{prepare_refusal, dependency_refusal, pod_manifest_refusal, root_refusal, root_listing_refusal, refusal_of_build, IsSaidOfBuild}
 use Rattle.commands.proofs.Words.{place_within}
 use Rattle.commands.specs.Wants.{Wants}
 
@@ -57,7 +57,7 @@ dependency_chosen dep.TooDeep = refl
 dependency_chosen dep.TooMany = refl
 dependency_chosen dep.NoMemory = refl
 
-manifest_chosen : (e : GenError) → is_of_choice (manifest_refusal e) ≡ true
+manifest_chosen : (e : GenError) → is_of_choice (pod_manifest_refusal e) ≡ true
 manifest_chosen gen.TooManyApps = refl
 manifest_chosen (gen.NoApp name) = refl
 manifest_chosen (gen.NoExec name) = refl
@@ -69,7 +69,7 @@ root_chosen : (e : RenderError) → is_of_choice (root_refusal e) ≡ true
 root_chosen render.TooManyEntries = refl
 root_chosen render.NoMemory = refl
 
-listing_chosen : (e : ListingError) → is_of_choice (listing_refusal e) ≡ true
+listing_chosen : (e : ListingError) → is_of_choice (root_listing_refusal e) ≡ true
 listing_chosen (listing.BadLine n) = refl
 listing_chosen (listing.NotSorted n) = refl
 listing_chosen (listing.NoParent n) = refl
@@ -89,23 +89,23 @@ choice_allowed NoMemory h = refl
 choice_allowed r h = let clash : false ≡ true = h in cc
 
 -- of what a refusal was said
-pub fault_of : (words : List (List ℕ)) (e : BuildError) → build_refusal words e ≡ DirFault → e ≡ build.DirFault
+pub fault_of : (words : List (List ℕ)) (e : BuildError) → refusal_of_build words e ≡ DirFault → e ≡ build.DirFault
 fault_of words build.DirFault is = refl
 fault_of words (build.DepError e) is = choice_apart (dependency_refusal e) DirFault (dependency_chosen e) refl is
-fault_of words (build.GenError e) is = choice_apart (manifest_refusal e) DirFault (manifest_chosen e) refl is
+fault_of words (build.GenError e) is = choice_apart (pod_manifest_refusal e) DirFault (manifest_chosen e) refl is
 fault_of words (build.RenderError e) is = choice_apart (root_refusal e) DirFault (root_chosen e) refl is
-fault_of words (build.ListingError e) is = choice_apart (listing_refusal e) DirFault (listing_chosen e) refl is
+fault_of words (build.ListingError e) is = choice_apart (root_listing_refusal e) DirFault (listing_chosen e) refl is
 fault_of words e is = cc
 
-pub busy_of : (words : List (List ℕ)) (e : BuildError) (area : Area) → build_refusal words e ≡ Busy area → e ≡ build.Busy area
+pub busy_of : (words : List (List ℕ)) (e : BuildError) (area : Area) → refusal_of_build words e ≡ Busy area → e ≡ build.Busy area
 busy_of words (build.Busy here) area is = let same : here ≡ area = cc in ap build.Busy same
 busy_of words (build.DepError e) area is = choice_apart (dependency_refusal e) (Busy area) (dependency_chosen e) refl is
-busy_of words (build.GenError e) area is = choice_apart (manifest_refusal e) (Busy area) (manifest_chosen e) refl is
+busy_of words (build.GenError e) area is = choice_apart (pod_manifest_refusal e) (Busy area) (manifest_chosen e) refl is
 busy_of words (build.RenderError e) area is = choice_apart (root_refusal e) (Busy area) (root_chosen e) refl is
-busy_of words (build.ListingError e) area is = choice_apart (listing_refusal e) (Busy area) (listing_chosen e) refl is
+busy_of words (build.ListingError e) area is = choice_apart (root_listing_refusal e) (Busy area) (listing_chosen e) refl is
 busy_of words e area is = cc
 
-pub said_fault : (words : List (List ℕ)) (e : BuildError) (r : Refusal) → IsSaid words e r → r ≡ DirFault → e ≡ build.DirFault
+pub said_fault : (words : List (List ℕ)) (e : BuildError) (r : Refusal) → IsSaidOfBuild words e r → r ≡ DirFault → e ≡ build.DirFault
 said_fault words e r (inl said) is = fault_of words e (sym said ∙ is)
 said_fault words e r (inr said) is = let clash : NoMemory ≡ DirFault = sym said ∙ is in cc
 
@@ -133,21 +133,21 @@ make_area entries draw make.DirFault area is = cc
 make_area entries draw make.Stray area is = cc
 make_area entries draw make.NoMemory area is = cc
 
-pub busy_area : {observed : Bool} {refs : List ImageRef} {options : Wishes} (draw : Draw) {now : ℕ} {e : BuildError} {a b : DirAt} → IsRefused observed refs options draw now e a b → (area : Area) → e ≡ build.Busy area → prepare_refusal (Busy area) ≡ true
+pub busy_area : {observed : Bool} {refs : List ImageRef} {options : Wishes} (draw : Draw) {now : ℕ} {e : BuildError} {a b : DirAt} → IsBuildRefused observed refs options draw now e a b → (area : Area) → e ≡ build.Busy area → prepare_refusal (Busy area) ≡ true
 busy_area draw (inl x) area is = gate_area x.0 area (sym is ∙ x.1)
 busy_area draw (inr (free, inl x)) area is = plan_area x.3.0 area (sym is ∙ x.3.1)
 busy_area draw (inr (free, inr x)) area is = make_area x.0 draw.uuid x.2.3.0 area (subst (λ (error : BuildError). IsMakeRefusal x.0 draw.uuid x.2.3.0 error) is x.2.3.1)
 
 -- so each is one that the command may have
-error_allowed : (words : List (List ℕ)) (e : BuildError) → ((area : Area) → e ≡ build.Busy area → prepare_refusal (Busy area) ≡ true) → prepare_refusal (build_refusal words e) ≡ true
+error_allowed : (words : List (List ℕ)) (e : BuildError) → ((area : Area) → e ≡ build.Busy area → prepare_refusal (Busy area) ≡ true) → prepare_refusal (refusal_of_build words e) ≡ true
 error_allowed words (build.Busy area) locks = locks area refl
 error_allowed words (build.DepError e) locks = choice_allowed (dependency_refusal e) (dependency_chosen e)
-error_allowed words (build.GenError e) locks = choice_allowed (manifest_refusal e) (manifest_chosen e)
+error_allowed words (build.GenError e) locks = choice_allowed (pod_manifest_refusal e) (manifest_chosen e)
 error_allowed words (build.RenderError e) locks = choice_allowed (root_refusal e) (root_chosen e)
-error_allowed words (build.ListingError e) locks = choice_allowed (listing_refusal e) (listing_chosen e)
+error_allowed words (build.ListingError e) locks = choice_allowed (root_listing_refusal e) (listing_chosen e)
 error_allowed words e locks = refl
 
-pub refusal_allowed : (words : List (List ℕ)) (e : BuildError) (r : Refusal) → IsSaid words e r → ((area : Area) → e ≡ build.Busy area → prepare_refusal (Busy area) ≡ true) → prepare_refusal r ≡ true
+pub refusal_allowed : (words : List (List ℕ)) (e : BuildError) (r : Refusal) → IsSaidOfBuild words e r → ((area : Area) → e ≡ build.Busy area → prepare_refusal (Busy area) ≡ true) → prepare_refusal r ≡ true
 refusal_allowed words e r (inl said) locks = ap prepare_refusal said ∙ error_allowed words e locks
 refusal_allowed words e r (inr said) locks = ap prepare_refusal said
 
@@ -184,7 +184,7 @@ plan_place words observed refs options a b (plan.ListingError e) place are is x 
 plan_place words observed refs options a b plan.DirFault place are is x = cc
 plan_place words observed refs options a b plan.NoMemory place are is x = cc
 
-pub no_match_within : (words : List (List ℕ)) (observed : Bool) (refs : List ImageRef) (options : Wishes) (draw : Draw) {now : ℕ} {e : BuildError} {a b : DirAt} → AreReferences words refs → IsRefused observed refs options draw now e a b
+pub no_match_within : (words : List (List ℕ)) (observed : Bool) (refs : List ImageRef) (options : Wishes) (draw : Draw) {now : ℕ} {e : BuildError} {a b : DirAt} → AreReferences words refs → IsBuildRefused observed refs options draw now e a b
     → (place : ℕ) → e ≡ build.NoMatch place → place < length words
 no_match_within words observed refs options draw are (inl x) place is = gate_place x.0 place (sym is ∙ x.1)
 no_match_within words observed refs options draw are (inr (free, inl x)) place is = plan_place words observed refs options x.0 x.1 x.3.0 place are (sym is ∙ x.3.1) x.3.2
@@ -214,12 +214,12 @@ make_pod entries draw make.DirFault pod is = cc
 make_pod entries draw make.Stray pod is = cc
 make_pod entries draw make.NoMemory pod is = cc
 
-taken_of : (words : List (List ℕ)) (e : BuildError) (pod : PodId) → Taken pod ≡ build_refusal words e → e ≡ build.Taken pod
+taken_of : (words : List (List ℕ)) (e : BuildError) (pod : PodId) → Taken pod ≡ refusal_of_build words e → e ≡ build.Taken pod
 taken_of words (build.Taken here) pod is = let same : here ≡ pod = cc in ap build.Taken same
 taken_of words (build.DepError e) pod is = choice_apart (dependency_refusal e) (Taken pod) (dependency_chosen e) refl (sym is)
-taken_of words (build.GenError e) pod is = choice_apart (manifest_refusal e) (Taken pod) (manifest_chosen e) refl (sym is)
+taken_of words (build.GenError e) pod is = choice_apart (pod_manifest_refusal e) (Taken pod) (manifest_chosen e) refl (sym is)
 taken_of words (build.RenderError e) pod is = choice_apart (root_refusal e) (Taken pod) (root_chosen e) refl (sym is)
-taken_of words (build.ListingError e) pod is = choice_apart (listing_refusal e) (Taken pod) (listing_chosen e) refl (sym is)
+taken_of words (build.ListingError e) pod is = choice_apart (root_listing_refusal e) (Taken pod) (listing_chosen e) refl (sym is)
 taken_of words e pod is = cc
 
 pub taken_own : {wants : Wants} {now : ℕ} {draw : Draw} {pod : PodId} {old new : DirSeen} → RefusesPod wants now draw old new (Taken pod) → pod ≡ draw.uuid
@@ -228,7 +228,7 @@ taken_own {wants} {now} {draw} {pod} x = by x.cause.2
     is : x.error ≡ build.Taken pod
     is = taken_of wants.images x.error pod x.is
 
-    by : {observed : Bool} {a b : DirAt} → IsRefused observed x.cause.0 wants.wishes draw now x.error a b → pod ≡ draw.uuid
+    by : {observed : Bool} {a b : DirAt} → IsBuildRefused observed x.cause.0 wants.wishes draw now x.error a b → pod ≡ draw.uuid
     by (inl y) = gate_pod y.0 pod (sym is ∙ y.1)
     by (inr (free, inl y)) = plan_pod y.3.0 pod (sym is ∙ y.3.1)
     by (inr (free, inr y)) = make_pod y.0 draw.uuid y.2.3.0 pod (subst (λ (error : BuildError). IsMakeRefusal y.0 draw.uuid y.2.3.0 error) is y.2.3.1)

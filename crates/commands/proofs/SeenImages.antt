@@ -27,7 +27,7 @@ use Rattle.dep_match.specs.Dependencies.{and_then, branches, dependencies_at, de
 use Rattle.dep_match.specs.Selection.{best_match, digits_of, has_id, has_label, matches_dependency}
 use Rattle.pod_plan.specs.declared.choice_error.ChoiceError.{ChoiceError}
 use Rattle.pod_plan.specs.declared.choice_error.ChoiceError.TheVariants as choice
-use Rattle.pod_plan.specs.Choices.{best_of, ArePicks, AreTrees, IsRefused, IsTreeFault, IsUnmatched}
+use Rattle.pod_plan.specs.Choices.{best_of, ArePicks, AreTrees, IsChoiceRefused, IsTreeFault, IsUnmatched}
 use Rattle.pod_manifest.specs.AppNames.{app_name}
 use Rattle.pod_manifest.specs.Generation.{app_fault, first_fault, first_refusal, mount_fault, name_of, picked, words_fault}
 use Rattle.pod_manifest.specs.Wishes.{Wishes}
@@ -203,7 +203,7 @@ module _ (xs ys : List Stored) (same : map stored_data xs ≡ map stored_data ys
     earlier = subst (λ (f : ℕ → Result (List DepNode) DepError). All (λ i. IsOk (f i)) x.before) (fun_ext same_dependencies) x.earlier;
   }
 
-  pub same_refused : (refs : List ImageRef) (wishes : Wishes) (reason : ChoiceError) → IsRefused xs refs wishes reason → IsRefused ys refs wishes reason
+  pub same_refused : (refs : List ImageRef) (wishes : Wishes) (reason : ChoiceError) → IsChoiceRefused xs refs wishes reason → IsChoiceRefused ys refs wishes reason
   same_refused refs wishes (choice.NoMatch place) x = same_unmatched refs place x
   same_refused refs wishes (choice.DepError fault) x = (x.0, same_picks refs x.0 x.1, same_tree_fault x.0 fault x.2)
   same_refused refs wishes (choice.GenError refusal) x = (x.0, same_picks refs x.0 x.1, (x.2.0, same_trees x.0 x.2.0 x.2.1, sym (same_manifest x.0 wishes) ∙ x.2.2))

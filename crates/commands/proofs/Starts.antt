@@ -3,13 +3,13 @@ use Rattle.std.proofs.Common.{◌≡◌, ◌||◌, ℕ, Bool, true, false, List,
 use Rattle.dir_model.specs.declared.event.Event.{Event}
 use Rattle.dir_model.specs.declared.intent.Intent.{Intent}
 use Rattle.dir_model.specs.declared.request.Request.{Request}
-use Rattle.dir_model.specs.declared.request.Request.TheVariants.{Begin, ListArea}
+use Rattle.dir_model.specs.declared.request.Request.TheVariants.{Begin}
 use Rattle.dir_model.specs.declared.request.Reply.TheVariants.{Done}
 use Rattle.dir_model.specs.Calls.{Extends, is_begin}
-use Rattle.dir_model.specs.Listings.{is_listing_request}
-use Rattle.dir_model.proofs.Quiet.{is_harmless, begin_is_harmless, listing_is_harmless}
+use Rattle.dir_model.proofs.Quiet.{is_harmless, begin_is_harmless}
 use Rattle.dir_model.proofs.Chains.{and_more, extends_wider, nothing_yet, step_extends}
 use Rattle.pod_lookup.specs.Looks.{lists_stages}
+use Rattle.pod_lookup.proofs.QuietLook.{lists_harmless}
 use Rattle.commands.specs.Opening.{Approach, directly, looking, Looks, Opens, looks_by, opens}
 
 -- a look asks for listings at most
@@ -29,17 +29,9 @@ opening_extends {asked} {approach} {intent} {me} {old} {new} begins looks o =
 pub open_extends : {approach : Approach} {intent : Intent} {me : ℕ} {old new : List Event} → Opens approach intent me old new → Extends opens me old new
 open_extends {approach} o = opening_extends refl (λ r h. ap (λ b. b || is_begin r) (look_lists approach r h)) o
 
--- it changes nothing
-lists_a_listing : (r : Request) → lists_stages r ≡ true → is_listing_request r ≡ true
-lists_a_listing (ListArea area) h = refl
-lists_a_listing r h = cc
-
-pub lists_is_harmless : (r : Request) → lists_stages r ≡ true → is_harmless r ≡ true
-lists_is_harmless r h = listing_is_harmless r (lists_a_listing r h)
-
 pub open_is_harmless : (r : Request) → opens r ≡ true → is_harmless r ≡ true
 open_is_harmless r h = by (lists_stages r) refl h
   where
     by : (b : Bool) → lists_stages r ≡ b → (b || is_begin r) ≡ true → is_harmless r ≡ true
-    by true is k = lists_is_harmless r is
+    by true is k = lists_harmless r is
     by false is k = begin_is_harmless r k

@@ -2,7 +2,7 @@
 use Rattle.std.proofs.Common.{arith, ◌≡◌, inl, inr, ◌<◌, ℕ, ◌==◌, true, false, cond, Option, Some, None, IfSome, option_map, List, [], ◌∷◌, ◌++◌, map, length, take, append-nil, append_assoc, refl, sym, ap, subst, ◌∙◌}
 use Rattle.std.specs.List.{list_all}
 use Rattle.std.proofs.lemmas.Bool.Decides.{nat_tests}
-use Rattle.std.proofs.lemmas.Grind.{common_steps}
+use Rattle.plain_laws.proofs.Fronts.{not_cut, within_take}
 use Rattle.app_section.specs.AppData.{app_data}
 use Rattle.app_section.specs.declared.app.App.{App}
 use Rattle.dir_model.specs.declared.event.Event.{Event}
@@ -17,7 +17,7 @@ use Rattle.dir_model.proofs.Lists.{and_left}
 use Rattle.dir_model.proofs.Moments.{at_grown}
 use Rattle.dir_files.specs.Reads.{AreTold, IsPiece, TellsFile, WasMissing, bytes_in, file_at}
 use Rattle.dir_rules.specs.declared.seen.Entry.{Entry}
-use Rattle.dir_rules.specs.Rules.{has_file}
+use Rattle.dir_rules.specs.Rules.{has_file_among}
 use Rattle.dir_trait.specs.DirCalls.{DirAt}
 use Rattle.folder_contents.specs.Entries.{entries_in}
 use Rattle.folder_contents.proofs.Entries.{content_is}
@@ -31,19 +31,20 @@ use Rattle.manifests.specs.declared.pod_manifest.PodManifest.{PodManifest}
 use Rattle.manifests.specs.declared.runtime_app.RuntimeApp.{RuntimeApp}
 use Rattle.manifests.specs.PodData.{PodData, pod_data, runtime_app_data}
 use Rattle.path_map.specs.Entries.{Entries, entry_at}
-use Rattle.pod_files.specs.Files.{IsManifestOf, IsNoManifest, IsNoToken, IsTokenOf, LacksManifest as LacksManifestRead, LacksToken as LacksTokenRead, ReadsManifest, ReadsToken, is_digit, is_token, most_of_token}
+use Rattle.pod_files.specs.Files.{IsManifestOf, IsNoManifest, IsNoToken, IsTokenOf, ReadsNoPodManifest as LacksManifestRead, ReadsNoToken as LacksTokenRead, ReadsPodManifest, ReadsToken, is_digit, is_token, most_of_token}
+use Rattle.pod_files.specs.Places.{pod_manifest_name, pod_file, run_spot, token_name}
 use Rattle.stage1.specs.declared.load_error.LoadError.{LoadError}
 use Rattle.stage1.specs.declared.load_error.LoadError.TheVariants.{NoManifest, Damaged, NoProgram, DirFault, NoMemory}
 use Rattle.stage1.specs.declared.start.AppStart.{AppStart}
-use Rattle.stage1.specs.AppFiles.{AreRoots, IsRootOf, LacksRoot, ReadsRoot}
-use Rattle.stage1.specs.AppPlaces.{manifest_name, pod_file, run_spot, told_path, token_name, tree_path}
-use Rattle.stage1.specs.LoadRefusals.{FirstLacks, InTurn, LacksListing as LacksListingRead, LacksProgram, LacksStarts, LoadCause}
-use Rattle.stage1.specs.Starts.{AreStarts, IsStart, ReadsStarts}
+use Rattle.stage1.specs.AppFiles.{AreAppRoots, IsAppRootOf, LacksRootListing, ReadsRoot}
+use Rattle.stage1.specs.AppPlaces.{told_path, tree_path}
+use Rattle.stage1.specs.LoadRefusals.{FirstLacks, InTurn, AppLacksListing as LacksListingRead, LacksProgram, LacksStarts, LoadCause}
+use Rattle.stage1.specs.Starts.{AreStarts, IsAppStart, ReadsStarts}
 use Rattle.pod_report.proofs.Reading.{same_reading}
 use Rattle.standing_images.proofs.Pieces.{all_told, is_front, told_grown}
 use Rattle.tree_digest.specs.declared.line.ListingLine.{ListingLine}
 use Rattle.tree_digest.specs.Listings.{Fails, entries_of, listing_text}
-use Rattle.commands.specs.RunTable.{AreStartsOf, FirstMissing, FirstUnlisted, HasNoStarts, HoldsFile, HoldsListing, HoldsListings, HoldsManifest, HoldsToken, LacksListing, LacksManifest, LacksToken, StartSo, StartsSo, file_in, tree_of}
+use Rattle.commands.specs.RunTable.{AreStartsOf, FirstMissing, FirstUnlisted, HasNoStarts, HoldsFile, HoldsListing, HoldsListings, HoldsManifest, HoldsToken, EntriesLackListing, EntriesLackManifest, EntriesLackToken, AreStartsOfApps, IsStartOfApp, file_in, tree_of_lines}
 use Rattle.commands.proofs.Parts.{Part, file_wider, lack_wider}
 
 -- the pod's folder stands in run with this number and holds this, and nothing of it is a started app's own
@@ -61,18 +62,12 @@ file_is : (pod : PodId) (folder : ℕ) (es : List Entry) (s : DirState) → Hold
 file_is pod folder es s x path =
     ap (bytes_in s.entries path) x.here
     ∙ (ap (λ b. cond b (Some (content s.entries folder path)) None) (file_of folder path s.entries)
-    ∙ (ap (λ (l : List ℕ). cond (has_file path (entries_in folder s.entries)) (Some l) None) (content_is folder path s.entries)
+    ∙ (ap (λ (l : List ℕ). cond (has_file_among path (entries_in folder s.entries)) (Some l) None) (content_is folder path s.entries)
     ∙ ap (λ (l : List Entry). file_in l path) x.holds))
 
 -- a token's first bytes are all of it
 token_short : (bytes : List ℕ) → is_token bytes ≡ true → length bytes ≡ 32
 token_short bytes is = let h = and_left (length bytes == 32) (list_all is_digit bytes) is in grind (arith, nat_tests)
-
-not_cut : (n : ℕ) (bytes : List ℕ) → length (take n bytes) < n → take n bytes ≡ bytes
-not_cut n bytes within = grind (arith, common_steps)
-
-within_take : (n : ℕ) (bytes : List ℕ) → length bytes < n → take n bytes ≡ bytes
-within_take n bytes within = grind (arith, common_steps)
 
 token_front : (file token : List ℕ) → IsTokenOf token (take 33 file) → IsTokenOf token file
 token_front file token is =
@@ -154,20 +149,20 @@ module _ (pod : PodId) (folder : ℕ) (es : List Entry) (old new : DirAt) (on : 
       apart f.0 f.2 (subst Q (let e : x.bytes ≡ f.0 = cc in e) x.so)
 
   module _ {a b : DirAt} (p : Part old a b new) where
-    manifest_told : (manifest : PodData) → ReadsManifest pod manifest a b → HoldsManifest es manifest
+    manifest_told : (manifest : PodData) → ReadsPodManifest pod manifest a b → HoldsManifest es manifest
     manifest_told manifest r =
-        let f = front manifest_name most_of_manifest (IsManifestOf manifest) (omega arith) (file_wider p r) in
+        let f = front pod_manifest_name most_of_manifest (IsManifestOf manifest) (omega arith) (file_wider p r) in
         record { bytes = f.0; there = f.1; so = sym (same_reading f.0) ∙ f.2 }
 
-    manifest_lacking : LacksManifestRead pod a b → LacksManifest es
-    manifest_lacking l manifest = lacking manifest_name most_of_manifest IsNoManifest (IsManifestOf manifest) (omega arith) (λ file none is. none manifest (same_reading file ∙ is)) (lack_wider p (pod_file pod manifest_name) most_of_manifest IsNoManifest l)
+    manifest_lacking : LacksManifestRead pod a b → EntriesLackManifest es
+    manifest_lacking l manifest = lacking pod_manifest_name most_of_manifest IsNoManifest (IsManifestOf manifest) (omega arith) (λ file none is. none manifest (same_reading file ∙ is)) (lack_wider p (pod_file pod pod_manifest_name) most_of_manifest IsNoManifest l)
 
     token_told : (token : List ℕ) → ReadsToken pod token a b → HoldsToken es token
     token_told token r =
         let f = front token_name most_of_token (IsTokenOf token) (omega arith) (file_wider p r) in
         record { bytes = f.0; there = f.1; so = token_front f.0 token f.2 }
 
-    token_lacking : LacksTokenRead pod a b → LacksToken es
+    token_lacking : LacksTokenRead pod a b → EntriesLackToken es
     token_lacking l token = lacking token_name most_of_token IsNoToken (IsTokenOf token) (omega arith) (λ file none is. no_token_front file token none is) (lack_wider p (pod_file pod token_name) most_of_token IsNoToken l)
 
     -- a root with these bytes and this tree has these lines
@@ -178,16 +173,16 @@ module _ (pod : PodId) (folder : ℕ) (es : List Entry) (old new : DirAt) (on : 
 
     root_told : (app : List ℕ) (root : _) → ReadsRoot pod app root a b → (lines : List ListingLine) × IsRead app root.listing.items root.tree lines
     root_told app root r =
-        let f = front (tree_path app) most_of_tree (λ bytes. IsRootOf bytes root) (omega arith) (file_wider p r) in
+        let f = front (tree_path app) most_of_tree (λ bytes. IsAppRootOf bytes root) (omega arith) (file_wider p r) in
         let whole = tree_front f.0 f.2.lines f.2.listing in
         (f.2.lines, record { held = record { bytes = f.0; there = f.1; so = whole }; kept = f.2.kept ∙ f.2.listing.text; same = f.2.tree })
 
-    root_lacking : (app : List ℕ) → LacksRoot pod app a b → LacksListing es app
+    root_lacking : (app : List ℕ) → LacksRootListing pod app a b → EntriesLackListing es app
     root_lacking app l lines =
         lacking (tree_path app) most_of_tree IsNoListing (IsListingOf lines) (omega arith) (λ file none is. no_fault file (no_tree_front file none) lines is) (lack_wider p (pod_file pod (tree_path app)) most_of_tree IsNoListing l)
 
     -- roots with theirs
-    listed_told : (apps : List RuntimeApp) (roots : _) → AreRoots pod (map (λ x. x.name) apps) roots a b → (all : List (List ListingLine)) × HoldsListings es (map runtime_app_data apps) all
+    listed_told : (apps : List RuntimeApp) (roots : _) → AreAppRoots pod (map (λ x. x.name) apps) roots a b → (all : List (List ListingLine)) × HoldsListings es (map runtime_app_data apps) all
     listed_told [] [] are = ([], tt)
     listed_told [] (root ∷ roots) are = absurd are
     listed_told (app ∷ apps) [] are = absurd are
@@ -197,18 +192,18 @@ module _ (pod : PodId) (folder : ℕ) (es : List Entry) (old new : DirAt) (on : 
         (one.0 ∷ more.0, (one.1.held, more.1))
 
     module _ (address token : List ℕ) where
-      start_so : (app : RuntimeApp) (root : _) (lines : List ListingLine) (start : AppStart) → IsStart pod address token app root start → IsRead app.name root.listing.items root.tree lines → StartsSo pod address token (runtime_app_data app) lines start
+      start_so : (app : RuntimeApp) (root : _) (lines : List ListingLine) (start : AppStart) → IsAppStart pod address token app root start → IsRead app.name root.listing.items root.tree lines → IsStartOfApp pod address token (runtime_app_data app) lines start
       start_so app root lines start s r = record {
         name = s.name;
         place = s.place;
         listing = ap (λ l. l.items) s.listing ∙ r.kept;
-        launch = section_is app.app app.name address token (tree_of lines) start.launch
+        launch = section_is app.app app.name address token (tree_of_lines lines) start.launch
             (subst (λ (m : Entries). IfSome app.app (λ section. IsLaunch (app_data section) app.name address token (entry_at m) start.launch)) r.same s.launch);
         found = subst (λ (m : Entries). missing_word (option_map app_data app.app) (entry_at m) ≡ None) r.same s.startable;
       }
 
-      start_all : (apps : List RuntimeApp) (roots : _) (starts : List AppStart) → AreRoots pod (map (λ x. x.name) apps) roots a b → AreStarts pod address token apps roots starts →
-          (all : List (List ListingLine)) × HoldsListings es (map runtime_app_data apps) all × StartSo pod address token (map runtime_app_data apps) all starts
+      start_all : (apps : List RuntimeApp) (roots : _) (starts : List AppStart) → AreAppRoots pod (map (λ x. x.name) apps) roots a b → AreStarts pod address token apps roots starts →
+          (all : List (List ListingLine)) × HoldsListings es (map runtime_app_data apps) all × AreStartsOfApps pod address token (map runtime_app_data apps) all starts
       start_all [] [] [] are s = ([], tt, tt)
       start_all [] [] (start ∷ starts) are s = absurd s
       start_all [] (root ∷ roots) starts are s = absurd are
@@ -220,7 +215,7 @@ module _ (pod : PodId) (folder : ℕ) (es : List Entry) (old new : DirAt) (on : 
           (one.0 ∷ more.0, (one.1.held, more.1), (start_so app root one.0 start s.0 one.1, more.2))
 
     -- the first app that lacks a program
-    missing_told : (apps : List RuntimeApp) (roots : _) (name word : List ℕ) → AreRoots pod (map (λ x. x.name) apps) roots a b → FirstLacks apps roots name word →
+    missing_told : (apps : List RuntimeApp) (roots : _) (name word : List ℕ) → AreAppRoots pod (map (λ x. x.name) apps) roots a b → FirstLacks apps roots name word →
         (all : List (List ListingLine)) × HoldsListings es (map runtime_app_data apps) all × FirstMissing (map runtime_app_data apps) all name word
     missing_told [] roots name word are lacks = absurd lacks
     missing_told (app ∷ apps) [] name word are lacks = absurd lacks
@@ -252,7 +247,7 @@ module _ (pod : PodId) (folder : ℕ) (es : List Entry) (old new : DirAt) (on : 
       whole_part = record { earlier = []; later = []; same = refl; begins = sym (append-nil old.trace); ends = sym (append-nil new.trace) }
 
   -- and why there are none
-  first_unlisted : (before : List (List ℕ)) (app : List ℕ) (after : List (List ℕ)) (apps : List RuntimeApp) (roots : _) (a b : DirAt) (p : Part old a b new) → map (λ x. x.name) apps ≡ before ++ app ∷ after → AreRoots pod before roots a b → LacksListing es app → FirstUnlisted es (map runtime_app_data apps) app
+  first_unlisted : (before : List (List ℕ)) (app : List ℕ) (after : List (List ℕ)) (apps : List RuntimeApp) (roots : _) (a b : DirAt) (p : Part old a b new) → map (λ x. x.name) apps ≡ before ++ app ∷ after → AreAppRoots pod before roots a b → EntriesLackListing es app → FirstUnlisted es (map runtime_app_data apps) app
   first_unlisted before app after [] roots a b p is are lacks = absurd (never before is)
     where
       never : (xs : List (List ℕ)) → [] ≡ xs ++ app ∷ after → ⊥
@@ -260,7 +255,7 @@ module _ (pod : PodId) (folder : ℕ) (es : List Entry) (old new : DirAt) (on : 
       never (x ∷ xs) e = cc
   first_unlisted [] app after (x ∷ apps) roots a b p is are lacks =
       let same : x.name ≡ app = cc in
-      inl (sym same, subst (λ (n : List ℕ). LacksListing es n) (sym same) lacks)
+      inl (sym same, subst (λ (n : List ℕ). EntriesLackListing es n) (sym same) lacks)
   first_unlisted (n ∷ before) app after (x ∷ apps) [] a b p is are lacks = absurd are
   first_unlisted (n ∷ before) app after (x ∷ apps) (root ∷ roots) a b p is are lacks =
       let same : n ≡ x.name = cc in
@@ -279,7 +274,7 @@ module _ (pod : PodId) (folder : ℕ) (es : List Entry) (old new : DirAt) (on : 
 
   -- and so the reasons: by its manifest and its token, which were read in turn
   abbrev InAll : LoadError → PodManifest → List ℕ → DirAt → DirAt → Type 0
-  InAll e manifest token = InTurn (ReadsManifest pod (pod_data manifest)) (InTurn (ReadsToken pod token) (LacksStarts pod manifest.apps e))
+  InAll e manifest token = InTurn (ReadsPodManifest pod (pod_data manifest)) (InTurn (ReadsToken pod token) (LacksStarts pod manifest.apps e))
 
   some_lacks : (e : LoadError) (manifest : PodManifest) (token : List ℕ) → ((a b : DirAt) → LacksStarts pod manifest.apps e a b → Between a b) → InAll e manifest token old new →
       HoldsManifest es (pod_data manifest) × HoldsToken es token × ((a : DirAt) × Part old a new new × LacksStarts pod manifest.apps e a new)
@@ -297,7 +292,7 @@ module _ (pod : PodId) (folder : ℕ) (es : List Entry) (old new : DirAt) (on : 
   program_grown : (apps : List RuntimeApp) (name word : List ℕ) (a b : DirAt) → LacksProgram pod apps name word a b → Between a b
   program_grown apps name word a b l = by apps l.roots l.read l.lacks
     where
-      by : (xs : List RuntimeApp) (roots : _) → AreRoots pod (map (λ x. x.name) xs) roots a b → FirstLacks xs roots name word → Between a b
+      by : (xs : List RuntimeApp) (roots : _) → AreAppRoots pod (map (λ x. x.name) xs) roots a b → FirstLacks xs roots name word → Between a b
       by [] roots read lacks = absurd lacks
       by (x ∷ xs) [] read lacks = absurd lacks
       by (x ∷ xs) (root ∷ roots) read lacks = file_grown a b read.0

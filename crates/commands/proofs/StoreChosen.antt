@@ -1,5 +1,6 @@
 -- Where nobody else steps, a pod that was made faithfully is one of the store of the state before.
 use Rattle.std.proofs.Common.{◌≡◌, ◌⊎◌, inl, inr, true, false, not, List, [], ◌∷◌, ◌++◌, append-nil, append_assoc, refl, sym, ap, subst, ◌∙◌}
+use Rattle.plain_laws.proofs.Booleans.{clash}
 use Rattle.ac_types.specs.declared.image_ref.ImageRef.{ImageRef}
 use Rattle.dir_model.specs.declared.area.Area.{Area}
 use Rattle.dir_model.specs.declared.area.Area.TheVariants.{Prepare}
@@ -14,7 +15,6 @@ use Rattle.dir_model.proofs.Begun.{begun_stays}
 use Rattle.dir_model.proofs.Chains.{states_next-append}
 use Rattle.dir_model.proofs.Lists.{and_left}
 use Rattle.dir_trait.specs.DirCalls.{DirAt}
-use Rattle.lifecycle.proofs.Handles.{clash}
 use Rattle.pod_build.specs.Preparations.{IsPrepared}
 use Rattle.pod_build.specs.MakingRequests.{pod_at}
 use Rattle.pod_manifest.specs.Wishes.{Wishes}

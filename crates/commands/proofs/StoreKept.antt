@@ -1,6 +1,7 @@
 -- Where nobody else steps, a process that changes no place in images leaves the images as they were at each moment.
 use Rattle.std.proofs.Common.{◌≡◌, ℕ, Bool, true, false, ◌&&◌, ◌||◌, bytes_eq, Option, List, [], ◌∷◌, ◌++◌, append_assoc, refl, sym, ap, subst, ◌∙◌}
 use Rattle.std.specs.List.{AllByRecursion}
+use Rattle.plain_laws.proofs.Booleans.{clash, or_nothing}
 use Rattle.dir_model.specs.declared.area.Area.{Area}
 use Rattle.dir_model.specs.declared.area.Area.TheVariants as area
 use Rattle.dir_model.specs.declared.event.Event.{Event}
@@ -21,18 +22,17 @@ use Rattle.dir_model.proofs.Lists.{all_left, same_rest}
 use Rattle.dir_rules.specs.Standing.{is_in}
 use Rattle.folder_contents.proofs.Places.{located}
 use Rattle.folder_contents.proofs.Spots.{one_location}
-use Rattle.lifecycle.proofs.Handles.{clash}
 use Rattle.lifecycle.proofs.Places.{made_elsewhere, moved_elsewhere, removed_elsewhere}
 use Rattle.phase_read.specs.Read.{is_pod_spot}
 use Rattle.pod_build.specs.MakingRequests.{pod_at}
 use Rattle.standing_images.specs.Images.{SameImages, ImagesStay}
 use Rattle.commands.specs.Prepare.{prepares_pod}
-use Rattle.commands.specs.PrepareQuiet.{is_pod_place}
+use Rattle.commands.specs.PrepareQuiet.{is_making_spot}
 use Rattle.commands.specs.Run.{makes_and_runs}
 use Rattle.commands.proofs.Changes.{prepare_changes, run_changes}
 use Rattle.commands.proofs.NextState.{trees_all}
 use Rattle.commands.proofs.OwnSteps.{in_process, same_folders}
-use Rattle.commands.proofs.RemovalQuiet.{ChangesAt, or_false, own_asked}
+use Rattle.commands.proofs.RemovalQuiet.{ChangesAt, own_asked}
 
 -- it brings no folder into images
 abbrev pub BringsElsewhere : Request → Type 0
@@ -59,13 +59,13 @@ module _ (touched : Spot → Bool) (asks : Request → Bool) (c : ChangesAt touc
 
   place_same : (p : ℕ) (n : Namespace) (request : Request) (reply : Reply) → (is_kill request || in_process asks request) ≡ true → (spot : Spot) → is_in area.Images spot.area ≡ true →
       folder_at (namespace_replied n p request reply) spot ≡ folder_at n spot
-  place_same p n (MakeFolder new) Done h spot is = made_elsewhere n spot new (outside new spot (brings (MakeFolder new) (or_false (asks (MakeFolder new)) h)) is)
+  place_same p n (MakeFolder new) Done h spot is = made_elsewhere n spot new (outside new spot (brings (MakeFolder new) (or_nothing (asks (MakeFolder new)) h)) is)
   place_same p n (MakeFolder new) reply h spot is = refl
   place_same p n (MoveFolder from to) Done h spot is =
-      let asked = or_false (asks (MoveFolder from to)) h in
+      let asked = or_nothing (asks (MoveFolder from to)) h in
       moved_elsewhere n spot from to (outside to spot (brings (MoveFolder from to) asked) is) (untouched from spot (c.moves from to asked) is)
   place_same p n (MoveFolder from to) reply h spot is = refl
-  place_same p n (RemoveFolder gone) Done h spot is = removed_elsewhere n spot gone (untouched gone spot (c.removes gone (or_false (asks (RemoveFolder gone)) h)) is)
+  place_same p n (RemoveFolder gone) Done h spot is = removed_elsewhere n spot gone (untouched gone spot (c.removes gone (or_nothing (asks (RemoveFolder gone)) h)) is)
   place_same p n (RemoveFolder gone) reply h spot is = refl
   place_same p n request reply h spot is = ap (λ (fs : List (Option Spot)). folder_at (record n { folders = fs }) spot) (same_folders p n request reply refl (λ handle. refl))
 
@@ -91,13 +91,13 @@ module _ (touched : Spot → Bool) (asks : Request → Bool) (c : ChangesAt touc
       })
 
 -- so does a process that prepares a pod
-pod_apart : (draw : PodId) (place : Spot) → is_in area.Images place.area ≡ true → is_pod_place draw place ≡ false
+pod_apart : (draw : PodId) (place : Spot) → is_in area.Images place.area ≡ true → is_making_spot draw place ≡ false
 pod_apart draw place is = by (spot_eq place (pod_at area.Embryo draw)) (spot_eq place (pod_at area.Prepare draw)) (spot_eq place (pod_at area.Prepared draw)) refl refl refl
   where
-    at : (here : Spot) → is_in area.Images here.area ≡ false → spot_eq place here ≡ true → is_pod_place draw place ≡ false
+    at : (here : Spot) → is_in area.Images here.area ≡ false → spot_eq place here ≡ true → is_making_spot draw place ≡ false
     at here off e = clash (is_in area.Images place.area) is (subst (λ (s : Spot). is_in area.Images s.area ≡ false) (sym (one_location place here e)) off)
 
-    by : (a b d : Bool) → spot_eq place (pod_at area.Embryo draw) ≡ a → spot_eq place (pod_at area.Prepare draw) ≡ b → spot_eq place (pod_at area.Prepared draw) ≡ d → is_pod_place draw place ≡ false
+    by : (a b d : Bool) → spot_eq place (pod_at area.Embryo draw) ≡ a → spot_eq place (pod_at area.Prepare draw) ≡ b → spot_eq place (pod_at area.Prepared draw) ≡ d → is_making_spot draw place ≡ false
     by true b d e f g = at (pod_at area.Embryo draw) refl e
     by false true d e f g = at (pod_at area.Prepare draw) refl f
     by false false true e f g = at (pod_at area.Prepared draw) refl g
@@ -128,7 +128,7 @@ prepares_elsewhere draw (MoveFolder from to) h =
 prepares_elsewhere draw request h = tt
 
 pub prepare_keeps : (draw : PodId) {me : ℕ} {old new : List Event} → Extends (in_process (prepares_pod draw)) me old new → Quiet me old new → ImagesStay old new
-prepare_keeps draw ext quiet = images_stay_beside (is_pod_place draw) (prepares_pod draw) (prepare_changes draw) (pod_apart draw) (prepares_elsewhere draw) ext quiet
+prepare_keeps draw ext quiet = images_stay_beside (is_making_spot draw) (prepares_pod draw) (prepare_changes draw) (pod_apart draw) (prepares_elsewhere draw) ext quiet
 
 -- and one that makes a pod and runs it
 run_apart : (draw : PodId) (place : Spot) → is_in area.Images place.area ≡ true → is_pod_spot draw place ≡ false

@@ -21,9 +21,9 @@ use Rattle.standing_images.proofs.Damages.{damage_before}
 use Rattle.standing_images.proofs.OneDamage.{one_damage}
 use Rattle.standing_images.proofs.OneStore.{one_store}
 use Rattle.standing_images.proofs.QuietStores.{images_stay}
-use Rattle.command_outcomes.specs.Conforming.{shown_at}
+use Rattle.command_outcomes.specs.Conforming.{dir_at_moment}
 use Rattle.command_outcomes.specs.Moments.{DirSeen}
-use Rattle.commands.specs.ImageList.{image_text, images_text, FindsFree, LacksPart, ListsStore, NamesDamage, PrintsStore, WhereUnheld}
+use Rattle.commands.specs.ImageList.{image_line_text, images_text, FindsFree, ListsLackingPart, ListsStore, NamesDamage, PrintsStore, WhereUnheld}
 use Rattle.commands.proofs.Openings.{free_before}
 use Rattle.commands.proofs.StoreQuiet.{is_tame}
 
@@ -33,7 +33,7 @@ seen_text d = ((((id_text d.key.bytes ++ codes " ") ++ d.manifest.name) ++ codes
 
 text_seen : (images : List Stored) → images_text images ≡ flat_map seen_text (map stored_data images)
 text_seen [] = refl
-text_seen (image ∷ images) = ap (λ (rest : List ℕ). image_text image ++ rest) (text_seen images)
+text_seen (image ∷ images) = ap (λ (rest : List ℕ). image_line_text image ++ rest) (text_seen images)
 
 pub one_text : (s : DirState) (xs ys : List Stored) → AreStore xs s → AreStore ys s → images_text xs ≡ images_text ys
 one_text s xs ys x y = text_seen xs ∙ (ap (flat_map seen_text) (one_store s xs ys x y) ∙ sym (text_seen ys))
@@ -60,11 +60,11 @@ module _ (old new : DirSeen) (told : old.observed ≡ true) (ext : Extends is_ta
 
   pub prints_store : (text : List ℕ) → ListsStore old new text → WhereUnheld old (λ s. PrintsStore s text)
   prints_store text x =
-      let store = store_before (shown_at old) (shown_at new) stay x.images (x.told told) in
+      let store = store_before (dir_at_moment old) (dir_at_moment new) stay x.images (x.told told) in
       (unheld (x.free told), record { images = x.images; are = store; is = x.is; only = λ others are. x.is ∙ one_text (state_after old.trace) x.images others store are })
 
   -- and where an image isn't whole, it names what the state before lacks
-  pub names_damage : (path : List ℕ) → LacksPart path old new → WhereUnheld old (λ s. NamesDamage s path)
+  pub names_damage : (path : List ℕ) → ListsLackingPart path old new → WhereUnheld old (λ s. NamesDamage s path)
   names_damage path x =
-      let first = damage_before (shown_at old) (shown_at new) stay path (x.told told) in
+      let first = damage_before (dir_at_moment old) (dir_at_moment new) stay path (x.told told) in
       (unheld (x.free told), record { is = first; only = λ other is. one_damage (state_after old.trace) path other first is })

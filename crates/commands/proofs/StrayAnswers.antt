@@ -8,7 +8,7 @@ use Rattle.dir_trait.specs.DirCalls.{DirAt}
 use Rattle.lifecycle.specs.Executions.{IsConforming}
 use Rattle.pod_build.specs.declared.error.BuildError.{BuildError}
 use Rattle.pod_build.specs.declared.error.BuildError.TheVariants as build
-use Rattle.pod_build.specs.Causes.{IsRefused}
+use Rattle.pod_build.specs.Causes.{IsBuildRefused}
 use Rattle.pod_build.proofs.Lawful.{never_refused}
 use Rattle.pod_locks.specs.declared.claim_error.ClaimError.{ClaimError}
 use Rattle.pod_locks.specs.declared.claim_error.ClaimError.TheVariants as claim
@@ -21,22 +21,22 @@ use Rattle.stage1.specs.declared.error.RunError.TheVariants as run
 use Rattle.tree_digest.specs.declared.listing_error.ListingError.{ListingError}
 use Rattle.tree_digest.specs.declared.listing_error.ListingError.TheVariants as listing
 use Rattle.command_outcomes.specs.declared.refusal.Refusal.TheVariants.{Stray}
-use Rattle.command_outcomes.specs.Conforming.{shown_at}
+use Rattle.command_outcomes.specs.Conforming.{dir_at_moment}
 use Rattle.command_outcomes.specs.Moments.{DirSeen}
 use Rattle.commands.specs.Prepare.{RefusesPod}
-use Rattle.commands.specs.PrepareRefusals.{build_refusal}
+use Rattle.commands.specs.PrepareRefusals.{refusal_of_build}
 use Rattle.commands.specs.References.{OfReferences}
 use Rattle.commands.specs.RunRefusals.{claim_refusal, run_refusal}
 use Rattle.commands.specs.Strays.{NeverComes}
 use Rattle.commands.specs.Wants.{Wants}
 
-pub build_stray : (words : List (List ℕ)) (e : BuildError) → Stray ≡ build_refusal words e → e ≡ build.Stray
+pub build_stray : (words : List (List ℕ)) (e : BuildError) → Stray ≡ refusal_of_build words e → e ≡ build.Stray
 build_stray words (build.Busy area) is = cc
 build_stray words (build.Damaged path) is = cc
 build_stray words (build.NoMatch place) is = cc
 build_stray words (build.DepError fault) is = by fault is
   where
-    by : (fault : DepError) → Stray ≡ build_refusal words (build.DepError fault) → build.DepError fault ≡ build.Stray
+    by : (fault : DepError) → Stray ≡ refusal_of_build words (build.DepError fault) → build.DepError fault ≡ build.Stray
     by (dep.NoDependency name) is = cc
     by (dep.Cycle key) is = cc
     by dep.TooDeep is = cc
@@ -44,7 +44,7 @@ build_stray words (build.DepError fault) is = by fault is
     by dep.NoMemory is = cc
 build_stray words (build.GenError refusal) is = by refusal is
   where
-    by : (refusal : GenError) → Stray ≡ build_refusal words (build.GenError refusal) → build.GenError refusal ≡ build.Stray
+    by : (refusal : GenError) → Stray ≡ refusal_of_build words (build.GenError refusal) → build.GenError refusal ≡ build.Stray
     by gen.TooManyApps is = cc
     by (gen.NoApp name) is = cc
     by (gen.NoExec name) is = cc
@@ -53,12 +53,12 @@ build_stray words (build.GenError refusal) is = by refusal is
     by gen.NoMemory is = cc
 build_stray words (build.RenderError refusal) is = by refusal is
   where
-    by : (refusal : RenderError) → Stray ≡ build_refusal words (build.RenderError refusal) → build.RenderError refusal ≡ build.Stray
+    by : (refusal : RenderError) → Stray ≡ refusal_of_build words (build.RenderError refusal) → build.RenderError refusal ≡ build.Stray
     by render.TooManyEntries is = cc
     by render.NoMemory is = cc
 build_stray words (build.ListingError refusal) is = by refusal is
   where
-    by : (refusal : ListingError) → Stray ≡ build_refusal words (build.ListingError refusal) → build.ListingError refusal ≡ build.Stray
+    by : (refusal : ListingError) → Stray ≡ refusal_of_build words (build.ListingError refusal) → build.ListingError refusal ≡ build.Stray
     by (listing.TooMany limit) is = cc
     by (listing.BadLine n) is = cc
     by (listing.NotSorted n) is = cc
@@ -90,9 +90,9 @@ run_stray pod run.Stray is = refl
 
 -- a pod isn't made for a stray answer
 module _ (now : ℕ) (draw : Draw) where
-  pub built : (wants : Wants) (error : BuildError) {a b : DirAt} → OfReferences wants.images (λ refs. IsRefused true refs wants.wishes draw now error a b) → error ≡ build.Stray → IsConforming b.trace → ⊥
-  built wants error {a} {b} cause same part = never_refused draw (subst (λ (e : BuildError). IsRefused true cause.0 wants.wishes draw now e a b) same cause.2) refl part
+  pub built : (wants : Wants) (error : BuildError) {a b : DirAt} → OfReferences wants.images (λ refs. IsBuildRefused true refs wants.wishes draw now error a b) → error ≡ build.Stray → IsConforming b.trace → ⊥
+  built wants error {a} {b} cause same part = never_refused draw (subst (λ (e : BuildError). IsBuildRefused true cause.0 wants.wishes draw now e a b) same cause.2) refl part
 
   pub pod_never : (wants : Wants) (old new : DirSeen) → RefusesPod wants now draw old new Stray → old.observed ≡ true → NeverComes new.trace
-  pod_never wants old new r told conforming = built wants r.error (subst (λ (b : Bool). OfReferences wants.images (λ refs. IsRefused b refs wants.wishes draw now r.error (shown_at old) (shown_at new))) told r.cause)
+  pod_never wants old new r told conforming = built wants r.error (subst (λ (b : Bool). OfReferences wants.images (λ refs. IsBuildRefused b refs wants.wishes draw now r.error (dir_at_moment old) (dir_at_moment new))) told r.cause)
       (build_stray wants.images r.error r.is) conforming

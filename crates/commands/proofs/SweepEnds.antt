@@ -2,6 +2,8 @@
 use Rattle.std.proofs.Common.{◌≡◌, ◌⊎◌, inl, inr, ℕ, Bool, true, false, not, ◌&&◌, ◌||◌, ◌==◌, cond, bytes_eq, Option, Some, None, List, [], ◌∷◌, ◌++◌, map, append-nil, refl, sym, ap, subst, ◌∙◌, append_assoc}
 use Rattle.std.specs.List.{list_any, cons_option, AllByRecursion}
 use Rattle.std.proofs.lemmas.Slice.Eq.{bytes_eq-Decides}
+use Rattle.std.proofs.lemmas.Bool.{or_left}
+use Rattle.plain_laws.proofs.Booleans.{or_nothing}
 use Rattle.dir_model.specs.declared.area.Area.{Area}
 use Rattle.dir_model.specs.declared.area.Area.TheVariants.{Incoming, Removed}
 use Rattle.dir_model.specs.declared.event.Event.{Event}
@@ -18,25 +20,25 @@ use Rattle.dir_model.specs.Trees.{names_in}
 use Rattle.dir_model.specs.Listings.{has_name}
 use Rattle.dir_model.specs.Calls.{event, is_finish, is_foreign, is_kill, IsRun, Extends, CallStep}
 use Rattle.dir_model.specs.Quiet.{Quiet}
-use Rattle.dir_model.proofs.Lists.{or_last, all_left, all_right, all_map, same_rest, same_self}
+use Rattle.dir_model.proofs.Lists.{or_last, all_left, all_right, all_map, same_rest, same_self, and_right}
 use Rattle.dir_model.proofs.Chains.{states_next-append, and_more, extends_wider, run-left}
 use Rattle.dir_model.proofs.Moments.{at_within}
 use Rattle.dir_rules.specs.Standing.{is_in}
 use Rattle.dir_laws.specs.Stretches.{Throughout, StandsInArea}
 use Rattle.dir_files.specs.Listed.{ShowsArea}
-use Rattle.dir_files.specs.AreaLocks.{takes, is_against, IsBusyElsewhere}
-use Rattle.folder_removal.specs.Removal.{deletes_at}
+use Rattle.dir_files.specs.AreaLocks.{is_taking_area, is_against, IsBusyElsewhere}
+use Rattle.folder_removal.specs.Removal.{asks_deletion_at}
 use Rattle.image_removal.specs.declared.pass.SweepLine.{SweepLine}
-use Rattle.image_removal.specs.Calls.{Called}
+use Rattle.image_removal.specs.Calls.{WasCalled}
 use Rattle.image_removal.specs.Passes.{is_close, is_uuid, uuids}
-use Rattle.image_removal.specs.Requests.{incoming_spot, removed_spot, moves, lists, sweeps}
+use Rattle.image_removal.specs.Requests.{incoming_spot, removed_spot, moves_folder, lists_store_area, sweeps_store}
 use Rattle.image_removal.specs.Sweeps.{WasLocked}
 use Rattle.command_outcomes.specs.Meanwhile.{Meanwhile}
-use Rattle.commands.specs.ImageGc.{Sweeps}
-use Rattle.commands.proofs.PlacesKept.{same_folders}
-use Rattle.commands.proofs.OwnSteps.{in_process}
+use Rattle.commands.specs.ImageGc.{SweepsImages}
+use Rattle.commands.proofs.OwnSteps.{in_process, same_folders}
 use Rattle.commands.proofs.RemovalQuiet.{held_before}
-use Rattle.commands.proofs.RemovalEnds.{NoneAt, absent_at, after_move, after_removal, removal_keeps, or_false, Upto, upto_more, upto_call, kept_between, Leaves, folders_same}
+use Rattle.commands.proofs.RemovalEnds.{NoneAt, absent_at, after_move, after_removal, removal_keeps, Upto, upto_more, upto_call, kept_between}
+use Rattle.commands.proofs.GcQuiet.{Leaves, leaves_same}
 
 -- the folder of this name in the area
 abbrev pub place_in : Area → List ℕ → Spot
@@ -47,13 +49,13 @@ abbrev pub puts : List ℕ → Request
 puts name = MoveFolder (incoming_spot name) (removed_spot name)
 
 abbrev pub putting : List (List ℕ) → Request → Bool
-putting names request = list_any (λ name. moves (incoming_spot name) (removed_spot name) request) (uuids names)
+putting names request = list_any (λ name. moves_folder (incoming_spot name) (removed_spot name) request) (uuids names)
 
 abbrev deletes : List ℕ → Request
 deletes name = RemoveFolder (removed_spot name)
 
 abbrev deleting : List (List ℕ) → Request → Bool
-deleting names request = list_any (λ name. deletes_at (removed_spot name) request) (uuids names)
+deleting names request = list_any (λ name. asks_deletion_at (removed_spot name) request) (uuids names)
 
 -- a pass that took its area's lock, listed the area, dealt with each uuid that was shown, and gave the lock up
 pub record Dealt (area : Area) (deed : List ℕ → Request) (deals : List (List ℕ) → Request → Bool) (me : ℕ) (old new : List Event) : Type 0 where
@@ -61,10 +63,10 @@ pub record Dealt (area : Area) (deed : List ℕ → Request) (deals : List (List
   pub listed : List Event
   pub done : List Event
   pub names : List (List ℕ)
-  pub takes_lock : Extends (takes area Exclusive) me old locked
-  pub only_lists : Extends (lists area) me locked listed
+  pub takes_lock : Extends (is_taking_area area Exclusive) me old locked
+  pub only_lists : Extends (lists_store_area area) me locked listed
   pub shows : ShowsArea me locked listed area names
-  pub each : AllByRecursion (λ name. Called (deed name) Done me listed done) (uuids names)
+  pub each : AllByRecursion (λ name. WasCalled (deed name) Done me listed done) (uuids names)
   pub only : Extends (deals names) me listed done
   pub gives_back : Extends is_close me done new
 
@@ -99,20 +101,20 @@ found P name (n ∷ ns) all shown uuid = by (bytes_eq n name) (is_uuid n) refl r
     by false false same u all shown rest = rest all shown
 
 -- a listing leaves each folder where it is
-list_leaves : (area : Area) (request : Request) (reply : Reply) → (is_kill request || lists area request) ≡ true → (p : ℕ) (w : Namespace) → (namespace_replied w p request reply).folders ≡ w.folders
+list_leaves : (area : Area) (request : Request) (reply : Reply) → (is_kill request || lists_store_area area request) ≡ true → (p : ℕ) (w : Namespace) → (namespace_replied w p request reply).folders ≡ w.folders
 list_leaves area (MakeFolder here) reply h p w = cc
 list_leaves area (MoveFolder a b) reply h p w = cc
 list_leaves area (RemoveFolder gone) reply h p w = cc
 list_leaves area request reply h p w = same_folders p w request reply refl (λ handle. refl)
 
-lists_leave : (me : ℕ) (area : Area) (es : List Event) → AllByRecursion (λ e. e.process ≡ me) es → AllByRecursion (λ e. (is_foreign me e || lists area e.request) ≡ true) es → AllByRecursion Leaves es
+lists_leave : (me : ℕ) (area : Area) (es : List Event) → AllByRecursion (λ e. e.process ≡ me) es → AllByRecursion (λ e. (is_foreign me e || lists_store_area area e.request) ≡ true) es → AllByRecursion Leaves es
 lists_leave me area [] own asked = tt
 lists_leave me area (e ∷ es) own asked = (λ p w. list_leaves area e.request e.reply mine p w, lists_leave me area es own.1 asked.1)
   where
-    mine : (is_kill e.request || lists area e.request) ≡ true
+    mine : (is_kill e.request || lists_store_area area e.request) ≡ true
     mine =
-        ap (λ b. (not b || is_kill e.request) || lists area e.request) (sym (same_self me))
-        ∙ (ap (λ (q : ℕ). (not (q == me) || is_kill e.request) || lists area e.request) (sym own.0) ∙ asked.0)
+        ap (λ b. (not b || is_kill e.request) || lists_store_area area e.request) (sym (same_self me))
+        ∙ (ap (λ (q : ℕ). (not (q == me) || is_kill e.request) || lists_store_area area e.request) (sym own.0) ∙ asked.0)
 
 pub throughout_same : (area : Area) (name : List ℕ) (s : DirState) (es : List Event) → AllByRecursion Leaves es → StandsInArea area name s → Throughout (StandsInArea area name) s es
 throughout_same area name s [] leave at = at
@@ -175,18 +177,18 @@ module _ {area : Area} {deed : List ℕ → Request} {deals : List (List ℕ) �
       let later : AllByRecursion Leaves (t.others ++ last ∷ []) = all_right Leaves t.earlier (t.others ++ last ∷ []) (subst (λ (l : List Event). AllByRecursion Leaves l) parted leave) in
       let here : listed ≡ t.begun ++ (t.others ++ last ∷ []) = t.ends ∙ append_assoc t.begun t.others (last ∷ []) in
       let same : (state_after listed).namespace.folders ≡ (state_after t.begun).namespace.folders =
-      ap (λ (s : DirState). s.namespace.folders) (ap state_after here ∙ states_next-append empty_state t.begun (t.others ++ last ∷ [])) ∙ folders_same (state_after t.begun) (t.others ++ last ∷ []) later in
+      ap (λ (s : DirState). s.namespace.folders) (ap state_after here ∙ states_next-append empty_state t.begun (t.others ++ last ∷ [])) ∙ leaves_same (state_after t.begun) (t.others ++ last ∷ []) later in
       d.shows.all name (throughout_same area name (state_after t.begun) t.others (all_left Leaves t.others (last ∷ []) later) (subst (λ (fs : List (Option Spot)). has_name (names_in area fs) name ≡ true) same at))
 
   pub none_left : NoneAt (place_in area name) (state_after new).namespace.folders
   none_left = by (has_name (names_in area (state_after listed).namespace.folders) name) refl
     where
-      dealt : Called (deed name) Done me listed d.done → NoneAt (place_in area name) (state_after new).namespace.folders
+      dealt : WasCalled (deed name) Done me listed d.done → NoneAt (place_in area name) (state_after new).namespace.folders
       dealt c =
           kept c.after (upto_more listed c.before c.after (c.earlier, c.begins) (upto_call c.step)) (upto_more c.after d.done new (c.later, c.ends) rest) (after_deed c.before c.after c.step)
 
       by : (b : Bool) → has_name (names_in area (state_after listed).namespace.folders) name ≡ b → NoneAt (place_in area name) (state_after new).namespace.folders
-      by true at = dealt (found (λ n. Called (deed n) Done me listed d.done) name d.names d.each (shown at) uuid)
+      by true at = dealt (found (λ n. WasCalled (deed n) Done me listed d.done) name d.names d.each (shown at) uuid)
       by false at = kept listed (nothing_more listed) to_end (none_of (is_at (place_in area name)) (state_after listed).namespace.folders (sym (named_at area name (state_after listed).namespace.folders) ∙ at))
 
 -- a sweep moves nothing to incoming
@@ -201,13 +203,9 @@ moves_elsewhere name a b away folders none = all_map (λ x. is_at (incoming_spot
     by x at true = ap (λ c. c && bytes_eq b.name name) (not_incoming b.area away)
     by x at false = at
 
-and_second : (a b : Bool) → (a && b) ≡ true → b ≡ true
-and_second true b h = h
-and_second false b h = cc
-
-incoming_keeps : (name : List ℕ) → Keeps (in_process sweeps) (incoming_spot name)
+incoming_keeps : (name : List ℕ) → Keeps (in_process sweeps_store) (incoming_spot name)
 incoming_keeps name p w (MakeFolder here) reply h none = cc
-incoming_keeps name p w (MoveFolder a b) Done h none = moves_elsewhere name a b (and_second (is_in a.area Incoming) (is_in b.area Removed) (or_false (sweeps (MoveFolder a b)) h)) w.folders none
+incoming_keeps name p w (MoveFolder a b) Done h none = moves_elsewhere name a b (and_right (is_in a.area Incoming) (is_in b.area Removed) (or_nothing (sweeps_store (MoveFolder a b)) h)) w.folders none
 incoming_keeps name p w (MoveFolder a b) reply h none = none
 incoming_keeps name p w (RemoveFolder gone) Done h none = removal_keeps (incoming_spot name) gone w.folders none
 incoming_keeps name p w (RemoveFolder gone) reply h none = none
@@ -222,10 +220,10 @@ never [] = refl
 never (x ∷ xs) = never xs
 
 moves_never : (names : List (List ℕ)) (a b : Spot) → finishing names (MoveFolder a b) ≡ true → false ≡ true
-moves_never names a b h = sym (never (uuids names)) ∙ or_false (deleting names (MoveFolder a b)) h
+moves_never names a b h = sym (never (uuids names)) ∙ or_nothing (deleting names (MoveFolder a b)) h
 
 makes_never : (names : List (List ℕ)) (here : Spot) → finishing names (MakeFolder here) ≡ true → false ≡ true
-makes_never names here h = sym (never (uuids names)) ∙ or_false (deleting names (MakeFolder here)) h
+makes_never names here h = sym (never (uuids names)) ∙ or_nothing (deleting names (MakeFolder here)) h
 
 removed_keeps : (names : List (List ℕ)) (name : List ℕ) → Keeps (finishing names) (removed_spot name)
 removed_keeps names name p w (MakeFolder here) reply h none = let clash : false ≡ true = makes_never names here h in cc
@@ -233,10 +231,6 @@ removed_keeps names name p w (MoveFolder a b) reply h none = let clash : false �
 removed_keeps names name p w (RemoveFolder gone) Done h none = removal_keeps (removed_spot name) gone w.folders none
 removed_keeps names name p w (RemoveFolder gone) reply h none = none
 removed_keeps names name p w request reply h none = subst (λ (fs : List (Option Spot)). NoneAt (removed_spot name) fs) (sym (same_folders p w request reply refl (λ handle. refl))) none
-
-or_head : (a b : Bool) → a ≡ true → (a || b) ≡ true
-or_head true b h = refl
-or_head false b h = cc
 
 -- the passes, one after the other
 abbrev Pass : Area → (List ℕ → Request) → (List (List ℕ) → Request → Bool) → List SweepLine → ℕ → List Event → List Event → Type 0
@@ -264,7 +258,7 @@ extends_part {me} {asks} old a new ext x z =
       run = λ run. ext.run (run-left old x.0 (subst IsRun x.1 run));
     }
 
-module _ {me : ℕ} {old new : List Event} {lines : List SweepLine} (ext : Extends (in_process sweeps) me old new) (quiet : Quiet me old new) (m : Meanwhile (Sweeps lines) me old new) where
+module _ {me : ℕ} {old new : List Event} {lines : List SweepLine} (ext : Extends (in_process sweeps_store) me old new) (quiet : Quiet me old new) (m : Meanwhile (SweepsImages lines) me old new) where
   abbrev Left : Area → Type 0
   Left area =
       ((name : List ℕ) → is_uuid name ≡ true → folder_at (state_after new).namespace (record { area = area; name = name }) ≡ None)
@@ -325,7 +319,7 @@ module _ {me : ℕ} {old new : List Event} {lines : List SweepLine} (ext : Exten
       let rest : Upto d.done new = upto_more d.done between new (d.gives_back.more, d.gives_back.grown) from_between in
       let z : Upto d.listed new = upto_more d.listed d.done new (d.only.more, d.only.grown) rest in
       none_left name uuid m.begun between new d (quiet_part old d.locked new quiet x (upto_more d.locked d.listed new y z)) rest
-      (in_process sweeps) (extends_part old d.listed new ext (upto_more old d.locked d.listed x y) z) (incoming_keeps name)
+      (in_process sweeps_store) (extends_part old d.listed new ext (upto_more old d.locked d.listed x y) z) (incoming_keeps name)
       (λ before after step. after_move (incoming_spot name) (removed_spot name) refl step)
 
   pub incoming_left : Left Incoming
@@ -339,8 +333,8 @@ module _ {me : ℕ} {old new : List Event} {lines : List SweepLine} (ext : Exten
   finishes_so : (d : Dealt Removed deletes deleting me between m.ended) → Extends (finishing d.names) me d.listed new
   finishes_so d =
       let names = d.names in
-      let first : Extends (finishing names) me d.listed d.done = extends_wider (λ r h. or_head (deleting names r) (is_close r || is_finish r) h) d.only in
-      let second : Extends (finishing names) me d.done m.ended = extends_wider (λ r h. or_last (deleting names r) (is_close r || is_finish r) (or_head (is_close r) (is_finish r) h)) d.gives_back in
+      let first : Extends (finishing names) me d.listed d.done = extends_wider (λ r h. or_left (deleting names r) (is_close r || is_finish r) h) d.only in
+      let second : Extends (finishing names) me d.done m.ended = extends_wider (λ r h. or_last (deleting names r) (is_close r || is_finish r) (or_left (is_close r) (is_finish r) h)) d.gives_back in
       let third : Extends (finishing names) me m.ended new = extends_wider (λ r h. or_last (deleting names r) (is_close r || is_finish r) (or_last (is_close r) (is_finish r) h)) m.finishes in
       and_more (and_more first refl second) refl third
 

@@ -1,12 +1,13 @@
 -- Where nobody else steps, the lines of a sweep of the store are those of the state before.
-use Rattle.std.proofs.Common.{◌≡◌, inl, inr, ℕ, Bool, true, false, not, ◌&&◌, ◌||◌, ◌==◌, cond, bytes_eq, is_some, Less, Greater, Option, Some, None, List, [], ◌∷◌, ◌++◌, map, refl, sym, ap, subst, ◌∙◌, append_assoc, ◌+◌}
+use Rattle.std.proofs.Common.{◌≡◌, inl, inr, ℕ, Bool, true, false, not, ◌&&◌, ◌||◌, ◌==◌, cond, bytes_eq, is_some, Less, Option, Some, None, List, [], ◌∷◌, ◌++◌, map, refl, sym, ap, subst, ◌∙◌, append_assoc, ◌+◌}
 use Rattle.std.specs.List.{list_any, position_from, AllByRecursion}
 use Rattle.std.proofs.lemmas.Iterator.Adapters.{position_from-zero}
 use Rattle.std.specs.List.Sorted.{IsStrictlySortedBy}
-use Rattle.std.specs.Ordering.{nat_cmp, ordering_reverse}
+use Rattle.std.specs.Ordering.{nat_cmp}
 use Rattle.std.specs.Cmp.Lexicographic.{slice_cmp}
-use Rattle.std.proofs.lemmas.Cmp.{nat_list_cmp_total}
 use Rattle.std.proofs.lemmas.Slice.Eq.{bytes_eq-Decides}
+use Rattle.plain_laws.proofs.Texts.{same_bytes, none_below}
+use Rattle.plain_laws.proofs.Booleans.{same_test}
 use Rattle.dir_model.specs.declared.area.Area.{Area}
 use Rattle.dir_model.specs.declared.area.Area.TheVariants.{Incoming, Removed}
 use Rattle.dir_model.specs.declared.event.Event.{Event}
@@ -27,23 +28,24 @@ use Rattle.dir_model.proofs.Chains.{states_next-append, and_more, extends_wider}
 use Rattle.dir_model.proofs.Moments.{at_within}
 use Rattle.dir_laws.specs.Stretches.{Sometime, StandsInArea}
 use Rattle.dir_files.specs.Listed.{ShowsArea}
-use Rattle.dir_files.specs.AreaLocks.{takes, is_against, IsBusyElsewhere, IsFreeElsewhere}
+use Rattle.dir_files.specs.AreaLocks.{is_taking_area, is_against, IsBusyElsewhere, IsFreeElsewhere}
 use Rattle.folder_contents.proofs.Spots.{one_location}
 use Rattle.image_removal.specs.declared.pass.Pass.{Pass}
 use Rattle.image_removal.specs.declared.pass.Pass.TheVariants.{PutAway, Delete}
 use Rattle.image_removal.specs.declared.pass.SweepLine.{SweepLine}
-use Rattle.image_removal.specs.Passes.{area_of, line_of, is_close, is_uuid, uuids}
-use Rattle.image_removal.specs.Requests.{incoming_spot, removed_spot, lists, sweeps}
+use Rattle.image_removal.specs.Passes.{area_of_pass, line_of, is_close, is_uuid, uuids}
+use Rattle.image_removal.specs.Requests.{incoming_spot, removed_spot, lists_store_area, sweeps_store}
 use Rattle.image_removal.specs.Sweeps.{SweepsUnder, UnderLock, WasLocked}
 use Rattle.command_outcomes.specs.Meanwhile.{Meanwhile}
-use Rattle.commands.specs.ImageGc.{Sweeps, PrintsSweep, sweep_texts}
-use Rattle.commands.specs.SweepTable.{is_barred, meets, ArePassLines, BarredOr, IsPassOf, AreSweepLines}
-use Rattle.commands.proofs.PlacesKept.{same_folders}
-use Rattle.commands.proofs.OwnSteps.{in_process}
+use Rattle.commands.specs.ImageGc.{SweepsImages, PrintsSweepOfState, sweep_texts}
+use Rattle.commands.specs.SweepTable.{is_barred, meets, AreImagePassLines, BarredOr, IsImagePassOf, AreSweepLines}
+use Rattle.commands.proofs.OwnSteps.{in_process, same_folders}
 use Rattle.commands.proofs.Openings.{free_before}
 use Rattle.commands.proofs.RemovalQuiet.{held_before}
-use Rattle.commands.proofs.RemovalEnds.{NoneAt, after_move, Upto, upto_more, kept_between, Leaves, folders_same}
+use Rattle.commands.proofs.RemovalEnds.{NoneAt, after_move, Upto, upto_more, kept_between}
 use Rattle.commands.proofs.SweepEnds.{place_in, putting, Dealt, named_at, none_of, throughout_same, nothing_more, none_left, moves_elsewhere, puts, never, upto_passed, first_pass, to_between, from_between}
+use Rattle.commands.proofs.GcQuiet.{Leaves, leaves_same}
+use Rattle.commands.proofs.GcTurn.{later_all}
 
 -- names
 
@@ -82,9 +84,6 @@ uuids_rise (n ∷ ns) rise = by (is_uuid n) (uuids_rise ns rise.1)
 
 -- names that rise are one list by what is among them
 
-same_name : (n : List ℕ) → bytes_eq n n ≡ true
-same_name n = (bytes_eq-Decides n n).1 refl
-
 below_all : (n z : List ℕ) (ns : List (List ℕ)) → AllByRecursion (λ (y : List ℕ). slice_cmp nat_cmp n y ≡ Less) ns → has_name ns z ≡ true → slice_cmp nat_cmp n z ≡ Less
 below_all n z [] all there = cc
 below_all n z (y ∷ ys) all there = by (bytes_eq y z) refl there (λ rest. below_all n z ys all.1 rest)
@@ -93,15 +92,12 @@ below_all n z (y ∷ ys) all there = by (bytes_eq y z) refl there (λ rest. belo
     by true is there rest = subst (λ (x : List ℕ). slice_cmp nat_cmp n x ≡ Less) ((bytes_eq-Decides y z).0 is) all.0
     by false is there rest = rest there
 
-none_below : (a b : List ℕ) → slice_cmp nat_cmp a b ≡ Less → slice_cmp nat_cmp b a ≡ Less → ⊥
-none_below a b x y = let e : Less ≡ Greater = sym x ∙ (nat_list_cmp_total.antisymm a b ∙ ap ordering_reverse y) in cc
-
 abbrev SameNames : List (List ℕ) → List (List ℕ) → Type 0
 SameNames xs ys = (name : List ℕ) → has_name xs name ≡ has_name ys name
 
 heads_same : (x y : List ℕ) (xs ys : List (List ℕ)) → AllByRecursion (λ (z : List ℕ). slice_cmp nat_cmp x z ≡ Less) xs → AllByRecursion (λ (z : List ℕ). slice_cmp nat_cmp y z ≡ Less) ys → SameNames (x ∷ xs) (y ∷ ys) → x ≡ y
 heads_same x y xs ys above beyond same = by (bytes_eq y x) refl (bytes_eq x y) refl
-    (sym (same x) ∙ ap (λ b. b || has_name xs x) (same_name x)) (same y ∙ ap (λ b. b || has_name ys y) (same_name y))
+    (sym (same x) ∙ ap (λ b. b || has_name xs x) (same_bytes x)) (same y ∙ ap (λ b. b || has_name ys y) (same_bytes y))
   where
     by : (b : Bool) → bytes_eq y x ≡ b → (c : Bool) → bytes_eq x y ≡ c → (bytes_eq y x || has_name ys x) ≡ true → (bytes_eq x y || has_name xs y) ≡ true → x ≡ y
     by true is c other first second = sym ((bytes_eq-Decides y x).0 is)
@@ -109,18 +105,11 @@ heads_same x y xs ys above beyond same = by (bytes_eq y x) refl (bytes_eq x y) r
     by false is false other first second =
         absurd (none_below x y (below_all x y xs above (sym (ap (λ b. b || has_name xs y) other) ∙ second)) (below_all y x ys beyond (sym (ap (λ b. b || has_name ys x) is) ∙ first)))
 
-not_above : (x : List ℕ) (xs : List (List ℕ)) → AllByRecursion (λ (z : List ℕ). slice_cmp nat_cmp x z ≡ Less) xs → has_name xs x ≡ false
-not_above x xs above = by (has_name xs x) refl
-  where
-    by : (b : Bool) → has_name xs x ≡ b → has_name xs x ≡ false
-    by true is = let self = below_all x x xs above is in absurd (none_below x x self self)
-    by false is = is
-
 one_list : (xs ys : List (List ℕ)) → IsStrictlySortedBy (slice_cmp nat_cmp) xs → IsStrictlySortedBy (slice_cmp nat_cmp) ys → SameNames xs ys → xs ≡ ys
 unfolding IsStrictlySortedBy
 one_list [] [] first second same = refl
-one_list [] (y ∷ ys) first second same = let e : false ≡ true = same y ∙ ap (λ b. b || has_name ys y) (same_name y) in cc
-one_list (x ∷ xs) [] first second same = let e : true ≡ false = sym (ap (λ b. b || has_name xs x) (same_name x)) ∙ same x in cc
+one_list [] (y ∷ ys) first second same = let e : false ≡ true = same y ∙ ap (λ b. b || has_name ys y) (same_bytes y) in cc
+one_list (x ∷ xs) [] first second same = let e : true ≡ false = sym (ap (λ b. b || has_name xs x) (same_bytes x)) ∙ same x in cc
 one_list (x ∷ xs) (y ∷ ys) first second same =
     let head = heads_same x y xs ys first.0 second.0 same in
     ap (λ (n : List ℕ). n ∷ xs) head ∙ ap (λ (l : List (List ℕ)). y ∷ l) (one_list xs ys first.1 second.1 (λ name. rest name head))
@@ -131,17 +120,17 @@ one_list (x ∷ xs) (y ∷ ys) first second same =
         by : (b : Bool) → bytes_eq x name ≡ b → has_name xs name ≡ has_name ys name
         by true is =
             let one = (bytes_eq-Decides x name).0 is in
-            subst (λ (n : List ℕ). has_name xs n ≡ false) one (not_above x xs first.0)
-            ∙ sym (subst (λ (n : List ℕ). has_name ys n ≡ false) (sym head ∙ one) (not_above y ys second.0))
+            subst (λ (n : List ℕ). has_name xs n ≡ false) one (later_all x xs first.0)
+            ∙ sym (subst (λ (n : List ℕ). has_name ys n ≡ false) (sym head ∙ one) (later_all y ys second.0))
         by false is =
             ap (λ c. c || has_name xs name) (sym is) ∙ (same name ∙ ap (λ c. c || has_name ys name) (ap (λ (n : List ℕ). bytes_eq n name) (sym head) ∙ is))
 
 -- the lines of one state are one list
 
-pass_once : (pass : Pass) (meeting : List ℕ → Bool) (xs ys : List SweepLine) → ArePassLines pass meeting xs → ArePassLines pass meeting ys → xs ≡ ys
+pass_once : (pass : Pass) (meeting : List ℕ → Bool) (xs ys : List SweepLine) → AreImagePassLines pass meeting xs → AreImagePassLines pass meeting ys → xs ≡ ys
 pass_once pass meeting xs ys x y = x.are ∙ (ap (map (line_of pass)) (one_list x.names y.names x.rise y.rise (λ name. x.each name ∙ sym (y.each name))) ∙ sym y.are)
 
-barred_once : (b : Bool) (pass : Pass) (meeting : List ℕ → Bool) (xs ys : List SweepLine) → BarredOr b pass xs (ArePassLines pass meeting xs) → BarredOr b pass ys (ArePassLines pass meeting ys) → xs ≡ ys
+barred_once : (b : Bool) (pass : Pass) (meeting : List ℕ → Bool) (xs ys : List SweepLine) → BarredOr b pass xs (AreImagePassLines pass meeting xs) → BarredOr b pass ys (AreImagePassLines pass meeting ys) → xs ≡ ys
 barred_once true pass meeting xs ys x y = x ∙ sym y
 barred_once false pass meeting xs ys x y = pass_once pass meeting xs ys x y
 
@@ -178,11 +167,6 @@ sometime_same area name s [] leave at = at
 sometime_same area name s (e ∷ es) leave (inl at) = at
 sometime_same area name s (e ∷ es) leave (inr later) = subst (λ (fs : List (Option Spot)). has_name (names_in area fs) name ≡ true) (leave.0 e.process s.namespace) (sometime_same area name (state_next s e) es leave.1 later)
 
-either_way : (a b : Bool) → (a ≡ true → b ≡ true) → (b ≡ true → a ≡ true) → a ≡ b
-either_way true b f g = sym (f refl)
-either_way false true f g = g refl
-either_way false false f g = refl
-
 listed_exactly : {me : ℕ} {a b : List Event} {area : Area} {names : List (List ℕ)} (more : List Event) → b ≡ a ++ more → ShowsArea me a b area names → AllByRecursion Leaves more → (name : List ℕ) → has_name names name ≡ has_place (place_in area name) (state_after a).namespace.folders
 listed_exactly {me} {a} {b} {area} {names} more grown shows leave name =
     let t = shows.stretch in
@@ -192,8 +176,8 @@ listed_exactly {me} {a} {b} {area} {names} more grown shows leave name =
     let each : AllByRecursion Leaves (t.earlier ++ (t.others ++ last ∷ [])) = subst (λ (l : List Event). AllByRecursion Leaves l) parted leave in
     let others : AllByRecursion Leaves t.others = all_left Leaves t.others (last ∷ []) (all_right Leaves t.earlier (t.others ++ last ∷ []) each) in
     let same : (state_after t.begun).namespace.folders ≡ (state_after a).namespace.folders =
-    ap (λ (s : DirState). s.namespace.folders) (ap state_after t.begins ∙ states_next-append empty_state a t.earlier) ∙ folders_same (state_after a) t.earlier (all_left Leaves t.earlier (t.others ++ last ∷ []) each) in
-    either_way (has_name names name) (has_name (names_in area (state_after t.begun).namespace.folders) name)
+    ap (λ (s : DirState). s.namespace.folders) (ap state_after t.begins ∙ states_next-append empty_state a t.earlier) ∙ leaves_same (state_after a) t.earlier (all_left Leaves t.earlier (t.others ++ last ∷ []) each) in
+    same_test (has_name names name) (has_name (names_in area (state_after t.begun).namespace.folders) name)
     (λ h. sometime_same area name (state_after t.begun) t.others others (shows.only name h)) (λ h. shows.all name (throughout_same area name (state_after t.begun) t.others others h))
     ∙ (ap (λ (fs : List (Option Spot)). has_name (names_in area fs) name) same ∙ named_at area name (state_after a).namespace.folders)
 
@@ -217,13 +201,13 @@ begin_idle (MoveFolder a b) h = cc
 begin_idle (RemoveFolder gone) h = cc
 begin_idle r h = refl
 
-takes_idle : (area : Area) (r : Request) → takes area Exclusive r ≡ true → is_idle r ≡ true
+takes_idle : (area : Area) (r : Request) → is_taking_area area Exclusive r ≡ true → is_idle r ≡ true
 takes_idle area (MakeFolder here) h = cc
 takes_idle area (MoveFolder a b) h = cc
 takes_idle area (RemoveFolder gone) h = cc
 takes_idle area r h = refl
 
-lists_idle : (area : Area) (r : Request) → lists area r ≡ true → is_idle r ≡ true
+lists_idle : (area : Area) (r : Request) → lists_store_area area r ≡ true → is_idle r ≡ true
 lists_idle area (MakeFolder here) h = cc
 lists_idle area (MoveFolder a b) h = cc
 lists_idle area (RemoveFolder gone) h = cc
@@ -311,7 +295,7 @@ place_kept name n (x ∷ xs) at = by x (is_at (removed_spot name) x) refl at (λ
   where
     stays : (y : Option Spot) → is_at (removed_spot name) y ≡ true → is_at (removed_spot name) (put n y) ≡ true
     stays None h = cc
-    stays (Some here) h = subst (λ (z : Spot). is_at (removed_spot name) (put n (Some z)) ≡ true) (sym (one_location here (removed_spot name) h)) (same_name name)
+    stays (Some here) h = subst (λ (z : Spot). is_at (removed_spot name) (put n (Some z)) ≡ true) (sym (one_location here (removed_spot name) h)) (same_bytes name)
 
     by : (y : Option Spot) (b : Bool) → is_at (removed_spot name) y ≡ b → (b || has_place (removed_spot name) xs) ≡ true → (has_place (removed_spot name) xs ≡ true → has_place (removed_spot name) (map (moved (incoming_spot n) (removed_spot n)) xs) ≡ true) →
         (is_at (removed_spot name) (put n y) || has_place (removed_spot name) (map (moved (incoming_spot n) (removed_spot n)) xs)) ≡ true
@@ -336,15 +320,15 @@ either_kept name n (x ∷ xs) at = by x (is_at (incoming_spot name) x) refl (is_
 
     in_removed : (y : Option Spot) → is_at (removed_spot name) y ≡ true → is_either name (put n y) ≡ true
     in_removed None h = cc
-    in_removed (Some here) h = subst (λ (z : Spot). is_either name (put n (Some z)) ≡ true) (sym (one_location here (removed_spot name) h)) (same_name name)
+    in_removed (Some here) h = subst (λ (z : Spot). is_either name (put n (Some z)) ≡ true) (sym (one_location here (removed_spot name) h)) (same_bytes name)
 
     in_incoming : (y : Option Spot) → is_at (incoming_spot name) y ≡ true → is_either name (put n y) ≡ true
     in_incoming None h = cc
     in_incoming (Some here) h = subst (λ (z : Spot). is_either name (put n (Some z)) ≡ true) (sym (one_location here (incoming_spot name) h)) (went (bytes_eq name n) refl)
       where
         went : (b : Bool) → bytes_eq name n ≡ b → is_either name (cond b (Some (removed_spot n)) (Some (incoming_spot name))) ≡ true
-        went true is = ap (λ (k : List ℕ). bytes_eq k name) (sym ((bytes_eq-Decides name n).0 is)) ∙ same_name name
-        went false is = ap (λ c. c || false) (same_name name)
+        went true is = ap (λ (k : List ℕ). bytes_eq k name) (sym ((bytes_eq-Decides name n).0 is)) ∙ same_bytes name
+        went false is = ap (λ c. c || false) (same_bytes name)
 
     by : (y : Option Spot) (b : Bool) → is_at (incoming_spot name) y ≡ b → (c : Bool) → is_at (removed_spot name) y ≡ c → ((b || c) || list_any (is_either name) xs) ≡ true → (IsEither name xs → IsEither name (map (moved (incoming_spot n) (removed_spot n)) xs)) →
         (is_either name (put n y) || list_any (is_either name) (map (moved (incoming_spot n) (removed_spot n)) xs)) ≡ true
@@ -389,7 +373,7 @@ met : (u x r i free : Bool) → (u ≡ true → x ≡ (r || (free && i))) → (u
 met true x r i free is = is refl
 met false x r i free is = sym (and_false free)
 
-module _ {me : ℕ} {old new : List Event} {lines : List SweepLine} (ext : Extends (in_process sweeps) me old new) (quiet : Quiet me old new) (m : Meanwhile (Sweeps lines) me old new) where
+module _ {me : ℕ} {old new : List Event} {lines : List SweepLine} (ext : Extends (in_process sweeps_store) me old new) (quiet : Quiet me old new) (m : Meanwhile (SweepsImages lines) me old new) where
   abbrev s : DirState
   s = state_after old
 
@@ -412,7 +396,7 @@ module _ {me : ℕ} {old new : List Event} {lines : List SweepLine} (ext : Exten
   held_then area at x z = held_before (is_against area Exclusive) (at_within {P = IsBusyElsewhere me area Exclusive} x.0 z.0 x.1 z.1 at) quiet
 
   -- what a pass lists is what stood there when it began, and it knows that nobody else had the lock
-  module _ (pass : Pass) (own : List SweepLine) (a b : List Event) (u : UnderLock (area_of pass) (SweepsUnder pass own) me a b) (to_a : Upto old a) (to_new : Upto b new) where
+  module _ (pass : Pass) (own : List SweepLine) (a b : List Event) (u : UnderLock (area_of_pass pass) (SweepsUnder pass own) me a b) (to_a : Upto old a) (to_new : Upto b new) where
     abbrev names : List (List ℕ)
     names = u.under.names
 
@@ -450,13 +434,13 @@ module _ {me : ℕ} {old new : List Event} {lines : List SweepLine} (ext : Exten
     a_b = upto_more a u.locked b a_locked locked_b
 
     idle_list : Extends is_idle me u.locked listed
-    idle_list = extends_wider (lists_idle (area_of pass)) u.under.works.only_lists
+    idle_list = extends_wider (lists_idle (area_of_pass pass)) u.under.works.only_lists
 
     quiet_list : Quiet me u.locked listed
     quiet_list = quiet_within old u.locked listed new quiet to_locked locked_listed (upto_more listed b new listed_b to_new)
 
     idle_lock : Extends is_idle me a u.locked
-    idle_lock = extends_wider (takes_idle (area_of pass)) u.takes_lock
+    idle_lock = extends_wider (takes_idle (area_of_pass pass)) u.takes_lock
 
     same_locked : (state_after u.locked).namespace.folders ≡ (state_after a).namespace.folders
     same_locked = idle_folders a u.locked idle_lock (quiet_within old a u.locked new quiet to_a a_locked locked_new)
@@ -464,15 +448,15 @@ module _ {me : ℕ} {old new : List Event} {lines : List SweepLine} (ext : Exten
     pub same_listed : (state_after listed).namespace.folders ≡ (state_after a).namespace.folders
     same_listed = idle_folders u.locked listed idle_list quiet_list ∙ same_locked
 
-    pub is_shown : (name : List ℕ) → has_name names name ≡ has_place (place_in (area_of pass) name) (state_after a).namespace.folders
+    pub is_shown : (name : List ℕ) → has_name names name ≡ has_place (place_in (area_of_pass pass) name) (state_after a).namespace.folders
     is_shown name =
         listed_exactly idle_list.more idle_list.grown u.under.works.shows (idle_leave idle_list quiet_list) name
-        ∙ ap (has_place (place_in (area_of pass) name)) same_locked
+        ∙ ap (has_place (place_in (area_of_pass pass) name)) same_locked
 
     pub unbarred : is_barred me pass s ≡ false
-    unbarred = free_then (area_of pass) u.free to_a locked_new
+    unbarred = free_then (area_of_pass pass) u.free to_a locked_new
 
-    pub pass_lines : (meeting : List ℕ → Bool) → ((name : List ℕ) → (is_uuid name && has_place (place_in (area_of pass) name) (state_after a).namespace.folders) ≡ meeting name) → ArePassLines pass meeting own
+    pub pass_lines : (meeting : List ℕ → Bool) → ((name : List ℕ) → (is_uuid name && has_place (place_in (area_of_pass pass) name) (state_after a).namespace.folders) ≡ meeting name) → AreImagePassLines pass meeting own
     pass_lines meeting is = record {
       names = uuids names;
       are = u.under.lines_are;
@@ -494,7 +478,7 @@ module _ {me : ℕ} {old new : List Event} {lines : List SweepLine} (ext : Exten
   abbrev First : Type 0
   First = UnderLock Incoming (SweepsUnder PutAway m.so.moved) me m.begun between
 
-  first_lines : First → ArePassLines PutAway (meets me PutAway s) m.so.moved
+  first_lines : First → AreImagePassLines PutAway (meets me PutAway s) m.so.moved
   first_lines u = pass_lines PutAway m.so.moved m.begun between u to_begun (from_between ext quiet m) (meets me PutAway s)
       (λ name. ap (λ b. is_uuid name && b) (ap (has_place (incoming_spot name)) same_begun ∙ sym (stands_there s.namespace (incoming_spot name))))
 
@@ -569,10 +553,10 @@ module _ {me : ℕ} {old new : List Event} {lines : List SweepLine} (ext : Exten
   open_then : First → is_barred me PutAway s ≡ false
   open_then u = unbarred PutAway m.so.moved m.begun between u to_begun (from_between ext quiet m)
 
-  put_away : IsPassOf me s PutAway m.so.moved
+  put_away : IsImagePassOf me s PutAway m.so.moved
   put_away = elim m.so.puts_away [
-    | inl u ↦ subst (λ (b : Bool). BarredOr b PutAway m.so.moved (ArePassLines PutAway (meets me PutAway s) m.so.moved)) (sym (open_then u)) (first_lines u)
-    | inr w ↦ subst (λ (b : Bool). BarredOr b PutAway m.so.moved (ArePassLines PutAway (meets me PutAway s) m.so.moved)) (sym (barred w)) w.line_is
+    | inl u ↦ subst (λ (b : Bool). BarredOr b PutAway m.so.moved (AreImagePassLines PutAway (meets me PutAway s) m.so.moved)) (sym (open_then u)) (first_lines u)
+    | inr w ↦ subst (λ (b : Bool). BarredOr b PutAway m.so.moved (AreImagePassLines PutAway (meets me PutAway s) m.so.moved)) (sym (barred w)) w.line_is
   ]
 
   -- what stands in removed then
@@ -594,17 +578,17 @@ module _ {me : ℕ} {old new : List Event} {lines : List SweepLine} (ext : Exten
           or_none false = refl
       as_it_was false closed = cc
 
-  delete : IsPassOf me s Delete m.so.deleted
+  delete : IsImagePassOf me s Delete m.so.deleted
   delete = elim m.so.deletes [
-    | inl u ↦ subst (λ (b : Bool). BarredOr b Delete m.so.deleted (ArePassLines Delete (meets me Delete s) m.so.deleted))
+    | inl u ↦ subst (λ (b : Bool). BarredOr b Delete m.so.deleted (AreImagePassLines Delete (meets me Delete s) m.so.deleted))
         (sym (unbarred Delete m.so.deleted between m.ended u (to_between ext quiet m) to_end))
         (pass_lines Delete m.so.deleted between m.ended u (to_between ext quiet m) to_end (meets me Delete s)
         (λ name. met (is_uuid name) (has_place (removed_spot name) (state_after between).namespace.folders) (stands s.namespace (removed_spot name)) (stands s.namespace (incoming_spot name)) (not (is_barred me PutAway s)) (λ uuid. stands_then name uuid)))
-    | inr w ↦ subst (λ (b : Bool). BarredOr b Delete m.so.deleted (ArePassLines Delete (meets me Delete s) m.so.deleted)) (sym (held_then Removed w.busy (to_between ext quiet m) to_end)) w.line_is
+    | inr w ↦ subst (λ (b : Bool). BarredOr b Delete m.so.deleted (AreImagePassLines Delete (meets me Delete s) m.so.deleted)) (sym (held_then Removed w.busy (to_between ext quiet m) to_end)) w.line_is
   ]
 
   pub sweep_lines : AreSweepLines me s lines
   sweep_lines = record { moved = m.so.moved; deleted = m.so.deleted; are = m.so.lines_are; put_away = put_away; delete = delete }
 
-  pub prints_lines : (text : List ℕ) → text ≡ sweep_texts lines → PrintsSweep me s text
+  pub prints_lines : (text : List ℕ) → text ≡ sweep_texts lines → PrintsSweepOfState me s text
   prints_lines text is = record { lines = lines; is = is; are = sweep_lines; only = λ others are. lines_once me s others lines are sweep_lines }

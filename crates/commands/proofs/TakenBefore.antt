@@ -2,6 +2,7 @@
 -- pod twice. And nobody else held the lock of embryo before, where it was had.
 use Rattle.std.proofs.Common.{◌≡◌, ◌⊎◌, inl, inr, ℕ, Bool, true, false, not, ◌&&◌, ◌||◌, ◌==◌, cond, Option, Some, None, is_some, List, [], ◌∷◌, ◌++◌, append_assoc, append-nil, refl, sym, ap, subst, ◌∙◌}
 use Rattle.std.specs.List.{AllByRecursion}
+use Rattle.plain_laws.proofs.Booleans.{or_nothing}
 use Rattle.dir_model.specs.declared.area.Area.{Area}
 use Rattle.dir_model.specs.declared.area.Area.TheVariants as area
 use Rattle.dir_model.specs.declared.event.Event.{Event}
@@ -23,23 +24,23 @@ use Rattle.dir_model.specs.Trace.{namespace_replied, state_after, state_next, st
 use Rattle.dir_model.proofs.Chains.{state_after-push, states_next-append}
 use Rattle.dir_model.proofs.Lists.{and_left, and_right, same_self}
 use Rattle.dir_model.proofs.Moments.{some_number}
+use Rattle.dir_model.proofs.Spots.{spot_self}
 use Rattle.dir_rules.specs.declared.seen.Seen.{Seen}
 use Rattle.dir_rules.specs.declared.standing.Held.{Held}
 use Rattle.dir_rules.specs.declared.standing.Standing.{Standing}
-use Rattle.dir_rules.specs.Conforms.{Conforms, nothing_seen, saw, seen_after, seen_of, seen_replied}
-use Rattle.dir_rules.specs.LockRules.{may_ask, may_move_between}
-use Rattle.dir_rules.specs.Rules.{may_change}
+use Rattle.dir_rules.specs.Conforms.{Conforms, nothing_seen, seen_after_event, seen_after, seen_of, seen_replied}
+use Rattle.dir_rules.specs.LockRules.{lock_rules_allow, locks_allow_move}
+use Rattle.dir_rules.specs.Rules.{content_rules_allow}
 use Rattle.dir_rules.specs.Standing.{find_held, is_in, looked_by, standing_replied}
 use Rattle.dir_rules.proofs.Tied.{conforms-left, seen_after-append, was_allowed}
 use Rattle.dir_trait.specs.DirCalls.{DirAt, HeldBetween}
 use Rattle.dir_files.specs.AreaLocks.{IsFreeElsewhere, is_against}
-use Rattle.folder_building.proofs.Working.{at_spot}
 use Rattle.folder_contents.proofs.Spots.{one_location}
 use Rattle.impossible_replies.proofs.Refusals.{made_already}
 use Rattle.lifecycle.proofs.Makes.{made_by}
 use Rattle.lifecycle.proofs.Places.{made_elsewhere, moved_away, moved_elsewhere, none_stands}
 use Rattle.lifecycle.proofs.Handles.{none_refused, refused_if}
-use Rattle.pod_build.specs.MakingCauses.{AsksFolder, HasMadeFolder, WasTaken}
+use Rattle.pod_build.specs.MakingCauses.{AsksFolder, HasMadeFolder, DrawWasTaken}
 use Rattle.pod_build.specs.MakingRequests.{pod_at}
 use Rattle.commands.specs.Prepare.{prepares_pod}
 use Rattle.commands.specs.PrepareTable.{IsTaken, IsUntaken}
@@ -47,7 +48,6 @@ use Rattle.commands.specs.Run.{makes_and_runs}
 use Rattle.commands.proofs.OwnSteps.{asked_part, in_process, own_asked, own_part, same_folders}
 use Rattle.commands.proofs.Openings.{free_before}
 use Rattle.commands.proofs.Parts.{Part, held_wider}
-use Rattle.commands.proofs.RemovalQuiet.{or_false}
 
 -- what has been made stays so
 looked_made : (o : Option Held) (k : Standing) → k.made ≡ true → (looked_by o k).made ≡ true
@@ -75,28 +75,28 @@ still_made k request reply h = h
 
 made_along : (me : ℕ) (k : Seen) (es : List Event) → k.standing.made ≡ true → (seen_after me k es).standing.made ≡ true
 made_along me k [] h = h
-made_along me k (e ∷ es) h = made_along me (saw me k e) es (by (is_foreign me e))
+made_along me k (e ∷ es) h = made_along me (seen_after_event me k e) es (by (is_foreign me e))
   where
     by : (b : Bool) → (cond b k (seen_replied k e.request e.reply)).standing.made ≡ true
     by true = h
     by false = still_made k.standing e.request e.reply h
 
 -- its pod is in embryo only once it has made it
-stage_gated : (b x : Bool) (k : Standing) → (k.gated ≡ true → k.made ≡ true) → (cond b (record k { made = true; gated = x }) k).gated ≡ true → (cond b (record k { made = true; gated = x }) k).made ≡ true
+stage_gated : (b x : Bool) (k : Standing) → (k.embryo_under_lock ≡ true → k.made ≡ true) → (cond b (record k { made = true; embryo_under_lock = x }) k).embryo_under_lock ≡ true → (cond b (record k { made = true; embryo_under_lock = x }) k).made ≡ true
 stage_gated true x k h g = refl
 stage_gated false x k h g = h g
 
-looked_gated : (o : Option Held) (k : Standing) → (k.gated ≡ true → k.made ≡ true) → (looked_by o k).gated ≡ true → (looked_by o k).made ≡ true
+looked_gated : (o : Option Held) (k : Standing) → (k.embryo_under_lock ≡ true → k.made ≡ true) → (looked_by o k).embryo_under_lock ≡ true → (looked_by o k).made ≡ true
 looked_gated None k h g = h g
 looked_gated (Some held) k h g = h g
 
-still_gated : (k : Standing) (request : Request) (reply : Reply) → (k.gated ≡ true → k.made ≡ true) → (standing_replied k request reply).gated ≡ true → (standing_replied k request reply).made ≡ true
+still_gated : (k : Standing) (request : Request) (reply : Reply) → (k.embryo_under_lock ≡ true → k.made ≡ true) → (standing_replied k request reply).embryo_under_lock ≡ true → (standing_replied k request reply).made ≡ true
 still_gated k (Begin intent) Done h g = h g
 still_gated k (MakeFolder spot) Done h g = stage_gated (is_stage spot.area) _ k h g
-still_gated k (MoveFolder from to) Done h g = h (and_right _ k.gated g)
+still_gated k (MoveFolder from to) Done h g = h (and_right _ k.embryo_under_lock g)
 still_gated k (TryLock handle Shared) Done h g = looked_gated (find_held handle k) _ h g
 still_gated k (TryLock handle Exclusive) Done h g = h g
-still_gated k (Close handle) Done h g = h (and_right _ k.gated g)
+still_gated k (Close handle) Done h g = h (and_right _ k.embryo_under_lock g)
 still_gated k Finish Done h g = cc
 still_gated k request Done h g = h g
 still_gated k (Open spot which) (Opened handle) h g = h g
@@ -105,11 +105,11 @@ still_gated k request (Opened handle) h g = h g
 still_gated k request (Refused error left) h g = h g
 still_gated k request reply h g = h g
 
-gated_along : (me : ℕ) (k : Seen) (es : List Event) → (k.standing.gated ≡ true → k.standing.made ≡ true) → (seen_after me k es).standing.gated ≡ true → (seen_after me k es).standing.made ≡ true
+gated_along : (me : ℕ) (k : Seen) (es : List Event) → (k.standing.embryo_under_lock ≡ true → k.standing.made ≡ true) → (seen_after me k es).standing.embryo_under_lock ≡ true → (seen_after me k es).standing.made ≡ true
 gated_along me k [] h = h
-gated_along me k (e ∷ es) h = gated_along me (saw me k e) es (by (is_foreign me e))
+gated_along me k (e ∷ es) h = gated_along me (seen_after_event me k e) es (by (is_foreign me e))
   where
-    by : (b : Bool) → (cond b k (seen_replied k e.request e.reply)).standing.gated ≡ true → (cond b k (seen_replied k e.request e.reply)).standing.made ≡ true
+    by : (b : Bool) → (cond b k (seen_replied k e.request e.reply)).standing.embryo_under_lock ≡ true → (cond b k (seen_replied k e.request e.reply)).standing.made ≡ true
     by true = h
     by false = still_gated k.standing e.request e.reply h
 
@@ -165,11 +165,11 @@ module _ (draw : PodId) where
       ap is_some (ap (λ (fs : List (Option Spot)). folder_at (record n { folders = fs }) Here) (same_folders p n request reply refl (λ handle. refl))) ∙ there
 
   -- by what the process knew when it moved the folder, it had made it
-  had_made : (k : Standing) (from to : Spot) → spot_eq from Here ≡ true → is_in area.Prepare to.area ≡ true → may_ask k (MoveFolder from to) ≡ true → k.gated ≡ true
-  had_made k from to here prepare may = by to.area prepare (and_right _ _ (subst (λ (z : Spot). may_ask k (MoveFolder z to) ≡ true) (one_location from Here here) may))
+  had_made : (k : Standing) (from to : Spot) → spot_eq from Here ≡ true → is_in area.Prepare to.area ≡ true → lock_rules_allow k (MoveFolder from to) ≡ true → k.embryo_under_lock ≡ true
+  had_made k from to here prepare may = by to.area prepare (and_right _ _ (subst (λ (z : Spot). lock_rules_allow k (MoveFolder z to) ≡ true) (one_location from Here here) may))
     where
-      by : (a : Area) → is_in area.Prepare a ≡ true → may_move_between k (pod_text draw.bytes) area.Embryo a ≡ true → k.gated ≡ true
-      by area.Prepare is may = and_left k.gated _ (and_left _ _ may)
+      by : (a : Area) → is_in area.Prepare a ≡ true → locks_allow_move k (pod_text draw.bytes) area.Embryo a ≡ true → k.embryo_under_lock ≡ true
+      by area.Prepare is may = and_left k.embryo_under_lock _ (and_left _ _ may)
       by a is may = cc
 
   module _ (asks : Request → Bool) (out : (request : Request) → asks request ≡ true → MovesElsewhere draw request) (me : ℕ) where
@@ -179,7 +179,7 @@ module _ (draw : PodId) where
     out_of request h = tt
 
     -- an own step that made it is known
-    knows_made : (k : Seen) (e : Event) (new : Spot) → e.process ≡ me → e.request ≡ MakeFolder new → e.reply ≡ Done → spot_eq new Here ≡ true → (saw me k e).standing.made ≡ true
+    knows_made : (k : Seen) (e : Event) (new : Spot) → e.process ≡ me → e.request ≡ MakeFolder new → e.reply ≡ Done → spot_eq new Here ≡ true → (seen_after_event me k e).standing.made ≡ true
     knows_made k e new mine is done here =
         let foreign : is_foreign me e ≡ false =
         ap (λ (r : Request). not (e.process == me) || is_kill r) is ∙ (ap (λ (p : ℕ). not (p == me) || false) mine ∙ ap (λ b. not b || false) (same_self me)) in
@@ -192,8 +192,8 @@ module _ (draw : PodId) where
     back s k [] own asked none there = there
     back s k (e ∷ es) own asked none there =
         one_back e.process s.namespace e.request e.reply (out_of e.request (own_asked asks me e own.0 asked.0))
-        (λ new is done here. let clash : true ≡ false = sym (made_along me (saw me k e) es (knows_made k e new own.0 is done here)) ∙ none in cc)
-        (back (state_next s e) (saw me k e) es own.1 asked.1 none there)
+        (λ new is done here. let clash : true ≡ false = sym (made_along me (seen_after_event me k e) es (knows_made k e new own.0 is done here)) ∙ none in cc)
+        (back (state_next s e) (seen_after_event me k e) es own.1 asked.1 none there)
 
     -- its own making was refused, and was allowed
     refused_before : (old new h after later more : List Event) (left : ℕ) (spot : Spot) → Extends asks me old new → Quiet me old new → Conforms me new → spot_eq spot Here ≡ true →
@@ -206,7 +206,7 @@ module _ (draw : PodId) where
         and_right (lists_on (state_after h) me (MakeFolder spot)) _ (and_right (may_step (state_after h) me (MakeFolder spot)) _ took.allowed) in
         let there : Stood (state_after h).namespace = subst (λ (z : Spot). stands (state_after h).namespace z ≡ true) place (made_already (state_after h) me spot left told) in
         let mine : Conforms me (h ++ e ∷ []) = subst (λ (t : List Event). Conforms me t) took.grown (conforms-left me after later (subst (λ (t : List Event). Conforms me t) ends conforms)) in
-        let may = and_left (may_ask (seen_of me h).standing (MakeFolder spot)) (may_change (seen_of me h) (MakeFolder spot)) (was_allowed me h (MakeFolder spot) reply refl mine) in
+        let may = and_left (lock_rules_allow (seen_of me h).standing (MakeFolder spot)) (content_rules_allow (seen_of me h) (MakeFolder spot)) (was_allowed me h (MakeFolder spot) reply refl mine) in
         let first : (seen_of me h).standing.made ≡ false = (made_by (pod_text draw.bytes) (seen_of me h).standing spot (subst (λ (z : Spot). is_stage z.area ≡ true) (sym place) refl) may).first in
         let whole : new ≡ old ++ (more ++ e ∷ later) = ends ∙ (ap (λ (t : List Event). t ++ later) (took.grown ∙ ap (λ (t : List Event). t ++ e ∷ []) begins) ∙ simp append_assoc) in
         back (state_after old) (seen_of me old) more (own_part asks me old new ext quiet more (e ∷ later) whole) (asked_part asks me old new ext quiet more (e ∷ later) whole)
@@ -250,7 +250,7 @@ module _ (draw : PodId) where
     stood_before : (old new : List Event) → Extends asks me old new → Quiet me old new → Conforms me new → Asked (Refused Exists 0) old new → Stood (state_after old).namespace
     stood_before old new ext quiet conforms x =
         let y = step_of (λ late. let clash : false ≡ true = late in cc) x in
-        refused_before old new y.h y.after y.later y.more 0 Here ext quiet conforms (at_spot Here) y.begins y.took y.ends
+        refused_before old new y.h y.after y.later y.more 0 Here ext quiet conforms (spot_self Here) y.begins y.took y.ends
 
     -- the process hadn't made it
     abbrev Unmade : List Event → Type 0
@@ -275,10 +275,10 @@ module _ (draw : PodId) where
         gone : (from to : Spot) → e.request ≡ MoveFolder from to → e.reply ≡ Done → spot_eq from Here ≡ true → ⊥
         gone from to is done here =
             let same : e ≡ event me (MoveFolder from to) Done = ap (λ (p : ℕ). event p e.request e.reply) mine ∙ (ap (λ (r : Request). event me r e.reply) is ∙ ap (λ (q : Reply). event me (MoveFolder from to) q) done) in
-            let may = and_left (may_ask (seen_of me h).standing (MoveFolder from to)) (may_change (seen_of me h) (MoveFolder from to)) (was_allowed me h (MoveFolder from to) Done refl (subst (λ (x : Event). Conforms me (h ++ x ∷ [])) same conforms)) in
+            let may = and_left (lock_rules_allow (seen_of me h).standing (MoveFolder from to)) (content_rules_allow (seen_of me h) (MoveFolder from to)) (was_allowed me h (MoveFolder from to) Done refl (subst (λ (x : Event). Conforms me (h ++ x ∷ [])) same conforms)) in
             let moves = subst (λ (r : Request). MovesElsewhere draw r) is (out_of e.request (own_asked asks me e mine asked)) in
-            let gated = had_made (seen_of me h).standing from to here (moves.1 here) may in
-            let clash : true ≡ false = sym (gated_along me nothing_seen h (λ g. cc) gated) ∙ unmade_left h (e ∷ []) none in
+            let embryo_under_lock = had_made (seen_of me h).standing from to here (moves.1 here) may in
+            let clash : true ≡ false = sym (gated_along me nothing_seen h (λ g. cc) embryo_under_lock) ∙ unmade_left h (e ∷ []) none in
             cc
 
     on : (h es : List Event) → AllByRecursion (λ e. e.process ≡ me) es → AllByRecursion (λ e. (is_foreign me e || asks e.request) ≡ true) es → Conforms me (h ++ es) → Unmade (h ++ es) → Stood (state_after h).namespace → Stood (state_after (h ++ es)).namespace
@@ -311,7 +311,7 @@ module _ (draw : PodId) where
         mine = subst (λ (t : List Event). Conforms me t) y.took.grown (conforms-left me y.after y.later (subst (λ (t : List Event). Conforms me t) y.ends conforms))
 
         first : Unmade y.h
-        first = (made_by (pod_text draw.bytes) (seen_of me y.h).standing Here refl (and_left (may_ask (seen_of me y.h).standing (MakeFolder Here)) (may_change (seen_of me y.h) (MakeFolder Here)) (was_allowed me y.h (MakeFolder Here) Done refl mine))).first
+        first = (made_by (pod_text draw.bytes) (seen_of me y.h).standing Here refl (and_left (lock_rules_allow (seen_of me y.h).standing (MakeFolder Here)) (content_rules_allow (seen_of me y.h) (MakeFolder Here)) (was_allowed me y.h (MakeFolder Here) Done refl mine))).first
 
         whole : new ≡ old ++ (y.more ++ e ∷ y.later)
         whole = y.ends ∙ (ap (λ (t : List Event). t ++ y.later) (y.took.grown ∙ ap (λ (t : List Event). t ++ e ∷ []) y.begins) ∙ simp append_assoc)
@@ -338,7 +338,7 @@ module _ (draw : PodId) where
 
   -- what the making of the folder, in a part of a time, tells of the state before
   pub record EmbryoBefore (old new : DirAt) : Type 0 where
-    pub taken : (begun ended : DirAt) → Part old begun ended new → WasTaken draw begun ended → IsTaken draw (state_after old.trace)
+    pub taken : (begun ended : DirAt) → Part old begun ended new → DrawWasTaken draw begun ended → IsTaken draw (state_after old.trace)
     pub untaken : (begun ended : DirAt) → Part old begun ended new → HasMadeFolder draw begun ended → IsUntaken draw (state_after old.trace)
     pub free : (reply : Reply) (begun ended : DirAt) → Part old begun ended new → AsksFolder draw reply begun ended → IsFreeElsewhere old.process area.Embryo Shared (state_after old.trace)
 
@@ -360,7 +360,7 @@ module _ (draw : PodId) where
 
   pub prepare_elsewhere : (request : Request) → in_process (prepares_pod draw) request ≡ true → MovesElsewhere draw request
   prepare_elsewhere (MoveFolder from to) h =
-      by (spot_eq from Here) (spot_eq to (pod_at area.Prepare draw)) (spot_eq from (pod_at area.Prepare draw)) (spot_eq to (pod_at area.Prepared draw)) refl refl refl refl (or_false (prepares_pod draw (MoveFolder from to)) h)
+      by (spot_eq from Here) (spot_eq to (pod_at area.Prepare draw)) (spot_eq from (pod_at area.Prepare draw)) (spot_eq to (pod_at area.Prepared draw)) refl refl refl refl (or_nothing (prepares_pod draw (MoveFolder from to)) h)
     where
       by : (a b d g : Bool) → spot_eq from Here ≡ a → spot_eq to (pod_at area.Prepare draw) ≡ b → spot_eq from (pod_at area.Prepare draw) ≡ d → spot_eq to (pod_at area.Prepared draw) ≡ g → (((a && b) || ((d && g) || false)) || false) ≡ true
           → (spot_eq to Here ≡ false) × (spot_eq from Here ≡ true → is_in area.Prepare to.area ≡ true)
@@ -375,7 +375,7 @@ module _ (draw : PodId) where
 
   pub run_elsewhere : (request : Request) → in_process (makes_and_runs draw) request ≡ true → MovesElsewhere draw request
   run_elsewhere (MoveFolder from to) h =
-      by (spot_eq from Here) (spot_eq to (pod_at area.Prepare draw)) (spot_eq from (pod_at area.Prepare draw)) (spot_eq to (pod_at area.Run draw)) refl refl refl refl (or_false (makes_and_runs draw (MoveFolder from to)) h)
+      by (spot_eq from Here) (spot_eq to (pod_at area.Prepare draw)) (spot_eq from (pod_at area.Prepare draw)) (spot_eq to (pod_at area.Run draw)) refl refl refl refl (or_nothing (makes_and_runs draw (MoveFolder from to)) h)
     where
       by : (a b d g : Bool) → spot_eq from Here ≡ a → spot_eq to (pod_at area.Prepare draw) ≡ b → spot_eq from (pod_at area.Prepare draw) ≡ d → spot_eq to (pod_at area.Run draw) ≡ g → (((a && b) || ((d && g) || false)) || false) ≡ true
           → (spot_eq to Here ≡ false) × (spot_eq from Here ≡ true → is_in area.Prepare to.area ≡ true)
@@ -395,7 +395,7 @@ finish_allowed s request reply is kept = cc
 
 finish_kept : (me : ℕ) (s : Seen) (es : List Event) → AllByRecursion (λ e. (is_foreign me e || is_finish e.request) ≡ true) es → s.kept ≡ true → (seen_after me s es).kept ≡ true
 finish_kept me s [] asked kept = kept
-finish_kept me s (e ∷ es) asked kept = finish_kept me (saw me s e) es asked.1 (by (is_foreign me e) asked.0)
+finish_kept me s (e ∷ es) asked kept = finish_kept me (seen_after_event me s e) es asked.1 (by (is_foreign me e) asked.0)
   where
     by : (b : Bool) → (b || is_finish e.request) ≡ true → (cond b s (seen_replied s e.request e.reply)).kept ≡ true
     by true h = kept

@@ -8,12 +8,12 @@ use Rattle.pod_locks.specs.declared.owned.Owned.{Owned}
 use Rattle.stage1.specs.declared.end.AppEnd.{AppEnd}
 use Rattle.stage1.specs.declared.error.RunError.{RunError}
 use Rattle.stage1.specs.declared.error.RunError.TheVariants as run
-use Rattle.stage1.specs.Runs.{HasRun, IsRefusedRun, RefusedFor}
+use Rattle.stage1.specs.Runs.{HasRun, IsRefusedRun, RunRefusedFor}
 use Rattle.command_outcomes.specs.declared.refusal.Refusal.{Refusal}
 use Rattle.command_outcomes.specs.declared.refusal.Refusal.TheVariants.{DirFault, SpawnFault, NoMemory}
 use Rattle.command_outcomes.specs.declared.told.Told.{Told}
 use Rattle.command_outcomes.specs.Moments.{Answer}
-use Rattle.commands.specs.AppEnds.{told_of}
+use Rattle.commands.specs.AppEnds.{told_of_ends}
 use Rattle.commands.specs.RunRefusals.{run_refusal, IsRunSaid, apps_refusal}
 use Rattle.commands.specs.AppRuns.{RunSays}
 use Rattle.stage1.specs.declared.error.RunError.TheVariants.{Stray}
@@ -44,7 +44,7 @@ pub said_allowed : (pod : PodId) (e : RunError) (r : Refusal) → IsRunSaid pod 
 said_allowed pod e r (inl said) = subst (λ (x : Refusal). apps_refusal x ≡ true) (sym said) (run_allowed pod e)
 said_allowed pod e r (inr said) = subst (λ (x : Refusal). apps_refusal x ≡ true) (sym said) refl
 
-abbrev telling : Told → Answer
+abbrev pub telling : Told → Answer
 telling t = Ok t
 
 abbrev refusing : Refusal → Answer
@@ -69,13 +69,13 @@ telling_no_spawn t a (inr is) e = let f : IsErrOf (refusing NoMemory) SpawnFault
 module _ (seen observed : Bool) (owned : Owned) (address : List ℕ) (d d' : DirAt) (s s' : SpawnerAt) where
   -- the faults
   pub run_cause : (e : RunError) (r : Refusal) → IsRunSaid owned.pod e r → r ≡ DirFault → IsRefusedRun seen observed owned.pod address e d d' s s' → Rose d.faults d'.faults
-  run_cause e r said is x = subst (λ (e : RunError). RefusedFor seen owned.pod e d d' s s') (said_fault owned.pod e r said is) x.cause
+  run_cause e r said is x = subst (λ (e : RunError). RunRefusedFor seen owned.pod e d d' s s') (said_fault owned.pod e r said is) x.cause
 
   pub spawn_cause : (e : RunError) (r : Refusal) → IsRunSaid owned.pod e r → r ≡ SpawnFault → IsRefusedRun seen observed owned.pod address e d d' s s' → Rose s.faults s'.faults
-  spawn_cause e r said is x = subst (λ (e : RunError). RefusedFor seen owned.pod e d d' s s') (said_spawn owned.pod e r said is) x.cause
+  spawn_cause e r said is x = subst (λ (e : RunError). RunRefusedFor seen owned.pod e d d' s s') (said_spawn owned.pod e r said is) x.cause
 
   -- what was told
-  pub ran_says : (front : List ℕ) (ends : List AppEnd) (a : Answer) → IsTelling (told_of front ends) a → HasRun seen observed owned.pod owned.own address ends d d' s s' → RunSays seen observed owned address front d d' s s' a
+  pub ran_says : (front : List ℕ) (ends : List AppEnd) (a : Answer) → IsTelling (told_of_ends front ends) a → HasRun seen observed owned.pod owned.own address ends d d' s s' → RunSays seen observed owned address front d d' s s' a
   ran_says front ends a (inl is) ran = subst (λ (x : Answer). RunSays seen observed owned address front d d' s s' x) (sym is) (record { ends = ends; is = refl; ran = ran })
   ran_says front ends a (inr is) ran = subst (λ (x : Answer). RunSays seen observed owned address front d d' s s' x) (sym is) (inr (record { is = refl; ends = ends; ran = ran }))
 

@@ -10,12 +10,12 @@ use Rattle.pod_gc.specs.Hindrances.{IsUnhinderedThroughout}
 use Rattle.pod_gc.proofs.Hindrances.{never_gone, never_wrong, never_lacking, never_held}
 use Rattle.command_outcomes.specs.declared.refusal.Refusal.{Refusal}
 use Rattle.command_outcomes.specs.declared.refusal.Refusal.TheVariants.{NoPod, WrongPhase, NoManifest, PodBusy, DirFault, Stray, NoMemory}
-use Rattle.command_outcomes.specs.Moments.{DirSeen, Outcome}
+use Rattle.command_outcomes.specs.Moments.{DirSeen, CommandOutcome}
 use Rattle.commands.specs.Opening.{opens}
-use Rattle.commands.specs.Rm.{rm_refusal, RmSays, WhereRemoving, FailsAlone, FailsFor}
+use Rattle.commands.specs.Rm.{rm_refusal, RmSays, WhereRemovingPod, FailsAlone, FailsFor}
 
 -- by what it says
-pub rm_complete : (pod : PodId) (now : ℕ) (old new : DirSeen) (r : Refusal) → rm_refusal r ≡ true → RmSays pod now old new (Err r) → WhereRemoving pod now old (FailsAlone pod old new r)
+pub rm_complete : (pod : PodId) (now : ℕ) (old new : DirSeen) (r : Refusal) → rm_refusal r ≡ true → RmSays pod now old new (Err r) → WhereRemovingPod pod now old (FailsAlone pod old new r)
 rm_complete pod now old new NoPod may says t s k m conforming free = absurd (never_gone pod old.process old.trace new.trace free ((says t).nowhere conforming))
 rm_complete pod now old new (WrongPhase p) may says t s k m conforming free = absurd (never_wrong pod old.process old.trace new.trace free p (says.was t conforming) (λ owned. says.owner t s k m conforming owned))
 rm_complete pod now old new (NoManifest other) may says t s k m conforming free = absurd (never_lacking pod old.process old.trace new.trace free (says.1 t conforming))
@@ -25,7 +25,7 @@ rm_complete pod now old new Stray may says t s k m conforming free = says.1 t s 
 rm_complete pod now old new NoMemory may says t s k m conforming free = tt
 rm_complete pod now old new r may says t s k m conforming free = let clash : false ≡ true = may in cc
 
-pub rm_completes : (pod : PodId) (now : ℕ) (old new : DirSeen) (o : Outcome) → IfErr o (λ r. rm_refusal r ≡ true) → RmSays pod now old new o → IfErr o (λ r. WhereRemoving pod now old (FailsAlone pod old new r))
+pub rm_completes : (pod : PodId) (now : ℕ) (old new : DirSeen) (o : CommandOutcome) → IfErr o (λ r. rm_refusal r ≡ true) → RmSays pod now old new o → IfErr o (λ r. WhereRemovingPod pod now old (FailsAlone pod old new r))
 rm_completes pod now old new (Ok text) may says = tt
 rm_completes pod now old new (Err r) may says = rm_complete pod now old new r may says
 

@@ -1,5 +1,6 @@
 -- A folder stays, and what stands directly in it, while only other folders are dealt with.
 use Rattle.std.proofs.Common.{◌≡◌, ◌||◌, ◌==◌, ℕ, true, false, bytes_eq, Option, Some, List, [], refl, sym, ap, subst, ◌∙◌}
+use Rattle.plain_laws.proofs.Texts.{same_text}
 use Rattle.dir_model.specs.declared.area.Area.{Area}
 use Rattle.dir_model.specs.declared.area.Area.TheVariants as area
 use Rattle.dir_model.specs.declared.item.Inner.{Inner}
@@ -20,15 +21,15 @@ use Rattle.dir_model.specs.State.{Namespace, DirState, spot_eq, folder_at}
 use Rattle.dir_model.specs.Trace.{state_next, namespace_replied}
 use Rattle.dir_model.specs.Trees.{items_in}
 use Rattle.dir_model.proofs.Lists.{and_left, and_right}
-use Rattle.dir_files.specs.AreaLocks.{takes, closes}
+use Rattle.dir_files.specs.AreaLocks.{is_taking_area, closes}
 use Rattle.lifecycle.proofs.Places.{moved_elsewhere, removed_elsewhere}
 use Rattle.phase_read.specs.Read.{pod_spot}
-use Rattle.pod_gc.specs.Requests.{lists, lists_marks, deals_with}
-use Rattle.pod_gc.specs.Told.{deals_with_some}
+use Rattle.pod_gc.specs.Requests.{lists_pod_area, lists_marks, deals_with_pod}
+use Rattle.pod_gc.specs.Told.{deals_with_pods}
 use Rattle.pod_gc.proofs.Asking.{some_sweep}
 use Rattle.commands.proofs.OwnSteps.{same_folders}
 use Rattle.commands.proofs.FolderItems.{changed, items_replied}
-use Rattle.commands.proofs.GcTells.{same_text, among, apart, deals_moves, deals_removes}
+use Rattle.commands.proofs.GcTells.{among, apart, deals_moves, deals_removes}
 
 module _ (spot : Spot) where
   -- what is asked for is of other folders
@@ -80,7 +81,7 @@ module _ (spot : Spot) where
   begin_off Kill h = tt
   begin_off request h = cc
 
-  pub lists_off : (a : Area) (request : Request) → (is_kill request || lists a request) ≡ true → Off request
+  pub lists_off : (a : Area) (request : Request) → (is_kill request || lists_pod_area a request) ≡ true → Off request
   lists_off a (ListArea here) h = tt
   lists_off a Kill h = tt
   lists_off a request h = cc
@@ -90,7 +91,7 @@ module _ (spot : Spot) where
   marks_off pod a Kill h = tt
   marks_off pod a request h = cc
 
-  pub takes_off : (request : Request) → (is_kill request || takes area.Embryo Exclusive request) ≡ true → Off request
+  pub takes_off : (request : Request) → (is_kill request || is_taking_area area.Embryo Exclusive request) ≡ true → Off request
   takes_off (OpenArea here) h = tt
   takes_off (TryLock handle mode) h = tt
   takes_off (Close handle) h = tt
@@ -102,7 +103,7 @@ module _ (spot : Spot) where
   closes_off handle Kill h = tt
   closes_off handle request h = cc
 
-  marks_named : (p : PodId) (now : ℕ) (here : Area) (i : Inner) → deals_with p now here (MakeFileIn i) ≡ true → pod_text p.bytes ≡ i.spot.name
+  marks_named : (p : PodId) (now : ℕ) (here : Area) (i : Inner) → deals_with_pod p now here (MakeFileIn i) ≡ true → pod_text p.bytes ≡ i.spot.name
   marks_named p now here i is =
       same_text (pod_text p.bytes) i.spot.name (and_right (rank area.Run == rank i.spot.area) (bytes_eq (pod_text p.bytes) i.spot.name) (and_left (spot_eq (pod_spot p area.Run) i.spot) _ is))
 
@@ -110,7 +111,7 @@ module _ (spot : Spot) where
     off : (other : Spot) → has_name names other.name ≡ true → spot_eq other spot ≡ false
     off other shown = apart now here stage names spot unshown me other shown
 
-    pub deals_off : (request : Request) → (is_kill request || deals_with_some now here names request) ≡ true → Off request
+    pub deals_off : (request : Request) → (is_kill request || deals_with_pods now here names request) ≡ true → Off request
     deals_off (MakeFolder new) h = let clash : false ≡ true = some_sweep now here names stage (MakeFolder new) h in cc
     deals_off (MakeDirIn i) h = let clash : false ≡ true = some_sweep now here names stage (MakeDirIn i) h in cc
     deals_off (AppendIn i piece) h = let clash : false ≡ true = some_sweep now here names stage (AppendIn i piece) h in cc

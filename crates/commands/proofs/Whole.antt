@@ -17,16 +17,16 @@ use Rattle.dir_files.specs.AreaLocks.{IsFreeElsewhere}
 use Rattle.pod_manifest.specs.Wishes.{Wishes}
 use Rattle.pod_build.specs.MakingRequests.{pod_at}
 use Rattle.pod_build.specs.declared.error.BuildError.{BuildError}
-use Rattle.pod_build.specs.Causes.{IsPartOf, IsRefused, IsMadeByPlan, FindsImagesFree}
+use Rattle.pod_build.specs.Causes.{IsStretchWithin, IsBuildRefused, IsMadeByPlan, FindsImagesFree}
 use Rattle.pod_build.specs.Preparations.{IsPrepared}
 use Rattle.command_outcomes.specs.declared.refusal.Refusal.{Refusal}
 use Rattle.command_outcomes.specs.Moments.{DirSeen}
-use Rattle.command_outcomes.specs.Conforming.{shown_at}
+use Rattle.command_outcomes.specs.Conforming.{dir_at_moment}
 use Rattle.commands.specs.Prepare.{IsFaithful, RefusesPod}
 use Rattle.commands.specs.Wants.{Wants}
 use Rattle.commands.proofs.Parts.{Part}
 
-part_whole : {s e a b c d : DirAt} {early late : Request → Bool} → b.process ≡ a.process → ExtendsBy early a b → ExtendsBy late c d → IsPartOf s e b c → IsPartOf s e a d
+part_whole : {s e a b c d : DirAt} {early late : Request → Bool} → b.process ≡ a.process → ExtendsBy early a b → ExtendsBy late c d → IsStretchWithin s e b c → IsStretchWithin s e a d
 part_whole {s} {e} {a} {b} {c} {d} same x y p = record {
   same = p.same ∙ same;
   before = x.more ++ p.before;
@@ -39,7 +39,7 @@ free_whole : {observed : Bool} {early late : Request → Bool} (a b c d : DirAt)
 free_whole a b c d me same ab cd free t = at_before (at_after (ab t) me (subst (λ (p : ℕ). HeldBetween b c (IsFreeElsewhere p Images Shared)) me (free t))) (same ∙ me) (cd t)
 
 pub refused_whole : {observed : Bool} {refs : List ImageRef} {options : Wishes} (draw : Draw) {now : ℕ} {e : BuildError} {a b c d : DirAt} {early late : Request → Bool} → b.process ≡ a.process → c.process ≡ b.process → (observed ≡ true → ExtendsBy early a b)
-    → (observed ≡ true → ExtendsBy late c d) → IsRefused observed refs options draw now e b c → IsRefused observed refs options draw now e a d
+    → (observed ≡ true → ExtendsBy late c d) → IsBuildRefused observed refs options draw now e b c → IsBuildRefused observed refs options draw now e a d
 refused_whole draw me same ab cd (inl x) = inl (x.0, x.1, λ is t. at_before (at_after (ab t) me (x.2 is t)) (same ∙ me) (cd t))
 refused_whole draw {a = a} {b = b} {c = c} {d = d} me same ab cd (inr (free, inl x)) = inr (free_whole a b c d me same ab cd free, inl (x.0, x.1, λ t. part_whole me (ab t) (cd t) (x.2 t), x.3))
 refused_whole draw {a = a} {b = b} {c = c} {d = d} me same ab cd (inr (free, inr x)) = inr (free_whole a b c d me same ab cd free, inr (x.0, (x.1.0, x.1.1, λ t. part_whole me (ab t) (cd t) (x.1.2 t), x.1.3), (x.2.0, x.2.1, λ t. part_whole me (ab t) (cd t) (x.2.2 t), x.2.3)))
@@ -48,7 +48,7 @@ refused_whole draw {a = a} {b = b} {c = c} {d = d} me same ab cd (inr (free, inr
 pub made_whole : {observed : Bool} {refs : List ImageRef} {options : Wishes} (draw : Draw) {now : ℕ} {a b c d : DirAt} → (observed ≡ true → Part a b c d) → IsMadeByPlan observed refs options draw now b c → IsMadeByPlan observed refs options draw now a d
 made_whole {observed} draw {a = a} {b = b} {c = c} {d = d} within x = (x.0, (x.1.0, x.1.1, λ t. wider (within t) (x.1.2 t), x.1.3), (x.2.0, x.2.1, λ t. wider (within t) (x.2.2 t), x.2.3))
   where
-    wider : {s e : DirAt} → Part a b c d → IsPartOf s e b c → IsPartOf s e a d
+    wider : {s e : DirAt} → Part a b c d → IsStretchWithin s e b c → IsStretchWithin s e a d
     wider {s} {e} q p = record {
       same = p.same ∙ q.same;
       before = q.earlier ++ p.before;
@@ -64,7 +64,7 @@ pub refuses_whole : {wants : Wants} {now : ℕ} {draw : Draw} {r : Refusal} {a b
 refuses_whole {wants} {now} {draw} {r} {a} {b} {c} {d} asks told ab same begins ends x = record {
   error = x.error;
   is = x.is;
-  cause = (x.cause.0, x.cause.1, refused_whole draw ab same begins ends (subst (λ (o : Bool). IsRefused o x.cause.0 wants.wishes draw now x.error (shown_at b) (shown_at c)) told x.cause.2));
+  cause = (x.cause.0, x.cause.1, refused_whole draw ab same begins ends (subst (λ (o : Bool). IsBuildRefused o x.cause.0 wants.wishes draw now x.error (dir_at_moment b) (dir_at_moment c)) told x.cause.2));
 }
 
 -- that the pod was prepared

@@ -3,8 +3,8 @@ use Rattle.std.specs.Prelude.{◌≡◌, ◌⊎◌, ℕ, true, List, ◌++◌, O
 use Rattle.dir_trait.specs.Causes.{Rose}
 use Rattle.dir_trait.specs.Sinks.{WritesPart}
 use Rattle.command_outcomes.specs.declared.refusal.Refusal.{Refusal}
-use Rattle.command_outcomes.specs.Texts.{status_of, message, is_made}
-use Rattle.command_outcomes.specs.Moments.{Inside, Moment, SinkSeen, Outcome}
+use Rattle.command_outcomes.specs.Texts.{exit_status_of, message, is_made}
+use Rattle.command_outcomes.specs.Moments.{Inside, Moment, SinkSeen, CommandOutcome}
 
 -- the directory and the spawner at a moment
 abbrev pub inside_in : Moment → Inside
@@ -21,9 +21,9 @@ pub record Complained (refusal : Refusal) (old new : SinkSeen) : Type 0 where
   pub whole : (old.observed ≡ true → new.bytes ≡ old.bytes ++ message refusal) ⊎ HasRefused old new ⊎ ((is_made refusal ≡ true) × (new ≡ old))
 
 -- the status is an outcome's, and so is what was written
-abbrev pub IsAnswer : Outcome → ℕ → Moment → Moment → Type 0
+abbrev pub IsAnswer : CommandOutcome → ℕ → Moment → Moment → Type 0
 IsAnswer (Ok text) status old new = (status ≡ 0) × (old.out.observed ≡ true → new.out.bytes ≡ old.out.bytes ++ text) × (new.err ≡ old.err)
-IsAnswer (Err refusal) status old new = (status ≡ status_of refusal) × (old.out.observed ≡ true → new.out.bytes ≡ old.out.bytes) × Complained refusal old.err new.err
+IsAnswer (Err refusal) status old new = (status ≡ exit_status_of refusal) × (old.out.observed ≡ true → new.out.bytes ≡ old.out.bytes) × Complained refusal old.err new.err
 
 -- a text was written, of which this is so
 abbrev pub WritesOf : (List ℕ → Type 0) → Moment → Moment → Type 0

@@ -20,5 +20,5 @@ abbrev pub all_well : List AppEnd → Bool
 all_well ends = list_all (λ e. e.status == 0) ends
 
 -- these lines after a text
-abbrev pub told_of : List ℕ → List AppEnd → Told
-told_of front ends = record { text = front ++ app_lines ends; well = all_well ends }
+abbrev pub told_of_ends : List ℕ → List AppEnd → Told
+told_of_ends front ends = record { text = front ++ app_lines ends; well = all_well ends }

@@ -10,15 +10,15 @@ use Rattle.command_outcomes.specs.declared.refusal.Refusal.{Refusal}
 use Rattle.command_outcomes.specs.declared.refusal.Refusal.TheVariants.{NoMemory}
 use Rattle.command_outcomes.specs.declared.told.Told.{Told}
 use Rattle.command_outcomes.specs.Moments.{Answer, Inside, dir_seen}
-use Rattle.commands.specs.AppEnds.{told_of}
+use Rattle.commands.specs.AppEnds.{told_of_ends}
 use Rattle.commands.specs.RunRefusals.{IsRunSaid}
 use Rattle.commands.specs.Strays.{NeverComes}
 use Rattle.stage1.specs.declared.error.RunError.TheVariants.{Stray}
 
 -- the pod was run to its end, with this address of the metadata service, and this is told after the text
-pub record IsRun (seen observed : Bool) (owned : Owned) (address front : List ℕ) (d d' : DirAt) (s s' : SpawnerAt) (told : Told) : Type 0 where
+pub record IsRunToEnd (seen observed : Bool) (owned : Owned) (address front : List ℕ) (d d' : DirAt) (s s' : SpawnerAt) (told : Told) : Type 0 where
   pub ends : List AppEnd
-  pub is : told ≡ told_of front ends
+  pub is : told ≡ told_of_ends front ends
   pub ran : HasRun seen observed owned.pod owned.own address ends d d' s s'
 
 -- it was run to its end, and no memory was left to tell it
@@ -35,7 +35,7 @@ pub record IsStopped (seen observed : Bool) (owned : Owned) (address : List ℕ)
   pub lawful : error ≡ Stray → seen ≡ true → NeverComes d'.trace
 
 abbrev pub RunSays : Bool → Bool → Owned → List ℕ → List ℕ → DirAt → DirAt → SpawnerAt → SpawnerAt → Answer → Type 0
-RunSays seen observed owned address front d d' s s' (Ok told) = IsRun seen observed owned address front d d' s s' told
+RunSays seen observed owned address front d d' s s' (Ok told) = IsRunToEnd seen observed owned address front d d' s s' told
 RunSays seen observed owned address front d d' s s' (Err refusal) = IsStopped seen observed owned address d d' s s' (Err refusal) ⊎ IsUntold seen observed owned address d d' s s' (Err refusal)
 
 -- between two moments, whatever the counts of calls

@@ -9,10 +9,10 @@ use Rattle.dir_trait.specs.Knowledge.{Knows}
 use Rattle.command_outcomes.specs.declared.refusal.Refusal.{Refusal}
 use Rattle.command_outcomes.specs.declared.refusal.Refusal.TheVariants.{NoMemory}
 use Rattle.command_outcomes.specs.declared.told.Told.{Told}
-use Rattle.command_outcomes.specs.Texts.{status_of}
+use Rattle.command_outcomes.specs.Texts.{exit_status_of}
 use Rattle.command_outcomes.specs.Moments.{DirSeen, SpawnerSeen, Inside, Moment, Answer}
-use Rattle.command_outcomes.specs.Conforming.{shown_at}
-use Rattle.command_outcomes.specs.Conforming.{begun as just_begun}
+use Rattle.command_outcomes.specs.Conforming.{dir_at_moment}
+use Rattle.command_outcomes.specs.Conforming.{seen_at_begin as just_begun}
 use Rattle.commands.specs.Answers.{Complained, inside_in}
 use Rattle.commands.specs.Opening.{Approach, Opens}
 
@@ -27,14 +27,14 @@ pub record WithinProcess (approach : Approach) (asks : Request → Bool) (P : In
   pub me : begun.process ≡ old.dir.process
   pub begins : old.dir.observed ≡ true → Opens approach intent old.dir.process old.dir.trace begun.trace
   pub came : P (inside begun old.spawner) (inside ended new.spawner)
-  pub knows : old.dir.observed ≡ true → Knows (shown_at begun) (just_begun intent)
+  pub knows : old.dir.observed ≡ true → Knows (dir_at_moment begun) (just_begun intent)
   pub same : ended.process ≡ begun.process
   pub extends : old.dir.observed ≡ true → Extends asks begun.process begun.trace ended.trace
   pub finishes : old.dir.observed ≡ true → CallStep ended.process ended.trace Finish Done new.dir.trace
 
 -- or it couldn't begin
-abbrev pub CameSo : Approach → (Request → Bool) → (Inside → Inside → Answer → Type 0) → Intent → Inside → Inside → Answer → Type 0
-CameSo approach asks came intent old new answer = WithinProcess approach asks (λ a b. came a b answer) intent old new ⊎ ((answer ≡ Err NoMemory) × (new.spawner ≡ old.spawner))
+abbrev pub CameOrNeverBegan : Approach → (Request → Bool) → (Inside → Inside → Answer → Type 0) → Intent → Inside → Inside → Answer → Type 0
+CameOrNeverBegan approach asks came intent old new answer = WithinProcess approach asks (λ a b. came a b answer) intent old new ⊎ ((answer ≡ Err NoMemory) × (new.spawner ≡ old.spawner))
 
 -- 0 where all apps ended with 0, and else 16
 abbrev pub well_status : Bool → ℕ
@@ -47,5 +47,5 @@ abbrev pub TellsApps : (Answer → Type 0) → ℕ → Moment → Moment → Typ
 TellsApps came status old new =
     ((told : Told) × (status ≡ well_status told.well) × came (Ok told) × (old.out.observed ≡ true → new.out.bytes ≡ old.out.bytes ++ told.text))
     ⊎ ((told : Told) × ((status ≡ 12) ⊎ (status ≡ 14)) × came (Ok told))
-    ⊎ ((refusal : Refusal) × (status ≡ status_of refusal) × came (Err refusal) × Complained refusal old.err new.err)
+    ⊎ ((refusal : Refusal) × (status ≡ exit_status_of refusal) × came (Err refusal) × Complained refusal old.err new.err)
     ⊎ ((status ≡ 14) × (inside_in new ≡ inside_in old))

@@ -9,12 +9,12 @@ use Rattle.dir_model.specs.declared.request.Request.{Request}
 use Rattle.dir_trait.specs.State.{DirState}
 use Rattle.lifecycle.specs.Executions.{IsConforming}
 use Rattle.command_outcomes.specs.declared.refusal.Refusal.{Refusal}
-use Rattle.command_outcomes.specs.Moments.{BundleSeen, Outside, Inside, Moment, Outcome, Answer}
+use Rattle.command_outcomes.specs.Moments.{BundleSeen, Outside, Inside, Moment, CommandOutcome, Answer}
 use Rattle.commands.specs.Opening.{Approach}
 
 -- what is told of a command alone, or of one that starts apps
 pub data Saying : Type 1 where
-  alone : (ℕ → Draw → Outside → Outside → Outcome → Type 0) → Saying
+  alone : (ℕ → Draw → Outside → Outside → CommandOutcome → Type 0) → Saying
   running : (ℕ → Draw → Inside → Inside → Answer → Type 0) → Saying
 
 -- nothing is read of the bundle, or so much
@@ -39,11 +39,11 @@ pub record Command : Type 1 where
   -- and each with its cause
   pub refused_for : ℕ → Draw → Refusal → Moment → Moment → Type 0
   -- the phases of pods that its answer names: so each of them was
-  pub names : Outcome → (PodId → Phase → Type 0) → Type 0
+  pub names : CommandOutcome → (PodId → Phase → Type 0) → Type 0
   -- what it tells with each status: by its own answers, and of the histories of pods and images
   pub tells : ℕ → Draw → ℕ → Moment → Moment → Type 0
   -- what it answers where nobody else steps
-  pub quiet : ℕ → Draw → Moment → Moment → Outcome → Type 0
+  pub quiet : ℕ → Draw → Moment → Moment → CommandOutcome → Type 0
   -- and what this process leaves in the directory then
   pub leaves : ℕ → Draw → DirState → DirState → Type 0
   -- what is told of it between its begin and its finish
@@ -64,9 +64,9 @@ starts_any (alone says) = false
 starts_any (running says) = true
 
 -- what is read of the bundle
-abbrev pub IsRead : Reading → BundleSeen → BundleSeen → Type 0
-IsRead nothing old new = new ≡ old
-IsRead (reading reads) old new = reads old new
+abbrev pub IsReadFromBundle : Reading → BundleSeen → BundleSeen → Type 0
+IsReadFromBundle nothing old new = new ≡ old
+IsReadFromBundle (reading reads) old new = reads old new
 
 -- what a process says when it begins that has no times of its own
 abbrev pub intent_for : Kind → List ℕ → ℕ → Draw → Intent

@@ -10,7 +10,7 @@ use Rattle.dir_model.specs.Pods.{pod_text}
 use Rattle.dir_rules.specs.declared.seen.Seen.{Seen}
 use Rattle.dir_trait.specs.DirCalls.{DirAt}
 use Rattle.dir_trait.specs.Knowledge.{Knows}
-use Rattle.pod_locks.specs.Causes.{WasStray}
+use Rattle.pod_locks.specs.Causes.{WasStrayStep}
 use Rattle.pod_gc.specs.declared.ages.Times.{Times}
 use Rattle.pod_gc.specs.declared.gc_error.GcError.{GcError}
 use Rattle.pod_gc.specs.declared.gc_error.GcError.TheVariants as error
@@ -23,8 +23,8 @@ use Rattle.pod_gc.specs.Ended.{EndsSweep}
 use Rattle.command_outcomes.specs.declared.refusal.Refusal.{Refusal}
 use Rattle.command_outcomes.specs.declared.refusal.Refusal.TheVariants.{DirFault, Stray, NoMemory}
 use Rattle.command_outcomes.specs.Texts.{area_text, lock_text}
-use Rattle.command_outcomes.specs.Moments.{DirSeen, Outcome}
-use Rattle.command_outcomes.specs.Conforming.{shown_at}
+use Rattle.command_outcomes.specs.Moments.{DirSeen, CommandOutcome}
+use Rattle.command_outcomes.specs.Conforming.{dir_at_moment}
 use Rattle.command_outcomes.specs.Ends.{is_common}
 use Rattle.command_outcomes.specs.Meanwhile.{Meanwhile}
 use Rattle.commands.specs.Strays.{ComesOfApp}
@@ -47,24 +47,24 @@ deed_text place (Busy which) = codes " busy " ++ lock_text which
 deed_text place BusyGate = codes " busy gate"
 deed_text place Left = codes " left " ++ area_text place
 
-abbrev pub line_text : GcLine → List ℕ
-line_text line = (subject_text line.pod line.place ++ deed_text line.place line.deed) ++ codes "\n"
+abbrev pub gc_line_text : GcLine → List ℕ
+gc_line_text line = (subject_text line.pod line.place ++ deed_text line.place line.deed) ++ codes "\n"
 
 abbrev pub lines_text : List GcLine → List ℕ
-lines_text lines = flat_map line_text lines
+lines_text lines = flat_map gc_line_text lines
 
 -- a line of a pod that was let be names its phase
 abbrev pub NamesKept : (PodId → Phase → Type 0) → GcLine → Type 0
 NamesKept Had line = (pod : PodId) (phase : Phase) → line.pod ≡ Some pod → line.deed ≡ Kept phase → Had pod phase
 
 -- the lines were printed, of which this is so
-pub record PrintsSweep (P : List GcLine → Type 0) (text : List ℕ) : Type 0 where
+pub record PrintsGcLines (P : List GcLine → Type 0) (text : List ℕ) : Type 0 where
   pub lines : List GcLine
   pub so : P lines
   pub is : text ≡ lines_text lines
 
-abbrev pub names_kept : Outcome → (PodId → Phase → Type 0) → Type 0
-names_kept (Ok text) Had = PrintsSweep (AllByRecursion (NamesKept Had)) text
+abbrev pub names_kept : CommandOutcome → (PodId → Phase → Type 0) → Type 0
+names_kept (Ok text) Had = PrintsGcLines (AllByRecursion (NamesKept Had)) text
 names_kept (Err refusal) Had = Unit {0}
 
 -- the refusals that it may have, and what is said of a sweep that ended early
@@ -78,7 +78,7 @@ sweep_refusal error.Stray = Stray
 sweep_refusal error.NoMemory = NoMemory
 
 -- the six passes, each with its lines, of a process that may sweep, at a moment of 64 bits
-pub record Sweeps (times : Times) (lines : List GcLine) (me : ℕ) (old new : List Event) : Type 0 where
+pub record SweepsByPasses (times : Times) (lines : List GcLine) (me : ℕ) (old new : List Event) : Type 0 where
   pub from : DirAt
   pub can : Knew (MaySweepAll times.now times.expire) from
   pub swept : ArePassed (Knew (MaySweepAll times.now times.expire) from) times places lines me old new
@@ -86,7 +86,7 @@ pub record Sweeps (times : Times) (lines : List GcLine) (me : ℕ) (old new : Li
 
 -- so they were made, and nothing was told of them
 abbrev pub SweepsUntold : Times → ℕ → List Event → List Event → Type 0
-SweepsUntold times me old new = (lines : List GcLine) × Sweeps times lines me old new
+SweepsUntold times me old new = (lines : List GcLine) × SweepsByPasses times lines me old new
 
 -- or the sweep ended early
 pub record SweepsInPart (times : Times) (me : ℕ) (old new : List Event) : Type 0 where
@@ -96,28 +96,28 @@ pub record SweepsInPart (times : Times) (me : ℕ) (old new : List Event) : Type
   pub moment : times.now ≤ 18446744073709551615
 
 -- it is so where the process has begun to sweep at this moment
-abbrev pub WhereSweeping : Times → DirSeen → Type 0 → Type 0
-WhereSweeping times old P = old.observed ≡ true → (s : Seen) → Knows (shown_at old) s → MaySweepAll times.now times.expire s → P
+abbrev pub WhereSweepingPods : Times → DirSeen → Type 0 → Type 0
+WhereSweepingPods times old P = old.observed ≡ true → (s : Seen) → Knows (dir_at_moment old) s → MaySweepAll times.now times.expire s → P
 
 -- it printed the lines of what it did
 pub record SweepsPods (times : Times) (old new : DirSeen) (text : List ℕ) : Type 0 where
   pub lines : List GcLine
   pub is : text ≡ lines_text lines
-  pub swept : WhereSweeping times old (Sweeps times lines old.process old.trace new.trace)
+  pub swept : WhereSweepingPods times old (SweepsByPasses times lines old.process old.trace new.trace)
 
 -- what was told of the pods, and what was done with them where it was refused
-abbrev pub GcSays : Times → DirSeen → DirSeen → Outcome → Type 0
+abbrev pub GcSays : Times → DirSeen → DirSeen → CommandOutcome → Type 0
 GcSays times old new (Ok text) = SweepsPods times old new text
 GcSays times old new (Err Stray) =
-    (old.observed ≡ true → WasStray old.process old.trace new.trace) × WhereSweeping times old (SweepsInPart times old.process old.trace new.trace) × WhereSweeping times old (ComesOfApp old.process old.trace new.trace)
-GcSays times old new (Err NoMemory) = WhereSweeping times old (SweepsInPart times old.process old.trace new.trace ⊎ SweepsUntold times old.process old.trace new.trace)
-GcSays times old new (Err refusal) = WhereSweeping times old (SweepsInPart times old.process old.trace new.trace)
+    (old.observed ≡ true → WasStrayStep old.process old.trace new.trace) × WhereSweepingPods times old (SweepsInPart times old.process old.trace new.trace) × WhereSweepingPods times old (ComesOfApp old.process old.trace new.trace)
+GcSays times old new (Err NoMemory) = WhereSweepingPods times old (SweepsInPart times old.process old.trace new.trace ⊎ SweepsUntold times old.process old.trace new.trace)
+GcSays times old new (Err refusal) = WhereSweepingPods times old (SweepsInPart times old.process old.trace new.trace)
 
 -- of a whole process: it printed the lines of what it did
 pub record HasSweptPods (times : Times) (old new : DirSeen) (text : List ℕ) : Type 0 where
   pub lines : List GcLine
   pub is : text ≡ lines_text lines
-  pub swept : Meanwhile (Sweeps times lines) old.process old.trace new.trace
+  pub swept : Meanwhile (SweepsByPasses times lines) old.process old.trace new.trace
 
 -- it made its six passes
 abbrev pub HasMadePasses : Times → DirSeen → DirSeen → Type 0
@@ -128,4 +128,4 @@ abbrev pub HasSweptInPart : Times → DirSeen → DirSeen → Type 0
 HasSweptInPart times old new = Meanwhile (SweepsInPart times) old.process old.trace new.trace
 
 abbrev pub HasMetStrayInPods : DirSeen → DirSeen → Type 0
-HasMetStrayInPods old new = Meanwhile WasStray old.process old.trace new.trace
+HasMetStrayInPods old new = Meanwhile WasStrayStep old.process old.trace new.trace

@@ -14,16 +14,16 @@ use Rattle.dir_trait.specs.Trace.{state_after}
 use Rattle.dir_files.specs.AreaLocks.{IsBusyElsewhere}
 use Rattle.image_removal.specs.declared.pass.SweepLine.{SweepLine}
 use Rattle.image_removal.specs.declared.pass.SweepLine.TheVariants.{Moved, Deleted, BusyGate}
-use Rattle.image_removal.specs.Causes.{WasStray}
+use Rattle.image_removal.specs.Causes.{WasStrayRemoval}
 use Rattle.image_removal.specs.Passes.{is_uuid}
-use Rattle.image_removal.specs.Ended.{EndsSweep}
+use Rattle.image_removal.specs.Ended.{EndsImageSweep}
 use Rattle.image_removal.specs.Sweeps.{IsSwept, HasTried, BusyApart, BusyNow}
-use Rattle.image_removal.specs.Work.{MaySweep}
+use Rattle.image_removal.specs.Work.{MaySweepStore}
 use Rattle.command_outcomes.specs.declared.refusal.Refusal.{Refusal}
 use Rattle.command_outcomes.specs.declared.refusal.Refusal.TheVariants.{DirFault, Stray}
 use Rattle.command_outcomes.specs.Texts.{area_text}
-use Rattle.command_outcomes.specs.Moments.{DirSeen, Outcome}
-use Rattle.command_outcomes.specs.Conforming.{shown_at}
+use Rattle.command_outcomes.specs.Moments.{DirSeen, CommandOutcome}
+use Rattle.command_outcomes.specs.Conforming.{dir_at_moment}
 use Rattle.command_outcomes.specs.Ends.{is_common}
 use Rattle.command_outcomes.specs.Meanwhile.{Meanwhile}
 use Rattle.commands.specs.SweepTable.{AreSweepLines}
@@ -44,33 +44,33 @@ image_gc_refusal Stray = true
 image_gc_refusal refusal = is_common refusal
 
 -- what these lines say was done, to each folder that its own listings showed, unless another process held an area's lock
-abbrev pub Sweeps : List SweepLine → ℕ → List Event → List Event → Type 0
-Sweeps lines me old new = IsSwept (BusyApart me) lines me old new
+abbrev pub SweepsImages : List SweepLine → ℕ → List Event → List Event → Type 0
+SweepsImages lines me old new = IsSwept (BusyApart me) lines me old new
 
 -- the sweep ended early: each request so far was about what its own listings showed, and the pass that failed is the last
 pub record EndsEarly (me : ℕ) (old new : List Event) : Type 0 where
   pub tried : HasTried me old new
-  pub ended : EndsSweep BusyNow me old new
+  pub ended : EndsImageSweep BusyNow me old new
 
 -- a step was answered as what the locks keep doesn't explain, and the sweep ended there
 pub record StrayInSweep (me : ℕ) (old new : List Event) : Type 0 where
-  pub stray : WasStray me old new
+  pub stray : WasStrayRemoval me old new
   pub early : EndsEarly me old new
 
 -- it is so where the process has begun to sweep
-abbrev pub WhereSweeping : DirSeen → Type 0 → Type 0
-WhereSweeping old P = old.observed ≡ true → (s : Seen) → Knows (shown_at old) s → MaySweep s → P
+abbrev pub WhereSweepingImages : DirSeen → Type 0 → Type 0
+WhereSweepingImages old P = old.observed ≡ true → (s : Seen) → Knows (dir_at_moment old) s → MaySweepStore s → P
 
 -- it printed the lines of what it did, where the process has begun to sweep
 pub record SweepsStore (old new : DirSeen) (text : List ℕ) : Type 0 where
   pub lines : List SweepLine
   pub is : text ≡ sweep_texts lines
-  pub swept : WhereSweeping old (Sweeps lines old.process old.trace new.trace)
+  pub swept : WhereSweepingImages old (SweepsImages lines old.process old.trace new.trace)
 
 -- what was told of the two areas
-abbrev pub ImageGcSays : DirSeen → DirSeen → Outcome → Type 0
+abbrev pub ImageGcSays : DirSeen → DirSeen → CommandOutcome → Type 0
 ImageGcSays old new (Ok text) = SweepsStore old new text
-ImageGcSays old new (Err Stray) = (old.observed ≡ true → StrayInSweep old.process old.trace new.trace) × WhereSweeping old (NeverComes new.trace)
+ImageGcSays old new (Err Stray) = (old.observed ≡ true → StrayInSweep old.process old.trace new.trace) × WhereSweepingImages old (NeverComes new.trace)
 ImageGcSays old new (Err DirFault) = old.observed ≡ true → EndsEarly old.process old.trace new.trace
 ImageGcSays old new (Err refusal) = Unit {0}
 
@@ -78,7 +78,7 @@ ImageGcSays old new (Err refusal) = Unit {0}
 pub record HasSwept (old new : DirSeen) (text : List ℕ) : Type 0 where
   pub lines : List SweepLine
   pub is : text ≡ sweep_texts lines
-  pub swept : Meanwhile (Sweeps lines) old.process old.trace new.trace
+  pub swept : Meanwhile (SweepsImages lines) old.process old.trace new.trace
 
 abbrev pub HasEndedEarly : DirSeen → DirSeen → Type 0
 HasEndedEarly old new = Meanwhile EndsEarly old.process old.trace new.trace
@@ -93,7 +93,7 @@ LeavesNoFolder area old new =
     ⊎ IsBusyElsewhere old.process area Exclusive (state_after old.trace)
 
 -- the text is that of the state's lines, of which there is one list
-pub record PrintsSweep (me : ℕ) (s : DirState) (text : List ℕ) : Type 0 where
+pub record PrintsSweepOfState (me : ℕ) (s : DirState) (text : List ℕ) : Type 0 where
   pub lines : List SweepLine
   pub is : text ≡ sweep_texts lines
   pub are : AreSweepLines me s lines
@@ -101,8 +101,8 @@ pub record PrintsSweep (me : ℕ) (s : DirState) (text : List ℕ) : Type 0 wher
 
 -- what it comes to where nobody else steps: the lines of the state before, and no such folder is left in either area; or by its own
 -- answers
-abbrev pub SweepsQuietly : DirSeen → DirSeen → Outcome → Type 0
-SweepsQuietly old new (Ok text) = HasSwept old new text × PrintsSweep old.process (state_after old.trace) text × LeavesNoFolder Incoming old new × LeavesNoFolder Removed old new
+abbrev pub SweepsQuietly : DirSeen → DirSeen → CommandOutcome → Type 0
+SweepsQuietly old new (Ok text) = HasSwept old new text × PrintsSweepOfState old.process (state_after old.trace) text × LeavesNoFolder Incoming old new × LeavesNoFolder Removed old new
 SweepsQuietly old new (Err Stray) = HasMetStrayInSweep old new × NeverComes new.trace
 SweepsQuietly old new (Err refusal) = ⊥
 

@@ -2,7 +2,7 @@
 use Rattle.std.specs.Prelude.{◌≡◌, ℕ, true, List, [], Some}
 use Rattle.dir_model.specs.declared.intent.Kind.TheVariants as kind
 use Rattle.image_removal.specs.declared.pass.SweepLine.{SweepLine}
-use Rattle.image_removal.specs.Requests.{sweeps}
+use Rattle.image_removal.specs.Requests.{sweeps_store}
 use Rattle.command_outcomes.specs.declared.refusal.Refusal.{Refusal}
 use Rattle.command_outcomes.specs.declared.refusal.Refusal.TheVariants.{Stray}
 use Rattle.command_outcomes.specs.Moments.{DirSeen, Moment}
@@ -29,7 +29,7 @@ abbrev pub image_gc_command : Command
 image_gc_command = record {
   begins = Some (intent_for kind.ImageGc []);
   approach = directly;
-  asks = λ now draw. sweeps;
+  asks = λ now draw. sweeps_store;
   reads = nothing;
   prints = λ draw bundle text. (lines : List SweepLine) × (text ≡ sweep_texts lines);
   refusals = image_gc_refusal;

@@ -23,17 +23,17 @@ use Rattle.folder_contents.specs.Entries.{entries_in}
 use Rattle.bundle_image.specs.declared.image.BundleImage.{BundleImage}
 use Rattle.image_reading.specs.declared.error.StoreError.{StoreError}
 use Rattle.image_reading.specs.declared.error.StoreError.TheVariants as store_error
-use Rattle.image_reading.specs.Places.{image_spot, IsAbsent}
-use Rattle.image_store.specs.Causes.{Source, source_at, WasThere}
-use Rattle.image_store.specs.Imports.{key_of, digest_of, IsOf, OfBundle, IsRefused, ComesInTurn, IsImported}
-use Rattle.image_store.specs.Moves.{MovedNothing}
+use Rattle.image_reading.specs.Places.{image_spot, IsImageAbsent}
+use Rattle.image_store.specs.Causes.{Source, bundle_source_at, WasThere}
+use Rattle.image_store.specs.Imports.{key_of_image, digest_of, IsOf, OfBundle, IsImportRefused, RefusalComesInTurn, IsImported}
+use Rattle.image_store.specs.Moves.{MovedNoImage}
 use Rattle.image_store.specs.Refusals.{is_import_area}
 use Rattle.image_store.specs.Requests.{building_spot}
 use Rattle.image_store.specs.Work.{IsImport}
 use Rattle.command_outcomes.specs.declared.refusal.Refusal.{Refusal}
 use Rattle.command_outcomes.specs.declared.refusal.Refusal.TheVariants.{Busy, BadManifest, NoImage, Limit, DirFault, BundleFault, NoMemory, NoFile, Conflict, Damaged, BadKind, Stray}
-use Rattle.command_outcomes.specs.Moments.{DirSeen, BundleSeen, Outside, Outcome}
-use Rattle.command_outcomes.specs.Conforming.{shown_at, begun}
+use Rattle.command_outcomes.specs.Moments.{DirSeen, BundleSeen, Outside, CommandOutcome}
+use Rattle.command_outcomes.specs.Conforming.{dir_at_moment, seen_at_begin}
 use Rattle.command_outcomes.specs.Ends.{is_common}
 use Rattle.standing_images.specs.Images.{SameImages}
 use Rattle.commands.specs.ImageImportTable.{HasOneDigest, RefusesByStanding}
@@ -57,13 +57,13 @@ image_import_refusal Stray = true
 image_import_refusal refusal = is_common refusal
 
 -- the refusal of a listing: what is wrong with a line is said of the file `tree`, and else the limit that was passed
-abbrev pub listing_refusal : ListingError → Refusal
-listing_refusal (listing.BadLine n) = BadManifest (codes "tree") BAD_LINE
-listing_refusal (listing.NotSorted n) = BadManifest (codes "tree") NOT_SORTED
-listing_refusal (listing.NoParent n) = BadManifest (codes "tree") NO_PARENT
-listing_refusal (listing.TooMany limit) = Limit limit
-listing_refusal (listing.FileTooLong n) = Limit MAX_FILE
-listing_refusal listing.NoMemory = NoMemory
+abbrev pub import_listing_refusal : ListingError → Refusal
+import_listing_refusal (listing.BadLine n) = BadManifest (codes "tree") BAD_LINE
+import_listing_refusal (listing.NotSorted n) = BadManifest (codes "tree") NOT_SORTED
+import_listing_refusal (listing.NoParent n) = BadManifest (codes "tree") NO_PARENT
+import_listing_refusal (listing.TooMany limit) = Limit limit
+import_listing_refusal (listing.FileTooLong n) = Limit MAX_FILE
+import_listing_refusal listing.NoMemory = NoMemory
 
 -- what an import is refused with: never that there is no image of a key, nor for the lock of another area
 abbrev pub is_import_error : StoreError → Bool
@@ -76,7 +76,7 @@ abbrev pub import_refusal : StoreError → Refusal
 import_refusal (store_error.NoFile path) = NoFile path
 import_refusal (store_error.Fault fault) = BadManifest fault.path (number_of fault.kind)
 import_refusal store_error.BadId = BadManifest (codes "id") BAD_ID
-import_refusal (store_error.ListingError error) = listing_refusal error
+import_refusal (store_error.ListingError error) = import_listing_refusal error
 import_refusal (store_error.BadKind path) = BadKind path
 import_refusal (store_error.Busy area) = Busy area
 import_refusal (store_error.Damaged path) = Damaged path
@@ -93,52 +93,52 @@ IsSaidOf error refusal = (refusal ≡ import_refusal error) ⊎ (refusal ≡ NoM
 
 -- the bundle that was named
 abbrev pub source_of : List ℕ → BundleSeen → Source
-source_of path bundle = source_at bundle.observed bundle.tree path
+source_of path bundle = bundle_source_at bundle.observed bundle.tree path
 
 -- the image was there with its digest, and nothing was moved into images; or by an own move its folder came there, and just after
 -- that it holds the image, imported at that moment
 abbrev pub IsStored : BundleImage → ℕ → PodId → DirSeen → DirSeen → Type 0
 IsStored image now draw old new =
-    (WasThere (key_of image) (digest_of image) (shown_at old) (shown_at new) × MovedNothing old.process old.trace new.trace)
-    ⊎ IsImported old.process (building_spot draw) (image_spot (key_of image)) (IsOf image now) old.trace new.trace
+    (WasThere (key_of_image image) (digest_of image) (dir_at_moment old) (dir_at_moment new) × MovedNoImage old.process old.trace new.trace)
+    ⊎ IsImported old.process (building_spot draw) (image_spot (key_of_image image)) (IsOf image now) old.trace new.trace
 
 -- the text is the line of the image that the bundle says
 abbrev pub PrintsKey : List ℕ → BundleSeen → List ℕ → Type 0
-PrintsKey path bundle text = OfBundle (source_of path bundle) (λ image. text ≡ key_line (key_of image))
+PrintsKey path bundle text = OfBundle (source_of path bundle) (λ image. text ≡ key_line (key_of_image image))
 
 -- and that image is stored
 abbrev pub StoresImage : List ℕ → ℕ → PodId → Outside → Outside → List ℕ → Type 0
-StoresImage path now draw old new text = OfBundle (source_of path old.bundle) (λ image. (text ≡ key_line (key_of image)) × IsStored image now draw old.dir new.dir)
+StoresImage path now draw old new text = OfBundle (source_of path old.bundle) (λ image. (text ≡ key_line (key_of_image image)) × IsStored image now draw old.dir new.dir)
 
 -- it is so where this process has just begun to import with that draw
-abbrev pub WhereBegun : PodId → DirSeen → Type 0 → Type 0
-WhereBegun draw old P = (intent : Intent) → IsImport draw intent → Knows (shown_at old) (begun intent) → P
+abbrev pub WhereImportBegun : PodId → DirSeen → Type 0 → Type 0
+WhereImportBegun draw old P = (intent : Intent) → IsImport draw intent → Knows (dir_at_moment old) (seen_at_begin intent) → P
 
 -- it printed the key, and in an execution in which every process keeps the local rules the image is stored
 pub record ImportsImage (path : List ℕ) (now : ℕ) (draw : PodId) (old new : Outside) (text : List ℕ) : Type 0 where
   pub key : PrintsKey path old.bundle text
-  pub stores : old.dir.observed ≡ true → IsConforming new.dir.trace → WhereBegun draw old.dir (StoresImage path now draw old new text)
+  pub stores : old.dir.observed ≡ true → IsConforming new.dir.trace → WhereImportBegun draw old.dir (StoresImage path now draw old new text)
 
 -- why it imported nothing, which came in its turn, and that this is what is said; and it moved nothing into images
 pub record RefusesImage (path : List ℕ) (old new : Outside) (refusal : Refusal) : Type 0 where
   pub error : StoreError
   pub is : refusal ≡ import_refusal error
-  pub cause : IsRefused old.dir.observed (source_of path old.bundle) error (shown_at old.dir) (shown_at new.dir)
-  pub turn : ComesInTurn old.dir.observed (source_of path old.bundle) error (shown_at old.dir) (shown_at new.dir)
-  pub still : old.dir.observed ≡ true → MovedNothing old.dir.process old.dir.trace new.dir.trace
+  pub cause : IsImportRefused old.dir.observed (source_of path old.bundle) error (dir_at_moment old.dir) (dir_at_moment new.dir)
+  pub turn : RefusalComesInTurn old.dir.observed (source_of path old.bundle) error (dir_at_moment old.dir) (dir_at_moment new.dir)
+  pub still : old.dir.observed ≡ true → MovedNoImage old.dir.process old.dir.trace new.dir.trace
 
 -- where a lock was refused, another process held it exclusively at an own step
 abbrev pub IsAreaHeld : Area → DirSeen → DirSeen → Type 0
-IsAreaHeld area old new = HeldBetween (shown_at old) (shown_at new) (IsBusyElsewhere old.process area Shared)
+IsAreaHeld area old new = HeldBetween (dir_at_moment old) (dir_at_moment new) (IsBusyElsewhere old.process area Shared)
 
-abbrev pub IsHeldFrom : PodId → Refusal → DirSeen → DirSeen → Type 0
-IsHeldFrom draw refusal old new = (area : Area) → refusal ≡ Busy area → old.observed ≡ true → WhereBegun draw old (IsAreaHeld area old new)
+abbrev pub IsHeldFromImport : PodId → Refusal → DirSeen → DirSeen → Type 0
+IsHeldFromImport draw refusal old new = (area : Area) → refusal ≡ Busy area → old.observed ≡ true → WhereImportBegun draw old (IsAreaHeld area old new)
 
 -- what was told of the bundle and of the store
-abbrev pub ImageImportSays : List ℕ → ℕ → PodId → Outside → Outside → Outcome → Type 0
+abbrev pub ImageImportSays : List ℕ → ℕ → PodId → Outside → Outside → CommandOutcome → Type 0
 ImageImportSays path now draw old new (Ok text) = ImportsImage path now draw old new text
 ImageImportSays path now draw old new (Err NoMemory) = Unit {0}
-ImageImportSays path now draw old new (Err refusal) = RefusesImage path old new refusal × IsHeldFrom draw refusal old.dir new.dir
+ImageImportSays path now draw old new (Err refusal) = RefusesImage path old new refusal × IsHeldFromImport draw refusal old.dir new.dir
 
 -- each image that stood there stands there still, and holds what it held
 abbrev pub KeepsImages : DirState → DirState → Type 0
@@ -149,20 +149,20 @@ KeepsImages old new =
 -- the folder at the image's key holds exactly the image, imported at that moment
 pub record HoldsImage (image : BundleImage) (now : ℕ) (s : DirState) : Type 0 where
   pub folder : ℕ
-  pub stands : folder_at s.namespace (image_spot (key_of image)) ≡ Some folder
+  pub stands : folder_at s.namespace (image_spot (key_of_image image)) ≡ Some folder
   pub holds : IsOf image now (entries_in folder s.entries)
 
 -- the image stood there before with its digest, and every image is as it was; or none stood at its key, and in the end the folder
 -- there holds it
 abbrev pub ComesStored : BundleImage → ℕ → DirSeen → DirSeen → Type 0
 ComesStored image now old new =
-    (WasThere (key_of image) (digest_of image) (shown_at old) (shown_at new) × HasOneDigest (key_of image) (digest_of image) (state_after old.trace)
+    (WasThere (key_of_image image) (digest_of image) (dir_at_moment old) (dir_at_moment new) × HasOneDigest (key_of_image image) (digest_of image) (state_after old.trace)
     × SameImages (state_after old.trace) (state_after new.trace))
-    ⊎ (IsAbsent (key_of image) (state_after old.trace) × HoldsImage image now (state_after new.trace))
+    ⊎ (IsImageAbsent (key_of_image image) (state_after old.trace) × HoldsImage image now (state_after new.trace))
 
 -- the images are as they were, but that the one that the bundle says was brought there, where it wasn't
-pub record AddsImage (path : List ℕ) (now : ℕ) (old new : Outside) (text : List ℕ) : Type 0 where
-  pub stores : OfBundle (source_of path old.bundle) (λ image. (text ≡ key_line (key_of image)) × ComesStored image now old.dir new.dir)
+pub record AddsBundleImage (path : List ℕ) (now : ℕ) (old new : Outside) (text : List ℕ) : Type 0 where
+  pub stores : OfBundle (source_of path old.bundle) (λ image. (text ≡ key_line (key_of_image image)) × ComesStored image now old.dir new.dir)
   pub keeps : KeepsImages (state_after old.dir.trace) (state_after new.dir.trace)
 
 -- the images are as they were, and what is said of them is so of the state before
@@ -173,8 +173,8 @@ pub record RefusesQuietly (path : List ℕ) (old new : Outside) (refusal : Refus
 
 -- what it comes to where nobody else steps: by the bundle, by the image at its key as the state before has it, or by a lock as it was
 -- held before. No answer is stray where every process keeps the local rules
-abbrev pub ImportsQuietly : List ℕ → ℕ → PodId → Outside → Outside → Outcome → Type 0
-ImportsQuietly path now draw old new (Ok text) = PrintsKey path old.bundle text × (IsConforming new.dir.trace → AddsImage path now old new text)
+abbrev pub ImportsQuietly : List ℕ → ℕ → PodId → Outside → Outside → CommandOutcome → Type 0
+ImportsQuietly path now draw old new (Ok text) = PrintsKey path old.bundle text × (IsConforming new.dir.trace → AddsBundleImage path now old new text)
 ImportsQuietly path now draw old new (Err (Busy area)) = RefusesQuietly path old new (Busy area) × IsBusyElsewhere old.dir.process area Shared (state_after old.dir.trace)
 ImportsQuietly path now draw old new (Err NoMemory) = ⊥
 ImportsQuietly path now draw old new (Err DirFault) = ⊥

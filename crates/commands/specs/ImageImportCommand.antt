@@ -2,7 +2,7 @@
 use Rattle.std.specs.Prelude.{◌≡◌, ◌⊎◌, ◌≤◌, ℕ, true, List, [], Some, Err}
 use Rattle.bundle_image.specs.declared.image.BundleImage.{BundleImage}
 use Rattle.bundle_image.specs.declared.refusal.BundleRefusal.{BundleRefusal}
-use Rattle.bundle_image.specs.Images.{IsImage, FailsBundle}
+use Rattle.bundle_image.specs.Images.{IsBundleImage, FailsBundle}
 use Rattle.dir_model.specs.declared.area.Area.{Area}
 use Rattle.dir_model.specs.declared.intent.Draw.{Draw}
 use Rattle.dir_model.specs.declared.intent.Kind.TheVariants as kind
@@ -32,7 +32,7 @@ IsBundleJudgement path status old new =
     (status ≡ 10)
     ⊎ (status ≡ 14)
     ⊎ ((fault : BundleRefusal) × FailsBundle old.outside.bundle.tree path fault × IsAnswer (Err (import_refusal (bundle_refusal fault))) status old new)
-    ⊎ ((image : BundleImage) × IsImage old.outside.bundle.tree path image)
+    ⊎ ((image : BundleImage) × IsBundleImage old.outside.bundle.tree path image)
 
 -- with status 0 the line of the image was written that the bundle says, and it is stored
 pub record TellsImport (path : List ℕ) (now : ℕ) (draw : Draw) (status : ℕ) (old new : Moment) : Type 0 where

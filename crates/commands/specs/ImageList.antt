@@ -12,7 +12,7 @@ use Rattle.dir_trait.specs.State.{DirState}
 use Rattle.dir_trait.specs.Trace.{state_after}
 use Rattle.dir_trait.specs.DirCalls.{HeldBetween}
 use Rattle.dir_trait.specs.Knowledge.{Knows}
-use Rattle.dir_files.specs.AreaLocks.{takes, is_free_of, IsBusyElsewhere, IsFreeElsewhere}
+use Rattle.dir_files.specs.AreaLocks.{is_taking_area, is_free_of, IsBusyElsewhere, IsFreeElsewhere}
 use Rattle.dir_files.specs.declared.lock_error.LockError.{LockError}
 use Rattle.dir_files.specs.declared.lock_error.LockError.TheVariants as lock_error
 use Rattle.image_reading.specs.declared.error.StoreError.{StoreError}
@@ -24,16 +24,16 @@ use Rattle.standing_images.specs.Damage.{IsFirstDamage}
 use Rattle.standing_images.specs.Images.{AreStore, StoodTogether}
 use Rattle.command_outcomes.specs.declared.refusal.Refusal.{Refusal}
 use Rattle.command_outcomes.specs.declared.refusal.Refusal.TheVariants.{Busy, DirFault, NoMemory, Damaged}
-use Rattle.command_outcomes.specs.Moments.{DirSeen, Outcome}
-use Rattle.command_outcomes.specs.Conforming.{shown_at}
+use Rattle.command_outcomes.specs.Moments.{DirSeen, CommandOutcome}
+use Rattle.command_outcomes.specs.Conforming.{dir_at_moment}
 use Rattle.command_outcomes.specs.Ends.{is_common}
 
 -- the line that it prints of an image: its key, the name in its manifest, and the moment of its import
-abbrev pub image_text : Stored → List ℕ
-image_text image = ((((id_text image.key.bytes ++ codes " ") ++ image.manifest.name) ++ codes " ") ++ decimal image.moment) ++ codes "\n"
+abbrev pub image_line_text : Stored → List ℕ
+image_line_text image = ((((id_text image.key.bytes ++ codes " ") ++ image.manifest.name) ++ codes " ") ++ decimal image.moment) ++ codes "\n"
 
 abbrev pub images_text : List Stored → List ℕ
-images_text images = flat_map image_text images
+images_text images = flat_map image_line_text images
 
 -- the refusals that it may have: of the locks it takes that of the images
 abbrev pub image_list_refusal : Refusal → Bool
@@ -43,29 +43,29 @@ image_list_refusal refusal = is_common refusal
 
 -- what it asks of the directory: the lock of the images shared, reads and listings of images, and to give the lock back
 abbrev pub lists_images : Request → Bool
-lists_images request = takes Images Shared request || reads_images request
+lists_images request = is_taking_area Images Shared request || reads_images request
 
 -- the refusal where the lock wasn't had
-abbrev pub lock_refusal : LockError → Refusal
-lock_refusal lock_error.Busy = Busy Images
-lock_refusal lock_error.DirFault = DirFault
-lock_refusal lock_error.NoMemory = NoMemory
+abbrev pub images_lock_refusal : LockError → Refusal
+images_lock_refusal lock_error.Busy = Busy Images
+images_lock_refusal lock_error.DirFault = DirFault
+images_lock_refusal lock_error.NoMemory = NoMemory
 
 -- the refusal of a read of the images
-abbrev pub store_refusal : StoreError → Refusal
-store_refusal (store_error.Damaged path) = Damaged path
-store_refusal store_error.DirFault = DirFault
-store_refusal error = NoMemory
+abbrev pub images_read_refusal : StoreError → Refusal
+images_read_refusal (store_error.Damaged path) = Damaged path
+images_read_refusal store_error.DirFault = DirFault
+images_read_refusal error = NoMemory
 
 -- no other process held the lock of the images exclusively at an own step
 abbrev pub FindsFree : DirSeen → DirSeen → Type 0
-FindsFree old new = HeldBetween (shown_at old) (shown_at new) (IsFreeElsewhere old.process Images Shared)
+FindsFree old new = HeldBetween (dir_at_moment old) (dir_at_moment new) (IsFreeElsewhere old.process Images Shared)
 
 -- it had that lock, and printed the images that it read
 pub record ListsStore (old new : DirSeen) (text : List ℕ) : Type 0 where
   pub images : List Stored
   pub free : old.observed ≡ true → FindsFree old new
-  pub told : old.observed ≡ true → ReadsStore images (shown_at old) (shown_at new)
+  pub told : old.observed ≡ true → ReadsStore images (dir_at_moment old) (dir_at_moment new)
   pub is : text ≡ images_text images
 
 -- it printed the images that stood together while it had the lock
@@ -76,24 +76,24 @@ pub record ListsStanding (old new : DirSeen) (text : List ℕ) : Type 0 where
 
 -- it is so where the process knows that it has no handle open on the lock of the images
 abbrev pub WhereFree : DirSeen → Type 0 → Type 0
-WhereFree old P = old.observed ≡ true → (s : Seen) → Knows (shown_at old) s → is_free_of Images s ≡ true → P
+WhereFree old P = old.observed ≡ true → (s : Seen) → Knows (dir_at_moment old) s → is_free_of Images s ≡ true → P
 
 -- another process held the lock of the images exclusively at an own step
-abbrev pub IsHeldElsewhere : DirSeen → DirSeen → Type 0
-IsHeldElsewhere old new = HeldBetween (shown_at old) (shown_at new) (IsBusyElsewhere old.process Images Shared)
+abbrev pub ImagesHeldElsewhere : DirSeen → DirSeen → Type 0
+ImagesHeldElsewhere old new = HeldBetween (dir_at_moment old) (dir_at_moment new) (IsBusyElsewhere old.process Images Shared)
 
 -- it had the lock, and the path is of a part that wasn't there or had no reading, the first of its image, which is the first that isn't
 -- whole of those that the listing of the area showed
-pub record LacksPart (path : List ℕ) (old new : DirSeen) : Type 0 where
+pub record ListsLackingPart (path : List ℕ) (old new : DirSeen) : Type 0 where
   pub place : IsStorePath path
   pub free : old.observed ≡ true → FindsFree old new
-  pub told : old.observed ≡ true → LacksListed (store_error.Damaged path) (shown_at old) (shown_at new)
+  pub told : old.observed ≡ true → LacksListed (store_error.Damaged path) (dir_at_moment old) (dir_at_moment new)
 
 -- what was told of the images, or of their lock
-abbrev pub ImageListSays : DirSeen → DirSeen → Outcome → Type 0
+abbrev pub ImageListSays : DirSeen → DirSeen → CommandOutcome → Type 0
 ImageListSays old new (Ok text) = ListsStore old new text × WhereFree old (IsConforming new.trace → ListsStanding old new text)
-ImageListSays old new (Err (Busy area)) = WhereFree old (IsHeldElsewhere old new)
-ImageListSays old new (Err (Damaged path)) = LacksPart path old new
+ImageListSays old new (Err (Busy area)) = WhereFree old (ImagesHeldElsewhere old new)
+ImageListSays old new (Err (Damaged path)) = ListsLackingPart path old new
 ImageListSays old new (Err refusal) = Unit {0}
 
 -- the text is that of the images of the store, whatever list of them is taken
@@ -114,8 +114,8 @@ abbrev pub WhereUnheld : DirSeen → (DirState → Type 0) → Type 0
 WhereUnheld old P = IsFreeElsewhere old.process Images Shared (state_after old.trace) × P (state_after old.trace)
 
 -- what it comes to where nobody else steps: by the lock as it was held before; or by its own reads, which are of the store as it was before
-abbrev pub ListsQuietly : DirSeen → DirSeen → Outcome → Type 0
-ListsQuietly old new (Ok text) = ListsStore old new text × WhereUnheld old (λ s. PrintsStore s text)
-ListsQuietly old new (Err (Busy area)) = (area ≡ Images) × IsBusyElsewhere old.process Images Shared (state_after old.trace)
-ListsQuietly old new (Err (Damaged path)) = LacksPart path old new × WhereUnheld old (λ s. NamesDamage s path)
-ListsQuietly old new (Err refusal) = ⊥
+abbrev pub ListsImagesQuietly : DirSeen → DirSeen → CommandOutcome → Type 0
+ListsImagesQuietly old new (Ok text) = ListsStore old new text × WhereUnheld old (λ s. PrintsStore s text)
+ListsImagesQuietly old new (Err (Busy area)) = (area ≡ Images) × IsBusyElsewhere old.process Images Shared (state_after old.trace)
+ListsImagesQuietly old new (Err (Damaged path)) = ListsLackingPart path old new × WhereUnheld old (λ s. NamesDamage s path)
+ListsImagesQuietly old new (Err refusal) = ⊥

@@ -10,18 +10,18 @@ use Rattle.commands.specs.Answers.{WritesOf}
 use Rattle.commands.specs.Opening.{directly}
 use Rattle.commands.specs.Phases.{names_none}
 use Rattle.commands.specs.Command.{Command, nothing, alone, intent_for, WhereAllKeepRules, WhereObserved}
-use Rattle.commands.specs.ImageList.{image_list_refusal, lists_images, images_text, LacksPart, IsHeldElsewhere, ListsStanding, ListsStore, ImageListSays, ListsQuietly}
+use Rattle.commands.specs.ImageList.{image_list_refusal, lists_images, images_text, ListsLackingPart, ImagesHeldElsewhere, ListsStanding, ListsStore, ImageListSays, ListsImagesQuietly}
 use Rattle.commands.specs.NextState.{LeavesAll}
 
 -- another process held the lock of the images exclusively at an own step; or a part of an image wasn't there or had no reading
 abbrev pub RefusesImageList : Refusal → DirSeen → DirSeen → Type 0
-RefusesImageList (Busy Images) old new = old.observed ≡ true → IsHeldElsewhere old new
-RefusesImageList (Damaged path) old new = LacksPart path old new
+RefusesImageList (Busy Images) old new = old.observed ≡ true → ImagesHeldElsewhere old new
+RefusesImageList (Damaged path) old new = ListsLackingPart path old new
 RefusesImageList refusal old new = ⊥
 
 -- with status 0 it wrote the lines of the images that it read; and where every process keeps the local rules, they stood together while it
 -- had the lock, and are all that stood when its listing began
-pub record TellsImages (status : ℕ) (old new : Moment) : Type 0 where
+pub record TellsImageLines (status : ℕ) (old new : Moment) : Type 0 where
   pub read : WhereObserved old (status ≡ 0 → WritesOf (ListsStore old.outside.dir new.outside.dir) old new)
   pub stood : WhereAllKeepRules old new (status ≡ 0 → WritesOf (ListsStanding old.outside.dir new.outside.dir) old new)
 
@@ -36,8 +36,8 @@ image_list_command = record {
   refusals = image_list_refusal;
   refused_for = λ now draw refusal old new. RefusesImageList refusal old.outside.dir new.outside.dir;
   names = names_none;
-  tells = λ now draw status old new. TellsImages status old new;
-  quiet = λ now draw old new o. ListsQuietly old.outside.dir new.outside.dir o;
+  tells = λ now draw status old new. TellsImageLines status old new;
+  quiet = λ now draw old new o. ListsImagesQuietly old.outside.dir new.outside.dir o;
   leaves = λ me draw old new. LeavesAll me old new;
   says = alone (λ now draw old new o. ImageListSays old.dir new.dir o);
 }

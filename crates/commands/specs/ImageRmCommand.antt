@@ -15,7 +15,7 @@ use Rattle.commands.specs.Kept.{KeepsRefused, RemovesNoneUnlessDone}
 use Rattle.commands.specs.Opening.{directly}
 use Rattle.commands.specs.Phases.{names_none}
 use Rattle.commands.specs.Command.{Command, nothing, alone, intent_for, WhereObserved}
-use Rattle.commands.specs.ImageRm.{image_rm_refusal, removed_text, is_removal_place, FindsBusy, HasFoundNone, HasMetStray, HasRemoved, ImageRmSays, RemovesQuietly}
+use Rattle.commands.specs.ImageRm.{image_rm_refusal, removed_image_text, is_removal_place, FindsBusy, HasFoundNone, HasMetStray, HasRemoved, ImageRmSays, RemovesQuietly}
 use Rattle.commands.specs.NextState.{LeavesBeside}
 use Rattle.commands.specs.Strays.{NeverComes}
 
@@ -30,7 +30,7 @@ RefusesImageRm key draw refusal old new = ⊥
 
 -- with status 0 it wrote that the image is removed, and removed it. Where it isn't done, it removed no folder
 pub record TellsImageRm (key : StoreKey) (draw : Draw) (status : ℕ) (old new : Moment) : Type 0 where
-  pub removed : WhereObserved old (status ≡ 0 → WritesOf (λ text. (text ≡ removed_text key) × HasRemoved key draw.uuid old.outside.dir new.outside.dir) old new)
+  pub removed : WhereObserved old (status ≡ 0 → WritesOf (λ text. (text ≡ removed_image_text key) × HasRemoved key draw.uuid old.outside.dir new.outside.dir) old new)
   pub kept : WhereObserved old (RemovesNoneUnlessDone status old new)
 
 -- it asks for the locks of images and removed, for its image's move and for the deletion of what was moved
@@ -40,7 +40,7 @@ image_rm_command key = record {
   approach = directly;
   asks = λ now draw. removes_at key draw.uuid;
   reads = nothing;
-  prints = λ draw bundle text. text ≡ removed_text key;
+  prints = λ draw bundle text. text ≡ removed_image_text key;
   refusals = image_rm_refusal;
   refused_for = λ now draw refusal old new. RefusesImageRm key draw refusal old.outside.dir new.outside.dir;
   names = names_none;

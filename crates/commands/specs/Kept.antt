@@ -2,10 +2,10 @@
 use Rattle.std.specs.Prelude.{◌≡◌, ◌⊎◌, ℕ, true, Ok, Err}
 use Rattle.dir_trait.specs.Causes.{Rose}
 use Rattle.folder_removal.specs.Removal.{KeptFolders}
-use Rattle.command_outcomes.specs.Moments.{DirSeen, Moment, Outcome}
+use Rattle.command_outcomes.specs.Moments.{DirSeen, Moment, CommandOutcome}
 
 -- where it was refused, this process removed no folder
-abbrev pub KeepsRefused : DirSeen → DirSeen → Outcome → Type 0
+abbrev pub KeepsRefused : DirSeen → DirSeen → CommandOutcome → Type 0
 KeepsRefused old new (Ok text) = Unit {0}
 KeepsRefused old new (Err refusal) = old.observed ≡ true → KeptFolders old.process old.trace new.trace
 

@@ -12,8 +12,8 @@ use Rattle.commands.specs.Opening.{directly}
 use Rattle.commands.specs.Phases.{names_none}
 
 -- with status 0 nothing was written
-abbrev pub WritesNothing : ℕ → Moment → Moment → Type 0
-WritesNothing status old new = status ≡ 0 → WritesOf (λ text. text ≡ []) old new
+abbrev pub WritesNoOutput : ℕ → Moment → Moment → Type 0
+WritesNoOutput status old new = status ≡ 0 → WritesOf (λ text. text ≡ []) old new
 
 -- it lists run, reads files of the pods there and looks at their locations, and leaves everything as it was. The refusal of its own is the
 -- listener's fault
@@ -27,7 +27,7 @@ metadata_command address count = record {
   refusals = service_refusals;
   refused_for = λ now draw refusal old new. refusal ≡ LinkFault;
   names = names_none;
-  tells = λ now draw status old new. WritesNothing status old new;
+  tells = λ now draw status old new. WritesNoOutput status old new;
   quiet = λ now draw old new o. (o ≡ Ok []) ⊎ (o ≡ Err LinkFault);
   leaves = λ me draw old new. LeavesAll me old new;
   says = alone (λ now draw old new o. PrintsNothing o);

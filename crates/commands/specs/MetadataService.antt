@@ -8,7 +8,7 @@ use Rattle.metadata.specs.Service.{Served, ServesAt}
 use Rattle.command_outcomes.specs.declared.refusal.Refusal.{Refusal}
 use Rattle.command_outcomes.specs.declared.refusal.Refusal.TheVariants.{DirFault, LinkFault, NoMemory}
 use Rattle.command_outcomes.specs.Ends.{is_common}
-use Rattle.command_outcomes.specs.Moments.{Outcome}
+use Rattle.command_outcomes.specs.Moments.{CommandOutcome}
 
 -- the refusals that it may have
 abbrev pub service_refusals : Refusal → Bool
@@ -22,13 +22,13 @@ service_refusal service.DirFault = DirFault
 service_refusal service.NoMemory = NoMemory
 
 -- it prints nothing
-abbrev pub service_outcome : Served → Outcome
+abbrev pub service_outcome : Served → CommandOutcome
 service_outcome (Ok done) = Ok []
 service_outcome (Err error) = Err (service_refusal error)
 
-abbrev pub PrintsNothing : Outcome → Type 0
+abbrev pub PrintsNothing : CommandOutcome → Type 0
 PrintsNothing o = IfOk o (λ text. text ≡ [])
 
 -- it listened at the address and served so many connections, or fewer, and this is what came of it
-abbrev pub ServesAs : List ℕ → List ℕ → ℕ → Outcome → ListenerAt → ListenerAt → DirAt → DirAt → Type 0
+abbrev pub ServesAs : List ℕ → List ℕ → ℕ → CommandOutcome → ListenerAt → ListenerAt → DirAt → DirAt → Type 0
 ServesAs key address count o old new from upto = (served : Served) × (o ≡ service_outcome served) × ServesAt key address count served old new from upto

@@ -16,14 +16,14 @@ use Rattle.pod_report.specs.declared.error.ReportError.{ReportError}
 use Rattle.pod_report.specs.declared.error.ReportError.TheVariants as report
 use Rattle.pod_report.specs.declared.line.PodLine.{PodLine}
 use Rattle.pod_report.specs.Before.{names_in_file}
-use Rattle.pod_report.specs.Manifests.{manifest_file}
+use Rattle.pod_report.specs.Manifests.{manifest_in_area}
 use Rattle.pod_report.specs.Requests.{surveys}
 use Rattle.pod_report.specs.SeenLines.{ListsSeen}
 use Rattle.pod_report.specs.Snapshot.{IsWeakSnapshot}
 use Rattle.command_outcomes.specs.declared.refusal.Refusal.{Refusal}
 use Rattle.command_outcomes.specs.declared.refusal.Refusal.TheVariants.{DirFault, NoMemory, Stray}
 use Rattle.command_outcomes.specs.Ends.{is_common}
-use Rattle.command_outcomes.specs.Moments.{Outcome}
+use Rattle.command_outcomes.specs.Moments.{CommandOutcome}
 use Rattle.commands.specs.Report.{Report}
 
 -- a name after another one
@@ -40,11 +40,11 @@ apps_text None = codes "-"
 apps_text (Some names) = names_text names
 
 -- the line of a pod: its uuid, its phase and its apps, with tabs between them
-abbrev pub line_text : PodLine → List ℕ
-line_text line = ((((pod_text line.pod.bytes ++ codes "\t") ++ phase_text line.phase) ++ codes "\t") ++ apps_text line.apps) ++ codes "\n"
+abbrev pub pod_line_text : PodLine → List ℕ
+pod_line_text line = ((((pod_text line.pod.bytes ++ codes "\t") ++ phase_text line.phase) ++ codes "\t") ++ apps_text line.apps) ++ codes "\n"
 
 abbrev pub list_text : List PodLine → List ℕ
-list_text lines = flat_map line_text lines
+list_text lines = flat_map pod_line_text lines
 
 -- the refusals that it may have
 abbrev pub list_refusal : Refusal → Bool
@@ -64,30 +64,30 @@ pub record PrintsLines (P : List PodLine → Type 0) (text : List ℕ) : Type 0 
   pub is : text ≡ list_text lines
 
 -- the six areas were listed, and then own readings found each pod that has a line, and missed each that has none
-abbrev pub SeesLines : ℕ → List Event → List Event → Outcome → Type 0
+abbrev pub SeesLines : ℕ → List Event → List Event → CommandOutcome → Type 0
 SeesLines me old new (Ok text) = PrintsLines (λ lines. ListsSeen lines me old new) text
 SeesLines me old new (Err refusal) = Unit {0}
 
 -- each line names that of its pod
-abbrev pub names_lines : Outcome → (PodId → Phase → Type 0) → Type 0
+abbrev pub names_lines : CommandOutcome → (PodId → Phase → Type 0) → Type 0
 names_lines (Ok text) Had = PrintsLines (AllByRecursion (λ (line : PodLine). Had line.pod line.phase)) text
 names_lines (Err refusal) Had = Unit {0}
 
 -- the lines are a weakly consistent snapshot of the pods; contradictory answers don't come
-abbrev pub TellsLines : ℕ → List Event → List Event → Outcome → Type 0
+abbrev pub TellsLines : ℕ → List Event → List Event → CommandOutcome → Type 0
 TellsLines me old new (Ok text) = PrintsLines (IsWeakSnapshot me old new) text
 TellsLines me old new (Err refusal) = ⊥
 
 -- the line that a state gives a pod: by the first area in lifecycle order in which it stands, by its lock there, and by its manifest there
-abbrev pub line_in : DirState → PodId → Found → List ℕ
-line_in s pod (At phase area) = line_text (record { pod = pod; phase = phase; apps = names_in_file (file_at s (manifest_file pod area)) })
-line_in s pod Gone = []
+abbrev pub pod_line_in : DirState → PodId → Found → List ℕ
+pod_line_in s pod (At phase area) = pod_line_text (record { pod = pod; phase = phase; apps = names_in_file (file_at s (manifest_in_area pod area)) })
+pod_line_in s pod Gone = []
 
 -- where nobody else steps it prints such a line of each pod that stands in the state before, by uuid
 abbrev pub sequential_list : DirState → List ℕ
-sequential_list s = flat_map (λ pod. line_in s pod (sequential_read s pod)) (pods_standing s.namespace)
+sequential_list s = flat_map (λ pod. pod_line_in s pod (sequential_read s pod)) (pods_standing s.namespace)
 
-abbrev pub IsListOf : DirState → Outcome → Type 0
+abbrev pub IsListOf : DirState → CommandOutcome → Type 0
 IsListOf s o = o ≡ Ok (sequential_list s)
 
 -- it lists the areas of pods, looks at the pods' locations and reads their manifests

@@ -23,20 +23,20 @@ use Rattle.dir_trait.specs.Knowledge.{Knows}
 use Rattle.dir_files.specs.AreaLocks.{IsBusyElsewhere}
 use Rattle.folder_building.specs.Work.{either}
 use Rattle.lifecycle.specs.Executions.{IsConforming}
-use Rattle.pod_build.specs.Progress.{Progress, at_work, handed}
-use Rattle.pod_build.specs.Work.{IsOwnFolder, HasOwnFolder}
+use Rattle.pod_build.specs.Progress.{Progress, seen_making, handed}
+use Rattle.pod_build.specs.Work.{IsMakerFolder, HasMakerFolder}
 use Rattle.pod_build.specs.declared.error.BuildError.{BuildError}
 use Rattle.pod_build.specs.Requests.{prepares}
-use Rattle.pod_build.specs.Causes.{IsRefused, IsMadeByPlan, FindsImagesFree}
+use Rattle.pod_build.specs.Causes.{IsBuildRefused, IsMadeByPlan, FindsImagesFree}
 use Rattle.pod_build.specs.Preparations.{Began, KnowsPrepared, IsPrepared}
 use Rattle.command_outcomes.specs.declared.refusal.Refusal.{Refusal}
 use Rattle.command_outcomes.specs.declared.refusal.Refusal.TheVariants.{Busy, DirFault, NoMemory}
-use Rattle.command_outcomes.specs.Moments.{DirSeen, Outcome}
-use Rattle.command_outcomes.specs.Conforming.{shown_at, begun}
+use Rattle.command_outcomes.specs.Moments.{DirSeen, CommandOutcome}
+use Rattle.command_outcomes.specs.Conforming.{dir_at_moment, seen_at_begin}
 use Rattle.command_outcomes.specs.Meanwhile.{Meanwhile}
 use Rattle.commands.specs.References.{OfReferences}
 use Rattle.commands.specs.Wants.{Wants}
-use Rattle.commands.specs.PrepareRefusals.{build_refusal}
+use Rattle.commands.specs.PrepareRefusals.{refusal_of_build}
 
 -- the line that it prints: the pod's name
 abbrev pub pod_line : PodId → List ℕ
@@ -51,19 +51,19 @@ abbrev pub prepares_pod : PodId → Request → Bool
 prepares_pod draw = either (prepares draw area.Prepared) (syncs area.Prepared)
 
 -- what is said where the area couldn't be synced, and what a sync then comes to: this line, or that
-abbrev pub sync_refusal : DirError → Refusal
-sync_refusal dir.Failed = DirFault
-sync_refusal error = NoMemory
+abbrev pub prepared_sync_refusal : DirError → Refusal
+prepared_sync_refusal dir.Failed = DirFault
+prepared_sync_refusal error = NoMemory
 
-abbrev pub SyncSays : List ℕ → Bool → DirAt → DirAt → Outcome → Type 0
+abbrev pub SyncSays : List ℕ → Bool → DirAt → DirAt → CommandOutcome → Type 0
 SyncSays line observed old new (Ok text) = (text ≡ line) × DirCall observed old (SyncArea area.Prepared) Done new
 SyncSays line observed old new (Err NoMemory) = DirCall observed old (SyncArea area.Prepared) (Refused dir.NoMemory 0) new
 SyncSays line observed old new (Err DirFault) = DirCall observed old (SyncArea area.Prepared) (Refused dir.Failed 0) new
 SyncSays line observed old new (Err refusal) = ⊥
 
 -- it is so where this process has just begun to prepare with that draw
-abbrev pub WhereBegun : Draw → ℕ → DirSeen → (Intent → Type 0) → Type 0
-WhereBegun draw now old P = (intent : Intent) → Began area.Prepared draw now intent → Knows (shown_at old) (begun intent) → P intent
+abbrev pub WherePrepareBegun : Draw → ℕ → DirSeen → (Intent → Type 0) → Type 0
+WherePrepareBegun draw now old P = (intent : Intent) → Began area.Prepared draw now intent → Knows (dir_at_moment old) (seen_at_begin intent) → P intent
 
 -- the pod that is wanted was prepared faithfully, by an own Ok move
 abbrev pub IsFaithful : Wants → PodId → DirSeen → DirSeen → Type 0
@@ -71,28 +71,28 @@ IsFaithful wants draw old new = OfReferences wants.images (λ refs. IsPrepared r
 
 -- by its own answers it brought the pod to prepared, by the plan that the store gave, and had the lock of images, which no other process held
 -- exclusively; and where every process keeps the local rules, the pod was prepared faithfully. Then it asked that the area be synced, which was answered so
-pub record BringsPod (wants : Wants) (now : ℕ) (draw : Draw) (reply : Reply) (old new : DirSeen) : Type 0 where
+pub record BringsAndSyncsPod (wants : Wants) (now : ℕ) (draw : Draw) (reply : Reply) (old new : DirSeen) : Type 0 where
   pub brought : DirSeen
   pub same : brought.process ≡ old.process
-  pub free : FindsImagesFree old.observed (shown_at old) (shown_at brought)
-  pub planned : OfReferences wants.images (λ refs. IsMadeByPlan old.observed refs wants.wishes draw now (shown_at old) (shown_at brought))
+  pub free : FindsImagesFree old.observed (dir_at_moment old) (dir_at_moment brought)
+  pub planned : OfReferences wants.images (λ refs. IsMadeByPlan old.observed refs wants.wishes draw now (dir_at_moment old) (dir_at_moment brought))
   pub extends : old.observed ≡ true → Extends (prepares draw.uuid area.Prepared) old.process old.trace brought.trace
-  pub knows : old.observed ≡ true → WhereBegun draw now old (λ intent. KnowsPrepared draw.uuid area.Prepared intent [] (shown_at brought))
-  pub faithful : old.observed ≡ true → IsConforming brought.trace → WhereBegun draw now old (λ intent. IsFaithful wants draw.uuid old brought)
+  pub knows : old.observed ≡ true → WherePrepareBegun draw now old (λ intent. KnowsPrepared draw.uuid area.Prepared intent [] (dir_at_moment brought))
+  pub faithful : old.observed ≡ true → IsConforming brought.trace → WherePrepareBegun draw now old (λ intent. IsFaithful wants draw.uuid old brought)
   pub synced : old.observed ≡ true → CallStep old.process brought.trace (SyncArea area.Prepared) reply new.trace
 
 -- by its own answers it knew the pod in prepared and held nothing, and then its sync of that area was answered so
-pub record Syncs (draw : PodId) (reply : Reply) (me : ℕ) (old new : List Event) : Type 0 where
+pub record SyncsPreparedArea (draw : PodId) (reply : Reply) (me : ℕ) (old new : List Event) : Type 0 where
   pub intent : Intent
   pub entries : List Entry
   pub mid : List Event
   pub prepares : Extends (prepares draw area.Prepared) me old mid
-  pub knew : IsTied me mid (at_work intent [] (handed draw area.Prepared entries))
+  pub knew : IsTied me mid (seen_making intent [] (handed draw area.Prepared entries))
   pub synced : CallStep me mid (SyncArea area.Prepared) reply new
 
 -- a whole process did so, where the sync was answered so, or Ok
 abbrev pub HasBrought : PodId → Reply → DirSeen → DirSeen → Type 0
-HasBrought draw reply old new = Meanwhile (Syncs draw reply) old.process old.trace new.trace
+HasBrought draw reply old new = Meanwhile (SyncsPreparedArea draw reply) old.process old.trace new.trace
 
 abbrev pub HasSynced : PodId → DirSeen → DirSeen → Type 0
 HasSynced draw old new = HasBrought draw Done old new
@@ -101,8 +101,8 @@ HasSynced draw old new = HasBrought draw Done old new
 pub record KeepsFolder (draw : PodId) (me : ℕ) (old new : List Event) : Type 0 where
   pub intent : Intent
   pub progress : Progress
-  pub own : IsOwnFolder draw progress.making
-  pub knew : IsTied me new (at_work intent [] progress)
+  pub own : IsMakerFolder draw progress.making
+  pub knew : IsTied me new (seen_making intent [] progress)
 
 -- a whole process left it so, or asked for no more than to begin
 abbrev pub HasKeptFolder : PodId → DirSeen → DirSeen → Type 0
@@ -110,24 +110,24 @@ HasKeptFolder draw old new = Extends is_begin old.process old.trace new.trace �
 
 -- it leaves nothing, or its own folder in embryo or in prepare, and no lock
 abbrev pub LeavesFolder : ℕ → Draw → DirSeen → DirSeen → Type 0
-LeavesFolder now draw old new = old.observed ≡ true → WhereBegun draw now old (λ intent. HasOwnFolder draw.uuid intent [] (shown_at new))
+LeavesFolder now draw old new = old.observed ≡ true → WherePrepareBegun draw now old (λ intent. HasMakerFolder draw.uuid intent [] (dir_at_moment new))
 
 -- why the pod wasn't prepared, and that this is what is said
 pub record RefusesPod (wants : Wants) (now : ℕ) (draw : Draw) (old new : DirSeen) (refusal : Refusal) : Type 0 where
   pub error : BuildError
-  pub is : refusal ≡ build_refusal wants.images error
-  pub cause : OfReferences wants.images (λ refs. IsRefused old.observed refs wants.wishes draw now error (shown_at old) (shown_at new))
+  pub is : refusal ≡ refusal_of_build wants.images error
+  pub cause : OfReferences wants.images (λ refs. IsBuildRefused old.observed refs wants.wishes draw now error (dir_at_moment old) (dir_at_moment new))
 
 -- where a lock was refused, another process held it exclusively at an own step
 abbrev pub IsAreaHeld : Area → DirSeen → DirSeen → Type 0
-IsAreaHeld area old new = HeldBetween (shown_at old) (shown_at new) (IsBusyElsewhere old.process area Shared)
+IsAreaHeld area old new = HeldBetween (dir_at_moment old) (dir_at_moment new) (IsBusyElsewhere old.process area Shared)
 
-abbrev pub IsHeldFrom : ℕ → Draw → Refusal → DirSeen → DirSeen → Type 0
-IsHeldFrom now draw refusal old new = (area : Area) → refusal ≡ Busy area → old.observed ≡ true → WhereBegun draw now old (λ intent. IsAreaHeld area old new)
+abbrev pub IsHeldFromPrepare : ℕ → Draw → Refusal → DirSeen → DirSeen → Type 0
+IsHeldFromPrepare now draw refusal old new = (area : Area) → refusal ≡ Busy area → old.observed ≡ true → WherePrepareBegun draw now old (λ intent. IsAreaHeld area old new)
 
 -- what was told of the pod. Only where the area wasn't synced the pod stands in prepared, and its name isn't printed
-abbrev pub PrepareSays : Wants → ℕ → Draw → DirSeen → DirSeen → Outcome → Type 0
-PrepareSays wants now draw old new (Ok text) = (text ≡ pod_line draw.uuid) × BringsPod wants now draw Done old new
-PrepareSays wants now draw old new (Err NoMemory) = LeavesFolder now draw old new ⊎ BringsPod wants now draw (Refused dir.NoMemory 0) old new
-PrepareSays wants now draw old new (Err DirFault) = LeavesFolder now draw old new ⊎ BringsPod wants now draw (Refused dir.Failed 0) old new
-PrepareSays wants now draw old new (Err refusal) = LeavesFolder now draw old new × RefusesPod wants now draw old new refusal × IsHeldFrom now draw refusal old new
+abbrev pub PrepareSays : Wants → ℕ → Draw → DirSeen → DirSeen → CommandOutcome → Type 0
+PrepareSays wants now draw old new (Ok text) = (text ≡ pod_line draw.uuid) × BringsAndSyncsPod wants now draw Done old new
+PrepareSays wants now draw old new (Err NoMemory) = LeavesFolder now draw old new ⊎ BringsAndSyncsPod wants now draw (Refused dir.NoMemory 0) old new
+PrepareSays wants now draw old new (Err DirFault) = LeavesFolder now draw old new ⊎ BringsAndSyncsPod wants now draw (Refused dir.Failed 0) old new
+PrepareSays wants now draw old new (Err refusal) = LeavesFolder now draw old new × RefusesPod wants now draw old new refusal × IsHeldFromPrepare now draw refusal old new

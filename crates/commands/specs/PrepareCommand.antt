@@ -14,7 +14,7 @@ use Rattle.commands.specs.Opening.{directly}
 use Rattle.commands.specs.Phases.{names_none}
 use Rattle.commands.specs.Command.{Command, nothing, alone, intent_for, WhereObserved, WhereAllKeepRules}
 use Rattle.commands.specs.Prepare.{pod_line, prepares_pod, HasBrought, HasKeptFolder, HasSynced, IsAreaHeld, IsFaithful, PrepareSays, RefusesPod}
-use Rattle.commands.specs.PrepareQuiet.{PreparesQuietly, is_pod_place}
+use Rattle.commands.specs.PrepareQuiet.{PreparesQuietly, is_making_spot}
 use Rattle.commands.specs.PrepareRefusals.{prepare_refusal}
 use Rattle.commands.specs.NextState.{LeavesBeside}
 use Rattle.commands.specs.Wants.{Wants}
@@ -56,6 +56,6 @@ prepare_command wants = record {
   names = names_none;
   tells = λ now draw status old new. TellsPrepare wants draw status old new;
   quiet = λ now draw old new o. PreparesQuietly wants now draw old.outside.dir new.outside.dir o;
-  leaves = λ me draw old new. LeavesBeside (is_pod_place draw.uuid) me old new;
+  leaves = λ me draw old new. LeavesBeside (is_making_spot draw.uuid) me old new;
   says = alone (λ now draw old new o. PrepareSays wants now draw old.dir new.dir o);
 }

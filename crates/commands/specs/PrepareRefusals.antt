@@ -42,41 +42,41 @@ dependency_refusal dep.TooMany = Limit MAX_NODES
 dependency_refusal dep.NoMemory = NoMemory
 
 -- the pod's manifest, by the name of the image, of the app or of the volume
-abbrev pub manifest_refusal : GenError → Refusal
-manifest_refusal gen.TooManyApps = Limit MAX_APPS
-manifest_refusal (gen.NoApp name) = BadManifest name NO_APP
-manifest_refusal (gen.NoExec name) = BadManifest name NO_EXEC
-manifest_refusal (gen.AppTwice name) = BadManifest name APP_TWICE
-manifest_refusal (gen.NoVolume name) = BadManifest name NO_VOLUME
-manifest_refusal gen.NoMemory = NoMemory
+abbrev pub pod_manifest_refusal : GenError → Refusal
+pod_manifest_refusal gen.TooManyApps = Limit MAX_APPS
+pod_manifest_refusal (gen.NoApp name) = BadManifest name NO_APP
+pod_manifest_refusal (gen.NoExec name) = BadManifest name NO_EXEC
+pod_manifest_refusal (gen.AppTwice name) = BadManifest name APP_TWICE
+pod_manifest_refusal (gen.NoVolume name) = BadManifest name NO_VOLUME
+pod_manifest_refusal gen.NoMemory = NoMemory
 
 -- an app's root, and its listing, which is only ever too large
 abbrev pub root_refusal : RenderError → Refusal
 root_refusal render.TooManyEntries = Limit MAX_ENTRIES
 root_refusal render.NoMemory = NoMemory
 
-abbrev pub listing_refusal : ListingError → Refusal
-listing_refusal (listing.TooMany limit) = Limit limit
-listing_refusal error = NoMemory
+abbrev pub root_listing_refusal : ListingError → Refusal
+root_listing_refusal (listing.TooMany limit) = Limit limit
+root_listing_refusal error = NoMemory
 
 -- the word at this place, as it was given
 abbrev pub word_at : List (List ℕ) → ℕ → List ℕ
 word_at words place = unwrap_or (slice_get words place) []
 
 -- the refusal of a pod for these words
-abbrev pub build_refusal : List (List ℕ) → BuildError → Refusal
-build_refusal words (build.Busy area) = Busy area
-build_refusal words (build.Damaged path) = Damaged path
-build_refusal words (build.NoMatch place) = NoImage (word_at words place)
-build_refusal words (build.DepError fault) = dependency_refusal fault
-build_refusal words (build.GenError refusal) = manifest_refusal refusal
-build_refusal words (build.RenderError refusal) = root_refusal refusal
-build_refusal words (build.ListingError refusal) = listing_refusal refusal
-build_refusal words (build.Taken pod) = Taken pod
-build_refusal words build.DirFault = DirFault
-build_refusal words build.Stray = Stray
-build_refusal words build.NoMemory = NoMemory
+abbrev pub refusal_of_build : List (List ℕ) → BuildError → Refusal
+refusal_of_build words (build.Busy area) = Busy area
+refusal_of_build words (build.Damaged path) = Damaged path
+refusal_of_build words (build.NoMatch place) = NoImage (word_at words place)
+refusal_of_build words (build.DepError fault) = dependency_refusal fault
+refusal_of_build words (build.GenError refusal) = pod_manifest_refusal refusal
+refusal_of_build words (build.RenderError refusal) = root_refusal refusal
+refusal_of_build words (build.ListingError refusal) = root_listing_refusal refusal
+refusal_of_build words (build.Taken pod) = Taken pod
+refusal_of_build words build.DirFault = DirFault
+refusal_of_build words build.Stray = Stray
+refusal_of_build words build.NoMemory = NoMemory
 
 -- that is said, or that memory ran out
-abbrev pub IsSaid : List (List ℕ) → BuildError → Refusal → Type 0
-IsSaid words error refusal = (refusal ≡ build_refusal words error) ⊎ (refusal ≡ NoMemory)
+abbrev pub IsSaidOfBuild : List (List ℕ) → BuildError → Refusal → Type 0
+IsSaidOfBuild words error refusal = (refusal ≡ refusal_of_build words error) ⊎ (refusal ≡ NoMemory)

@@ -25,10 +25,10 @@ use Rattle.pod_build.specs.declared.error.BuildError.TheVariants as build
 use Rattle.pod_plan.specs.declared.choice.Choice.{Choice}
 use Rattle.pod_plan.specs.declared.choice_error.ChoiceError.{ChoiceError}
 use Rattle.pod_plan.specs.declared.choice_error.ChoiceError.TheVariants as choice
-use Rattle.pod_plan.specs.Choices.{IsChoice, IsRefused}
+use Rattle.pod_plan.specs.Choices.{IsChoice, IsChoiceRefused}
 use Rattle.pod_build.specs.MakingRequests.{pod_at}
 use Rattle.pod_manifest.specs.Wishes.{Wishes}
-use Rattle.pod_plan.specs.Roots.{node_key, entries_together, AreFew}
+use Rattle.pod_plan.specs.Roots.{node_key, entries_together, AreFewEntries}
 use Rattle.render.specs.Assembly.{own_whitelist, IsAssembly}
 use Rattle.render.specs.Layers.{source_at}
 use Rattle.render.specs.Orders.{all_down}
@@ -46,7 +46,7 @@ use Rattle.tree_digest.specs.declared.listing_error.ListingError.{ListingError}
 use Rattle.command_outcomes.specs.declared.refusal.Refusal.{Refusal}
 use Rattle.commands.specs.ImageImportTable.{HasListing}
 use Rattle.commands.specs.References.{AreReferences}
-use Rattle.commands.specs.PrepareRefusals.{build_refusal}
+use Rattle.commands.specs.PrepareRefusals.{refusal_of_build}
 use Rattle.commands.specs.Wants.{Wants}
 
 -- it is so of the images of the store, of which there is one list by what is seen of them
@@ -55,22 +55,22 @@ OfStore s P = (images : List Stored) × AreStore images s × P images
 
 -- they make a pod for the references: of the best image for each, with the trees of their dependencies and its manifest; and there is no
 -- reason to make none
-pub record IsPodOf (images : List Stored) (refs : List ImageRef) (wishes : Wishes) : Type 0 where
+pub record IsPodOfReferences (images : List Stored) (refs : List ImageRef) (wishes : Wishes) : Type 0 where
   pub pod : Choice
   pub chosen : IsChoice images refs wishes pod
-  pub unrefused : (reason : ChoiceError) → IsRefused images refs wishes reason → reason ≡ choice.NoMemory
+  pub unrefused : (reason : ChoiceError) → IsChoiceRefused images refs wishes reason → reason ≡ choice.NoMemory
 
-abbrev pub MakesPod : List ImageRef → Wishes → DirState → Type 0
-MakesPod refs wishes s = OfStore s (λ images. IsPodOf images refs wishes)
+abbrev pub StoreMakesPod : List ImageRef → Wishes → DirState → Type 0
+StoreMakesPod refs wishes s = OfStore s (λ images. IsPodOfReferences images refs wishes)
 
 -- they make none for this reason, the first: a reference has no image; the tree of an image's dependencies has a fault; the manifest
 -- is refused. There is no other
 pub record IsReason (images : List Stored) (refs : List ImageRef) (wishes : Wishes) (reason : ChoiceError) : Type 0 where
-  pub refused : IsRefused images refs wishes reason
-  pub only : (other : ChoiceError) → IsRefused images refs wishes other → (other ≡ choice.NoMemory → ⊥) → other ≡ reason
+  pub refused : IsChoiceRefused images refs wishes reason
+  pub only : (other : ChoiceError) → IsChoiceRefused images refs wishes other → (other ≡ choice.NoMemory → ⊥) → other ≡ reason
 
-abbrev pub MakesNone : List ImageRef → Wishes → DirState → ChoiceError → Type 0
-MakesNone refs wishes s reason = OfStore s (λ images. IsReason images refs wishes reason)
+abbrev pub StoreMakesNoPod : List ImageRef → Wishes → DirState → ChoiceError → Type 0
+StoreMakesNoPod refs wishes s reason = OfStore s (λ images. IsReason images refs wishes reason)
 
 -- the image's listing stands there, and has these entries
 abbrev pub HasEntries : StoreKey → Entries → DirState → Type 0
@@ -82,25 +82,25 @@ pub record HaveEntries (images : List Stored) (nodes : List DepNode) (first othe
   pub each : AllByRecursion (λ n. HasEntries (node_key images nodes n) (own n) s) first
 
 -- the root of a tree, by the listings of its images, which have few enough entries together
-pub record IsRoot (images : List Stored) (tree : DepTree) (whole : Entries) (s : DirState) : Type 0 where
+pub record IsRootInStore (images : List Stored) (tree : DepTree) (whole : Entries) (s : DirState) : Type 0 where
   pub own : ℕ → Entries
   pub each : (n : ℕ) → n < length tree.nodes → HasEntries (node_key images tree.nodes n) (own n) s
-  pub few : AreFew own (all_down tree.nodes 0)
+  pub few : AreFewEntries own (all_down tree.nodes 0)
   pub rendered : IsAssembly tree.nodes (own_whitelist tree.nodes images) own (length tree.nodes) 0 whole
 
 -- it has one, and its listing isn't too large
 abbrev pub HasRoot : List Stored → DirState → DepTree → Type 0
-HasRoot images s tree = (whole : Entries) × IsRoot images tree whole s × IsListing (lines_of whole)
+HasRoot images s tree = (whole : Entries) × IsRootInStore images tree whole s × IsListing (lines_of whole)
 
 -- an image of the tree stands there and has no listing, or one that has no reading; and those before it in that order have
 -- theirs, with few enough entries together
-pub record LacksListing (images : List Stored) (path : List ℕ) (s : DirState) (tree : DepTree) : Type 0 where
+pub record TreeLacksListing (images : List Stored) (path : List ℕ) (s : DirState) (tree : DepTree) : Type 0 where
   pub first : List ℕ
   pub next : ℕ
   pub others : List ℕ
   pub own : ℕ → Entries
   pub earlier : HaveEntries images tree.nodes first (next ∷ others) own s
-  pub few : AreFew own first
+  pub few : AreFewEntries own first
   pub within : next < length tree.nodes
   pub stands : IsPresent (node_key images tree.nodes next) s
   pub is : path ≡ stored_path (node_key images tree.nodes next) tree_name
@@ -108,28 +108,28 @@ pub record LacksListing (images : List Stored) (path : List ℕ) (s : DirState) 
 
 -- with the listing of an image of the tree there are too many entries together, and those before it in that order have few
 -- enough
-pub record HasTooMany (images : List Stored) (s : DirState) (tree : DepTree) : Type 0 where
+pub record HasTooManyEntries (images : List Stored) (s : DirState) (tree : DepTree) : Type 0 where
   pub first : List ℕ
   pub next : ℕ
   pub others : List ℕ
   pub own : ℕ → Entries
   pub listed : HaveEntries images tree.nodes (first ++ next ∷ []) others own s
-  pub few : AreFew own first
+  pub few : AreFewEntries own first
   pub many : MAX_ENTRIES < entries_together own (first ++ next ∷ [])
 
 abbrev pub PassesLimit : List Stored → RenderError → DirState → DepTree → Type 0
-PassesLimit images TooManyEntries s tree = HasTooMany images s tree
+PassesLimit images TooManyEntries s tree = HasTooManyEntries images s tree
 PassesLimit images error s tree = ⊥
 
 -- the root of the tree has a listing that is too large
-pub record HasLargeListing (images : List Stored) (error : ListingError) (s : DirState) (tree : DepTree) : Type 0 where
+pub record RootListingIsLarge (images : List Stored) (error : ListingError) (s : DirState) (tree : DepTree) : Type 0 where
   pub whole : Entries
-  pub root : IsRoot images tree whole s
+  pub root : IsRootInStore images tree whole s
   pub large : IsTooLarge (lines_of whole) error
 
 -- they make a pod, but one of its trees fails so, and those before it have their roots
 pub record FailsRoot (images : List Stored) (refs : List ImageRef) (wishes : Wishes) (Fails : DepTree → Type 0) (s : DirState) : Type 0 where
-  pub made : IsPodOf images refs wishes
+  pub made : IsPodOfReferences images refs wishes
   pub before : List DepTree
   pub tree : DepTree
   pub after : List DepTree
@@ -155,8 +155,8 @@ abbrev pub LacksBytes : StoreKey → List ℕ → ℕ → List ℕ → DirState 
 LacksBytes key name size sha s = (bytes : List ℕ) → file_at s (image_inner key name) ≡ Some bytes → length bytes ≡ size → sha512 bytes ≡ sha → ⊥
 
 -- the root of a tree, with the image that each file of it is from
-pub record HasSources (images : List Stored) (tree : DepTree) (r : Rendering) (s : DirState) : Type 0 where
-  pub root : IsRoot images tree r.map s
+pub record RootHasSources (images : List Stored) (tree : DepTree) (r : Rendering) (s : DirState) : Type 0 where
+  pub root : IsRootInStore images tree r.map s
   pub put : IsPut tree.nodes (own_whitelist tree.nodes images) root.own (length tree.nodes) 0 r
 
 -- what a root has at a path can be copied: where it is a file, the image that it is from has it, as its listing says
@@ -169,13 +169,13 @@ CanCopyAll images r s entries = AllByRecursion (λ e. CanCopy images r s e.0 e.1
 
 -- all that the tree's root has can be
 abbrev pub CanCopyRoot : List Stored → DirState → DepTree → Type 0
-CanCopyRoot images s tree = (r : Rendering) × HasSources images tree r s × CanCopyAll images r s r.map
+CanCopyRoot images s tree = (r : Rendering) × RootHasSources images tree r s × CanCopyAll images r s r.map
 
 -- a file of the tree's root can't be copied, the first in the order of the root's listing: it is from an image of the tree that has it by its
 -- listing, and that has none of that size and with that SHA-512 there
-pub record LacksFile (images : List Stored) (path : List ℕ) (s : DirState) (tree : DepTree) : Type 0 where
+pub record LacksSourceFile (images : List Stored) (path : List ℕ) (s : DirState) (tree : DepTree) : Type 0 where
   pub rendering : Rendering
-  pub sourced : HasSources images tree rendering s
+  pub sourced : RootHasSources images tree rendering s
   pub before : Entries
   pub file : List ℕ
   pub meta : Meta
@@ -195,7 +195,7 @@ pub record LacksFile (images : List Stored) (path : List ℕ) (s : DirState) (tr
 
 -- they make a pod whose trees have their roots
 pub record IsPodWithRoots (images : List Stored) (refs : List ImageRef) (wishes : Wishes) (s : DirState) : Type 0 where
-  pub made : IsPodOf images refs wishes
+  pub made : IsPodOfReferences images refs wishes
   pub rooted : AllByRecursion (HasRoot images s) made.pod.trees
 
 abbrev pub MakesRoots : List ImageRef → Wishes → DirState → Type 0
@@ -210,7 +210,7 @@ pub record FailsFile (images : List Stored) (refs : List ImageRef) (wishes : Wis
   pub after : List DepTree
   pub split : is.made.pod.trees ≡ before ++ tree ∷ after
   pub earlier : AllByRecursion (CanCopyRoot images s) before
-  pub lacks : LacksFile images path s tree
+  pub lacks : LacksSourceFile images path s tree
 
 -- a folder of this name stands in embryo, or none
 abbrev pub IsTaken : PodId → DirState → Type 0
@@ -239,12 +239,12 @@ pub record LacksName (me : ℕ) (pod : PodId) (refs : List ImageRef) (wishes : W
 -- one of which a root can't be made so; or else they make a pod and its roots, and then the lock of embryo isn't had, or the pod's name is
 -- taken, or a file of a root is lacking
 abbrev pub StoreRefuses : ℕ → PodId → List ImageRef → Wishes → DirState → BuildError → Type 0
-StoreRefuses me draw refs wishes s (build.Damaged path) = IsFirstDamage path s ⊎ (MakesNoRoot refs wishes s (λ images. LacksListing images path) ⊎ LacksCopied me draw refs wishes path s)
-StoreRefuses me draw refs wishes s (build.NoMatch place) = MakesNone refs wishes s (choice.NoMatch place)
-StoreRefuses me draw refs wishes s (build.DepError fault) = MakesNone refs wishes s (choice.DepError fault)
-StoreRefuses me draw refs wishes s (build.GenError refusal) = MakesNone refs wishes s (choice.GenError refusal)
+StoreRefuses me draw refs wishes s (build.Damaged path) = IsFirstDamage path s ⊎ (MakesNoRoot refs wishes s (λ images. TreeLacksListing images path) ⊎ LacksCopied me draw refs wishes path s)
+StoreRefuses me draw refs wishes s (build.NoMatch place) = StoreMakesNoPod refs wishes s (choice.NoMatch place)
+StoreRefuses me draw refs wishes s (build.DepError fault) = StoreMakesNoPod refs wishes s (choice.DepError fault)
+StoreRefuses me draw refs wishes s (build.GenError refusal) = StoreMakesNoPod refs wishes s (choice.GenError refusal)
 StoreRefuses me draw refs wishes s (build.RenderError error) = MakesNoRoot refs wishes s (λ images. PassesLimit images error)
-StoreRefuses me draw refs wishes s (build.ListingError error) = MakesNoRoot refs wishes s (λ images. HasLargeListing images error)
+StoreRefuses me draw refs wishes s (build.ListingError error) = MakesNoRoot refs wishes s (λ images. RootListingIsLarge images error)
 StoreRefuses me draw refs wishes s (build.Busy Embryo) = MakesRoots refs wishes s
 StoreRefuses me draw refs wishes s (build.Taken pod) = (pod ≡ draw) × LacksName me draw refs wishes s
 StoreRefuses me draw refs wishes s build.Stray = MakesRoots refs wishes s
@@ -261,29 +261,29 @@ LocksRefuse me s build.NoMemory = Unit {0}
 LocksRefuse me s error = IsFreeElsewhere me Images Shared s
 
 -- the references are refused so, by the locks and the store
-abbrev pub Refuses : ℕ → PodId → List ImageRef → Wishes → DirState → BuildError → Type 0
-Refuses me draw refs wishes s error = LocksRefuse me s error × StoreRefuses me draw refs wishes s error
+abbrev pub RefusesReferences : ℕ → PodId → List ImageRef → Wishes → DirState → BuildError → Type 0
+RefusesReferences me draw refs wishes s error = LocksRefuse me s error × StoreRefuses me draw refs wishes s error
 
 -- the state tells of it: it is no failure, no want of memory and no stray answer
-abbrev pub IsTold : BuildError → Type 0
-IsTold build.DirFault = ⊥
-IsTold build.NoMemory = ⊥
-IsTold build.Stray = ⊥
-IsTold error = Unit {0}
+abbrev pub IsToldByState : BuildError → Type 0
+IsToldByState build.DirFault = ⊥
+IsToldByState build.NoMemory = ⊥
+IsToldByState build.Stray = ⊥
+IsToldByState error = Unit {0}
 
 -- the locks and the store refuse them so and not otherwise
 abbrev pub IsOnly : ℕ → PodId → List ImageRef → Wishes → DirState → BuildError → Type 0
-IsOnly me draw refs wishes s error = IsTold error → (other : BuildError) → IsTold other → Refuses me draw refs wishes s other → other ≡ error
+IsOnly me draw refs wishes s error = IsToldByState error → (other : BuildError) → IsToldByState other → RefusesReferences me draw refs wishes s other → other ≡ error
 
 -- nothing of which the state tells refuses them
 abbrev pub NothingRefuses : ℕ → PodId → List ImageRef → Wishes → DirState → Type 0
-NothingRefuses me draw refs wishes s = (error : BuildError) → IsTold error → Refuses me draw refs wishes s error → ⊥
+NothingRefuses me draw refs wishes s = (error : BuildError) → IsToldByState error → RefusesReferences me draw refs wishes s error → ⊥
 
 -- what is said of the words that name the images, by the locks and the store, is of the refusal that comes first
 pub record RefusesByState (wants : Wants) (draw : PodId) (refusal : Refusal) (me : ℕ) (s : DirState) : Type 0 where
   pub error : BuildError
-  pub is : refusal ≡ build_refusal wants.images error
+  pub is : refusal ≡ refusal_of_build wants.images error
   pub refs : List ImageRef
   pub are : AreReferences wants.images refs
-  pub refuses : Refuses me draw refs wants.wishes s error
+  pub refuses : RefusesReferences me draw refs wants.wishes s error
   pub only : IsOnly me draw refs wants.wishes s error

@@ -21,15 +21,15 @@ pub record ExistedBetween (pod : PodId) (old new : List Event) : Type 0 where
   pub was : exists (pod_state (pod_text pod.bytes) then) ≡ true
 
 -- and at the later one it is gone, for good
-pub record IsRemovedBetween (pod : PodId) (old new : List Event) : Type 0 where
+pub record ExistedThenGone (pod : PodId) (old new : List Event) : Type 0 where
   pub existed : ExistedBetween pod old new
   pub gone : IsGoneForGood pod new
 
 -- so is a pod that a line calls deleted
-abbrev pub IsDeletedSo : List Event → List Event → GcLine → Type 0
-IsDeletedSo old new line = (pod : PodId) → line.pod ≡ Some pod → line.deed ≡ Deleted → IsRemovedBetween pod old new
+abbrev pub IsDeletedForGood : List Event → List Event → GcLine → Type 0
+IsDeletedForGood old new line = (pod : PodId) → line.pod ≡ Some pod → line.deed ≡ Deleted → ExistedThenGone pod old new
 
 -- a sweep printed the lines of what it did, and so are the pods that they call deleted
 pub record SweepsForGood (times : Times) (old new : DirSeen) (text : List ℕ) : Type 0 where
   pub swept : HasSweptPods times old new text
-  pub deleted : AllByRecursion (IsDeletedSo old.trace new.trace) swept.lines
+  pub deleted : AllByRecursion (IsDeletedForGood old.trace new.trace) swept.lines

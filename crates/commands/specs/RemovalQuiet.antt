@@ -14,7 +14,7 @@ use Rattle.dir_model.specs.declared.spot.Mode.TheVariants.{Exclusive}
 use Rattle.dir_model.specs.declared.spot.Spot.{Spot}
 use Rattle.dir_model.specs.declared.spot.Which.{Which}
 use Rattle.dir_model.specs.Areas.{is_stage}
-use Rattle.dir_model.specs.Pods.{pod_text, pod_of}
+use Rattle.dir_model.specs.Pods.{pod_text, pod_of_text}
 use Rattle.dir_trait.specs.State.{DirState, stands, folder_at}
 use Rattle.dir_trait.specs.Trace.{state_after}
 use Rattle.dir_rules.specs.Standing.{is_in}
@@ -26,7 +26,7 @@ use Rattle.phase_read.specs.declared.found.Found.TheVariants.{At}
 use Rattle.phase_read.specs.Exact.{IsInPhase}
 use Rattle.phase_read.specs.Read.{pod_spot, is_pod_spot}
 use Rattle.phase_read.specs.Sequential.{sequential_read}
-use Rattle.pod_locks.specs.ClaimCauses.{LacksManifest}
+use Rattle.pod_locks.specs.ClaimCauses.{IsPreparedWithoutManifest}
 use Rattle.pod_locks.specs.Causes.{is_held_against}
 use Rattle.pod_gc.specs.RemovalRequests.{is_removable, is_garbage_place}
 use Rattle.pod_gc.specs.declared.ages.Times.{Times}
@@ -38,11 +38,11 @@ use Rattle.pod_gc.specs.Ages.{is_young, is_ripe}
 use Rattle.pod_gc.specs.Requests.{goes_to, moves_pods, lets_be, may_be_busy}
 use Rattle.command_outcomes.specs.declared.refusal.Refusal.TheVariants.{NoPod, WrongPhase, NoManifest, PodBusy, Stray}
 use Rattle.command_outcomes.specs.Meanwhile.{Meanwhile}
-use Rattle.command_outcomes.specs.Moments.{DirSeen, Outcome}
-use Rattle.commands.specs.Rm.{removed_text, HasRemovedPod, HasFoundNoPod, HasFoundWrong, HasFoundNoManifest, HasFoundBusy, HasMetStrayAtPod}
+use Rattle.command_outcomes.specs.Moments.{DirSeen, CommandOutcome}
+use Rattle.commands.specs.Rm.{removed_pod_text, HasRemovedPod, HasFoundNoPod, HasFoundWrong, HasFoundNoManifest, HasFoundBusy, HasMetStrayAtPod}
 use Rattle.commands.specs.Gc.{HasSweptPods, HasMetStrayInPods}
-use Rattle.commands.specs.RemovalTable.{moment_at, deed_when_moved, removal_refusal, ByTable}
-use Rattle.commands.specs.GcLines.{HasLine, AreTheLinesOf}
+use Rattle.commands.specs.RemovalTable.{mark_moment_at, deed_when_moved, removal_refusal, ByTable}
+use Rattle.commands.specs.GcLines.{HasLine, AreTheGcLines}
 use Rattle.commands.specs.Opening.{OnceFound}
 use Rattle.commands.specs.Strays.{ComesOfApp}
 
@@ -78,14 +78,14 @@ pub record IsHeldNow (its_place : Spot → Bool) (which : Which) (me : ℕ) (s :
 
 -- of `rm`: the pod is gone, which could be removed before; or by the state before there was none, or it had that phase, or no manifest, or its lock was held; or by
 -- its own answers. Whether it is refused, and why, is what the state before asks for
-abbrev pub RemovesPodQuietly : PodId → DirSeen → DirSeen → Outcome → Type 0
+abbrev pub RemovesPodQuietly : PodId → DirSeen → DirSeen → CommandOutcome → Type 0
 RemovesPodQuietly pod old new (Ok text) =
-    (text ≡ removed_text pod) × HasRemovedPod pod old new × (IsConforming new.trace → IsGoneForGood pod new.trace × IsRemovableNow pod old.trace × (removal_refusal old.process pod (state_after old.trace) ≡ None))
+    (text ≡ removed_pod_text pod) × HasRemovedPod pod old new × (IsConforming new.trace → IsGoneForGood pod new.trace × IsRemovableNow pod old.trace × (removal_refusal old.process pod (state_after old.trace) ≡ None))
 RemovesPodQuietly pod old new (Err NoPod) = HasFoundNoPod pod old new × StandsNowhere pod (state_after old.trace) × (removal_refusal old.process pod (state_after old.trace) ≡ Some NoPod)
 RemovesPodQuietly pod old new (Err (WrongPhase phase)) =
     HasFoundWrong pod phase old new × (IsConforming new.trace → HasPhaseNow pod phase old.trace × (removal_refusal old.process pod (state_after old.trace) ≡ Some (WrongPhase phase)))
 RemovesPodQuietly pod old new (Err (NoManifest other)) =
-    (other ≡ pod) × HasFoundNoManifest pod old new × (IsConforming new.trace → LacksManifest pod (state_after old.trace) × (removal_refusal old.process pod (state_after old.trace) ≡ Some (NoManifest pod)))
+    (other ≡ pod) × HasFoundNoManifest pod old new × (IsConforming new.trace → IsPreparedWithoutManifest pod (state_after old.trace) × (removal_refusal old.process pod (state_after old.trace) ≡ Some (NoManifest pod)))
 RemovesPodQuietly pod old new (Err (PodBusy other which)) =
     (other ≡ pod) × HasFoundBusy pod which old new × IsHeldNow (is_pod_spot pod) which old.process (state_after old.trace)
     × (IsConforming new.trace → removal_refusal old.process pod (state_after old.trace) ≡ Some (PodBusy pod which))
@@ -99,7 +99,7 @@ is_pods_place place = is_stage place.area
 -- no folder of a pod stands in embryo, unless another process held that area's lock before
 abbrev pub LeavesNoEmbryo : DirSeen → DirSeen → Type 0
 LeavesNoEmbryo old new =
-    ((name : List ℕ) (pod : PodId) → pod_of name ≡ Some pod → folder_at (state_after new.trace).namespace (record { area = Embryo; name = name }) ≡ None)
+    ((name : List ℕ) (pod : PodId) → pod_of_text name ≡ Some pod → folder_at (state_after new.trace).namespace (record { area = Embryo; name = name }) ≡ None)
     ⊎ IsBusyElsewhere old.process Embryo Exclusive (state_after old.trace)
 
 -- a pod in this phase is being made, waits or runs: no step of a sweep brings it there
@@ -154,7 +154,7 @@ GoneAfter new line = (pod : PodId) → line.pod ≡ Some pod → line.deed ≡ D
 -- each pod that stood in an area before has a line of that place, but those in embryo where another process held that area's lock
 abbrev pub TellsOfEach : List GcLine → DirSeen → Type 0
 TellsOfEach lines old =
-    (name : List ℕ) (pod : PodId) (place : Area) → pod_of name ≡ Some pod → is_stage place ≡ true → stands (state_after old.trace).namespace (pod_spot pod place) ≡ true →
+    (name : List ℕ) (pod : PodId) (place : Area) → pod_of_text name ≡ Some pod → is_stage place ≡ true → stands (state_after old.trace).namespace (pod_spot pod place) ≡ true →
     HasLine place pod lines ⊎ ((place ≡ Embryo) × IsBusyElsewhere old.process Embryo Exclusive (state_after old.trace))
 
 -- a line of this pod says that it was moved from the one place to the other
@@ -167,12 +167,12 @@ abbrev pub SaysMoved : PodId → Area → List GcLine → Type 0
 SaysMoved pod to lines = (from : Area) × MovedFrom from to pod lines
 
 -- each line of a garbage place is of a pod that stood there before, or of which a line says that it was moved there
-abbrev pub CameSo : List GcLine → List Event → GcLine → Type 0
-CameSo lines old line = (pod : PodId) → line.pod ≡ Some pod → is_garbage_place line.place ≡ true → (stands (state_after old).namespace (pod_spot pod line.place) ≡ true) ⊎ SaysMoved pod line.place lines
+abbrev pub StoodOrWasMoved : List GcLine → List Event → GcLine → Type 0
+StoodOrWasMoved lines old line = (pod : PodId) → line.pod ≡ Some pod → is_garbage_place line.place ≡ true → (stands (state_after old).namespace (pod_spot pod line.place) ≡ true) ⊎ SaysMoved pod line.place lines
 
 -- a pod that was moved has a line of the place where it was moved to
-abbrev pub GoesOnSo : List GcLine → GcLine → Type 0
-GoesOnSo lines line = (pod : PodId) (to : Area) → line.pod ≡ Some pod → line.deed ≡ Moved to → HasLine to pod lines
+abbrev pub HasLineWhereMoved : List GcLine → GcLine → Type 0
+HasLineWhereMoved lines line = (pod : PodId) (to : Area) → line.pod ≡ Some pod → line.deed ≡ Moved to → HasLine to pod lines
 
 -- of a pod that is called busy, or is kept for a phase that has an owner, another process held that lock before, of a folder at one of
 -- the pod's places
@@ -181,20 +181,20 @@ BusyAsBefore me old line = (pod : PodId) (which : Which) → line.pod ≡ Some p
 
 -- of no pod it is said that it had left, but of one in prepared whose folder stood there before without its manifest
 abbrev pub LeftAsBefore : List Event → GcLine → Type 0
-LeftAsBefore old line = (pod : PodId) → line.pod ≡ Some pod → line.deed ≡ Left → (line.place ≡ area.Prepared) × LacksManifest pod (state_after old)
+LeftAsBefore old line = (pod : PodId) → line.pod ≡ Some pod → line.deed ≡ Left → (line.place ≡ area.Prepared) × IsPreparedWithoutManifest pod (state_after old)
 
 -- by the `created-` marks that stood in its folder before, a pod that is kept in prepared wasn't ripe, and one that was moved from there was
 pub record WaitedAsBefore (times : Times) (old : List Event) (line : GcLine) : Type 0 where
-  pub waits : (pod : PodId) (phase : Phase) → line.pod ≡ Some pod → line.place ≡ area.Prepared → line.deed ≡ Kept phase → is_ripe times.now times.expire (moment_at (codes "created-") pod area.Prepared (state_after old)) ≡ false
-  pub ripe : (pod : PodId) (to : Area) → line.pod ≡ Some pod → line.place ≡ area.Prepared → line.deed ≡ Moved to → is_ripe times.now times.expire (moment_at (codes "created-") pod area.Prepared (state_after old)) ≡ true
+  pub waits : (pod : PodId) (phase : Phase) → line.pod ≡ Some pod → line.place ≡ area.Prepared → line.deed ≡ Kept phase → is_ripe times.now times.expire (mark_moment_at (codes "created-") pod area.Prepared (state_after old)) ≡ false
+  pub ripe : (pod : PodId) (to : Area) → line.pod ≡ Some pod → line.place ≡ area.Prepared → line.deed ≡ Moved to → is_ripe times.now times.expire (mark_moment_at (codes "created-") pod area.Prepared (state_after old)) ≡ true
 
 -- by the `marked-` marks that stood in its folder before, a pod that stood in exited-garbage and is kept there was young, and one that was
 -- deleted there wasn't
 pub record AgedAsBefore (times : Times) (old : List Event) (line : GcLine) : Type 0 where
   pub rests : (pod : PodId) (phase : Phase) → line.pod ≡ Some pod → line.place ≡ area.ExitedGarbage → stands (state_after old).namespace (pod_spot pod area.ExitedGarbage) ≡ true → line.deed ≡ Kept phase →
-      is_young times.now times.grace (moment_at (codes "marked-") pod area.ExitedGarbage (state_after old)) ≡ true
+      is_young times.now times.grace (mark_moment_at (codes "marked-") pod area.ExitedGarbage (state_after old)) ≡ true
   pub over : (pod : PodId) → line.pod ≡ Some pod → line.place ≡ area.ExitedGarbage → stands (state_after old).namespace (pod_spot pod area.ExitedGarbage) ≡ true → line.deed ≡ Deleted →
-      is_young times.now times.grace (moment_at (codes "marked-") pod area.ExitedGarbage (state_after old)) ≡ false
+      is_young times.now times.grace (mark_moment_at (codes "marked-") pod area.ExitedGarbage (state_after old)) ≡ false
 
 -- of a pod that was moved to its line's place, the line says what the state before asks for at the place from which it was moved
 abbrev pub ByTableMoved : Times → ℕ → List GcLine → List Event → GcLine → Type 0
@@ -215,7 +215,7 @@ SaysFitting line = (pod : PodId) → line.pod ≡ Some pod → may_say line.plac
 -- of `gc`: its lines by its own steps, one of each pod that stood before, one more where a pod was moved to, and none of others; those of
 -- kept, moved, busy and left pods agree with the state before, and so do the ages; the deleted ones are gone, those neither moved nor
 -- deleted stand where they were, and no embryo is left
-pub record SweepsSo (times : Times) (old new : DirSeen) (text : List ℕ) : Type 0 where
+pub record SweepsByOwnSteps (times : Times) (old new : DirSeen) (text : List ℕ) : Type 0 where
   pub swept : HasSweptPods times old new text
   pub tells : IsConforming new.trace → TellsOfEach swept.lines old
   pub kept : IsConforming new.trace → AllByRecursion (KeptAsBefore old.trace) swept.lines
@@ -223,8 +223,8 @@ pub record SweepsSo (times : Times) (old new : DirSeen) (text : List ℕ) : Type
   pub moved : AllByRecursion (MovedAsBefore old.trace) swept.lines
   pub had : IsConforming new.trace → AllByRecursion (SweptAsBefore old.trace) swept.lines
   pub stood : AllByRecursion (StoodAsBefore old.trace) swept.lines
-  pub came : IsConforming new.trace → AllByRecursion (CameSo swept.lines old.trace) swept.lines
-  pub goes_on : IsConforming new.trace → AllByRecursion (GoesOnSo swept.lines) swept.lines
+  pub came : IsConforming new.trace → AllByRecursion (StoodOrWasMoved swept.lines old.trace) swept.lines
+  pub goes_on : IsConforming new.trace → AllByRecursion (HasLineWhereMoved swept.lines) swept.lines
   pub stays : IsConforming new.trace → AllByRecursion (StandsAfter new.trace) swept.lines
   pub gone : IsConforming new.trace → AllByRecursion (GoneAfter new.trace) swept.lines
   pub busy : AllByRecursion (BusyAsBefore old.process old.trace) swept.lines
@@ -235,9 +235,9 @@ pub record SweepsSo (times : Times) (old new : DirSeen) (text : List ℕ) : Type
   pub embryos : LeavesNoEmbryo old new
   pub table : IsConforming new.trace → AllByRecursion (ByTable times old.process old.trace) swept.lines
   pub moved_on : IsConforming new.trace → AllByRecursion (ByTableMoved times old.process swept.lines old.trace) swept.lines
-  pub whole : IsConforming new.trace → AreTheLinesOf times old.process (state_after old.trace) swept.lines
+  pub whole : IsConforming new.trace → AreTheGcLines times old.process (state_after old.trace) swept.lines
 
-abbrev pub SweepsPodsQuietly : Times → DirSeen → DirSeen → Outcome → Type 0
-SweepsPodsQuietly times old new (Ok text) = SweepsSo times old new text
+abbrev pub SweepsPodsQuietly : Times → DirSeen → DirSeen → CommandOutcome → Type 0
+SweepsPodsQuietly times old new (Ok text) = SweepsByOwnSteps times old new text
 SweepsPodsQuietly times old new (Err Stray) = HasMetStrayInPods old new × Meanwhile ComesOfApp old.process old.trace new.trace
 SweepsPodsQuietly times old new (Err refusal) = ⊥

@@ -34,8 +34,8 @@ moment_in text None s = None
 moment_in text (Some folder) s = moment_among text (items_in folder [] s.entries)
 
 -- in the pod's folder at this place
-abbrev pub moment_at : List ℕ → PodId → Area → DirState → Option ℕ
-moment_at text pod place s = moment_in text (folder_at s.namespace (pod_spot pod place)) s
+abbrev pub mark_moment_at : List ℕ → PodId → Area → DirState → Option ℕ
+mark_moment_at text pod place s = moment_in text (folder_at s.namespace (pod_spot pod place)) s
 
 -- another process holds this lock of the folder, in a mode that conflicts
 abbrev pub is_held_in : ℕ → Which → Mode → Option ℕ → DirState → Bool
@@ -66,10 +66,10 @@ discards_pod me pod s =
 abbrev pub deed_at : Times → ℕ → PodId → Area → DirState → Deed
 deed_at times me pod area.Embryo s = Moved area.Garbage
 deed_at times me pod area.Prepare s = cond (is_held_at me Own Shared pod area.Prepare s) (Kept kind.Preparing) (Moved area.Garbage)
-deed_at times me pod area.Prepared s = cond (is_ripe times.now times.expire (moment_at (codes "created-") pod area.Prepared s)) (discards_pod me pod s) (Kept kind.Prepared)
+deed_at times me pod area.Prepared s = cond (is_ripe times.now times.expire (mark_moment_at (codes "created-") pod area.Prepared s)) (discards_pod me pod s) (Kept kind.Prepared)
 deed_at times me pod area.Run s = cond (is_held_at me Own Shared pod area.Run s) (Kept kind.Running) (Moved area.ExitedGarbage)
 deed_at times me pod area.ExitedGarbage s =
-    cond (is_young times.now times.grace (moment_at (codes "marked-") pod area.ExitedGarbage s))
+    cond (is_young times.now times.grace (mark_moment_at (codes "marked-") pod area.ExitedGarbage s))
     (cond (is_held_at me Own Shared pod area.ExitedGarbage s) (Kept kind.Deleting) (Kept kind.ExitedGarbage)) (deletes_pod me pod area.ExitedGarbage s)
 deed_at times me pod place s = deletes_pod me pod place s
 

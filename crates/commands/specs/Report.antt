@@ -11,7 +11,7 @@ use Rattle.dir_trait.specs.Trace.{state_after}
 use Rattle.lifecycle.specs.Executions.{IsConforming}
 use Rattle.command_outcomes.specs.declared.refusal.Refusal.{Refusal}
 use Rattle.command_outcomes.specs.Ends.{is_own_end}
-use Rattle.command_outcomes.specs.Moments.{DirSeen, Moment, Outcome}
+use Rattle.command_outcomes.specs.Moments.{DirSeen, Moment, CommandOutcome}
 use Rattle.commands.specs.Answers.{WritesOf}
 use Rattle.commands.specs.Command.{Command, nothing, alone, intent_for, WhereAllKeepRules, WhereObserved}
 use Rattle.commands.specs.NextState.{LeavesAll}
@@ -25,16 +25,16 @@ pub record Report : Type 1 where
   -- the refusals that it may have
   pub refusals : Refusal → Bool
   -- the phases that its answer names
-  pub names : Outcome → (PodId → Phase → Type 0) → Type 0
+  pub names : CommandOutcome → (PodId → Phase → Type 0) → Type 0
   -- what its end tells of its own readings, whatever the other processes do
-  pub sees : ℕ → List Event → List Event → Outcome → Type 0
+  pub sees : ℕ → List Event → List Event → CommandOutcome → Type 0
   -- what its end tells of the history of pods, while others step
-  pub tells : ℕ → List Event → List Event → Outcome → Type 0
+  pub tells : ℕ → List Event → List Event → CommandOutcome → Type 0
   -- what it comes to where nobody else steps: by the state before
-  pub quiet : DirState → Outcome → Type 0
+  pub quiet : DirState → CommandOutcome → Type 0
 
 -- an end of its own tells what it read, and more where every process keeps the local rules
-pub record ReportSays (r : Report) (old new : DirSeen) (o : Outcome) : Type 0 where
+pub record ReportSays (r : Report) (old new : DirSeen) (o : CommandOutcome) : Type 0 where
   pub prints : IfOk o r.prints
   pub seen : old.observed ≡ true → r.sees old.process old.trace new.trace o
   pub told : is_own_end o ≡ true → old.observed ≡ true → IsConforming new.trace → r.tells old.process old.trace new.trace o
@@ -43,10 +43,10 @@ pub record ReportSays (r : Report) (old new : DirSeen) (o : Outcome) : Type 0 wh
       OwnsNothing old.process (state_after old.trace).namespace → r.quiet (state_after old.trace) o
 
 -- the same of the whole process
-abbrev pub SeesReport : Report → Outcome → Moment → Moment → Type 0
+abbrev pub SeesReport : Report → CommandOutcome → Moment → Moment → Type 0
 SeesReport r o old new = OnceFound (λ me a b. r.sees me a b o) old.outside.dir.process old.outside.dir.trace new.outside.dir.trace
 
-abbrev pub TellsReport : Report → Outcome → Moment → Moment → Type 0
+abbrev pub TellsReport : Report → CommandOutcome → Moment → Moment → Type 0
 TellsReport r o old new = r.tells old.outside.dir.process old.outside.dir.trace new.outside.dir.trace o
 
 pub record RefusesReport (r : Report) (refusal : Refusal) (old new : Moment) : Type 0 where

@@ -11,29 +11,29 @@ use Rattle.dir_rules.specs.declared.seen.Seen.{Seen}
 use Rattle.dir_trait.specs.Knowledge.{Knows}
 use Rattle.lifecycle.specs.Executions.{IsConforming}
 use Rattle.phase_read.specs.Exact.{AtOwnEvent}
-use Rattle.pod_locks.specs.ClaimCauses.{LacksManifest}
+use Rattle.pod_locks.specs.ClaimCauses.{IsPreparedWithoutManifest}
 use Rattle.pod_locks.specs.Elsewhere.{is_owned_phase, IsOwnedElsewhere}
-use Rattle.pod_locks.specs.Causes.{WasStray}
+use Rattle.pod_locks.specs.Causes.{WasStrayStep}
 use Rattle.pod_gc.specs.declared.remove_error.RemoveError.{RemoveError}
 use Rattle.pod_gc.specs.declared.remove_error.RemoveError.TheVariants as error
-use Rattle.pod_gc.specs.RemovalCauses.{IsBusyAt, IsDeleted}
+use Rattle.pod_gc.specs.RemovalCauses.{IsBusyAt, HasDeletedPod}
 use Rattle.pod_gc.specs.RemovalHolding.{MayRemovePod}
 use Rattle.pod_gc.specs.Hindrances.{IsUnhinderedThroughout}
-use Rattle.pod_gc.specs.Removals.{FoundNone, FoundThenEnded, MissedTimes, WasWrong}
-use Rattle.pod_gc.specs.Found.{TakenAway, WasRefused, FirstOrMissed}
+use Rattle.pod_gc.specs.Removals.{FoundNoPod, FoundThenEnded, MissedTimes, WasWrongToRemove}
+use Rattle.pod_gc.specs.Found.{TakenAway, LockWasRefused, FirstOrMissed}
 use Rattle.command_outcomes.specs.declared.refusal.Refusal.{Refusal}
 use Rattle.command_outcomes.specs.declared.refusal.Refusal.TheVariants.{NoPod, WrongPhase, NoManifest, PodBusy, DirFault, Stray, NoMemory}
 use Rattle.command_outcomes.specs.Texts.{named_line}
-use Rattle.command_outcomes.specs.Moments.{DirSeen, Outcome}
-use Rattle.command_outcomes.specs.Conforming.{shown_at}
+use Rattle.command_outcomes.specs.Moments.{DirSeen, CommandOutcome}
+use Rattle.command_outcomes.specs.Conforming.{dir_at_moment}
 use Rattle.command_outcomes.specs.Ends.{is_common}
 use Rattle.commands.specs.Opening.{OnceFound}
 use Rattle.impossible_replies.specs.Replies.{AppWroteOn}
 use Rattle.commands.specs.Strays.{ComesOfApp}
 
 -- the line that it prints
-abbrev pub removed_text : PodId → List ℕ
-removed_text pod = named_line (codes "removed ") (pod_text pod.bytes)
+abbrev pub removed_pod_text : PodId → List ℕ
+removed_pod_text pod = named_line (codes "removed ") (pod_text pod.bytes)
 
 -- the refusals that it may have
 abbrev pub rm_refusal : Refusal → Bool
@@ -56,51 +56,51 @@ remove_refusal pod error.NoMemory = NoMemory
 
 -- its own removal of the pod was answered Ok, or the pod was there at its first read and gone at a later one; in its first round it took the
 -- pod away, or missed it
-pub record Removes (pod : PodId) (me : ℕ) (old new : List Event) : Type 0 where
-  pub did : IsDeleted pod me old new ⊎ FoundThenEnded pod me old new
+pub record RemovesPod (pod : PodId) (me : ℕ) (old new : List Event) : Type 0 where
+  pub did : HasDeletedPod pod me old new ⊎ FoundThenEnded pod me old new
   pub first : FirstOrMissed pod (TakenAway pod) me old new
 
 -- another process held this lock of the pod; in its first round that lock was refused, or the pod missed
 pub record FindsPodBusy (pod : PodId) (which : Which) (me : ℕ) (old new : List Event) : Type 0 where
   pub busy : IsBusyAt pod which me old new
-  pub first : FirstOrMissed pod (WasRefused pod which) me old new
+  pub first : FirstOrMissed pod (LockWasRefused pod which) me old new
 
 -- it is so where the process has begun to remove this pod at this moment
-abbrev pub WhereRemoving : PodId → ℕ → DirSeen → Type 0 → Type 0
-WhereRemoving pod now old P = old.observed ≡ true → (s : Seen) → Knows (shown_at old) s → MayRemovePod pod now s → P
+abbrev pub WhereRemovingPod : PodId → ℕ → DirSeen → Type 0 → Type 0
+WhereRemovingPod pod now old P = old.observed ≡ true → (s : Seen) → Knows (dir_at_moment old) s → MayRemovePod pod now s → P
 
 -- in a conforming execution the pod had a phase at an own event in which another process owned it
 abbrev pub IsOwnedIn : PodId → Phase → ℕ → List Event → List Event → Type 0
 IsOwnedIn pod phase me old new = is_owned_phase phase ≡ true → (area : Area) × AtOwnEvent me old new (IsOwnedElsewhere me pod phase area)
 
 -- in a conforming execution the pod had this phase at an own event, which doesn't allow its removal
-abbrev pub WasSo : PodId → Phase → ℕ → List Event → List Event → Type 0
-WasSo pod phase me old new = IsConforming new → WasWrong pod phase me old new
+abbrev pub ConformingHadPhase : PodId → Phase → ℕ → List Event → List Event → Type 0
+ConformingHadPhase pod phase me old new = IsConforming new → WasWrongToRemove pod phase me old new
 
 -- and where that is of a pod with an owner, another process was that
 abbrev pub WasOwned : PodId → Phase → ℕ → List Event → List Event → Type 0
 WasOwned pod phase me old new = IsConforming new → IsOwnedIn pod phase me old new
 
 pub record FindsWrong (pod : PodId) (now : ℕ) (phase : Phase) (old new : DirSeen) : Type 0 where
-  pub was : old.observed ≡ true → WasSo pod phase old.process old.trace new.trace
-  pub owner : WhereRemoving pod now old (WasOwned pod phase old.process old.trace new.trace)
+  pub was : old.observed ≡ true → ConformingHadPhase pod phase old.process old.trace new.trace
+  pub owner : WhereRemovingPod pod now old (WasOwned pod phase old.process old.trace new.trace)
 
 -- in a conforming execution the pod stood in prepared without its manifest, at an own step
 abbrev pub HadNoManifest : PodId → ℕ → List Event → List Event → Type 0
-HadNoManifest pod me old new = IsConforming new → AtOwnStep me old new (LacksManifest pod)
+HadNoManifest pod me old new = IsConforming new → AtOwnStep me old new (IsPreparedWithoutManifest pod)
 
 -- an answer that what the locks keep doesn't explain; or six times, one after the other, it was found and then missed
 abbrev pub MeetsStray : PodId → ℕ → List Event → List Event → Type 0
-MeetsStray pod me old new = WasStray me old new ⊎ MissedTimes 6 pod me old new
+MeetsStray pod me old new = WasStrayStep me old new ⊎ MissedTimes 6 pod me old new
 
 -- what was told of the pod
-abbrev pub RmSays : PodId → ℕ → DirSeen → DirSeen → Outcome → Type 0
-RmSays pod now old new (Ok text) = (text ≡ removed_text pod) × (old.observed ≡ true → Removes pod old.process old.trace new.trace)
-RmSays pod now old new (Err NoPod) = old.observed ≡ true → FoundNone pod old.process old.trace new.trace
+abbrev pub RmSays : PodId → ℕ → DirSeen → DirSeen → CommandOutcome → Type 0
+RmSays pod now old new (Ok text) = (text ≡ removed_pod_text pod) × (old.observed ≡ true → RemovesPod pod old.process old.trace new.trace)
+RmSays pod now old new (Err NoPod) = old.observed ≡ true → FoundNoPod pod old.process old.trace new.trace
 RmSays pod now old new (Err (WrongPhase phase)) = FindsWrong pod now phase old new
 RmSays pod now old new (Err (NoManifest other)) = (other ≡ pod) × (old.observed ≡ true → HadNoManifest pod old.process old.trace new.trace)
-RmSays pod now old new (Err (PodBusy other which)) = (other ≡ pod) × WhereRemoving pod now old (FindsPodBusy pod which old.process old.trace new.trace)
-RmSays pod now old new (Err Stray) = (old.observed ≡ true → MeetsStray pod old.process old.trace new.trace) × WhereRemoving pod now old (ComesOfApp old.process old.trace new.trace)
+RmSays pod now old new (Err (PodBusy other which)) = (other ≡ pod) × WhereRemovingPod pod now old (FindsPodBusy pod which old.process old.trace new.trace)
+RmSays pod now old new (Err Stray) = (old.observed ≡ true → MeetsStray pod old.process old.trace new.trace) × WhereRemovingPod pod now old (ComesOfApp old.process old.trace new.trace)
 RmSays pod now old new (Err refusal) = Unit {0}
 
 -- the directory failed, memory ran out, or a started app wrote on that had outlived its owner
@@ -117,13 +117,13 @@ FailsAlone pod old new refusal = IsConforming new.trace → IsUnhinderedThrougho
 -- of a whole process: that it removed the pod, that it found none, that it found it in such a phase or without its manifest, that
 -- another process held its lock, that it met an answer which the locks don't explain
 abbrev pub HasRemovedPod : PodId → DirSeen → DirSeen → Type 0
-HasRemovedPod pod old new = OnceFound (Removes pod) old.process old.trace new.trace
+HasRemovedPod pod old new = OnceFound (RemovesPod pod) old.process old.trace new.trace
 
 abbrev pub HasFoundNoPod : PodId → DirSeen → DirSeen → Type 0
-HasFoundNoPod pod old new = OnceFound (FoundNone pod) old.process old.trace new.trace
+HasFoundNoPod pod old new = OnceFound (FoundNoPod pod) old.process old.trace new.trace
 
 pub record HasFoundWrong (pod : PodId) (phase : Phase) (old new : DirSeen) : Type 0 where
-  pub was : OnceFound (WasSo pod phase) old.process old.trace new.trace
+  pub was : OnceFound (ConformingHadPhase pod phase) old.process old.trace new.trace
   pub owner : OnceFound (WasOwned pod phase) old.process old.trace new.trace
 
 abbrev pub HasFoundNoManifest : PodId → DirSeen → DirSeen → Type 0

@@ -14,9 +14,9 @@ use Rattle.commands.specs.Kept.{KeepsRefused, RemovesNoneUnlessDone}
 use Rattle.commands.specs.Opening.{OnceFound, approach_of}
 use Rattle.commands.specs.Phases.{names_refused}
 use Rattle.commands.specs.Command.{Command, nothing, alone, intent_for, WhereObserved, WhereAllKeepRules}
-use Rattle.commands.specs.RemovalHistory.{IsRemovedBetween}
+use Rattle.commands.specs.RemovalHistory.{ExistedThenGone}
 use Rattle.commands.specs.RemovalQuiet.{RemovesPodQuietly}
-use Rattle.commands.specs.Rm.{rm_refusal, removed_text, HasFoundBusy, HasFoundNoManifest, HasFoundNoPod, HasFoundWrong, HasMetStrayAtPod, HasRemovedPod, RmSays}
+use Rattle.commands.specs.Rm.{rm_refusal, removed_pod_text, HasFoundBusy, HasFoundNoManifest, HasFoundNoPod, HasFoundWrong, HasMetStrayAtPod, HasRemovedPod, RmSays}
 use Rattle.commands.specs.NextState.{LeavesBeside}
 use Rattle.impossible_replies.specs.Replies.{AppWroteOn}
 use Rattle.commands.specs.Strays.{ComesOfApp}
@@ -45,8 +45,8 @@ EndsUnhindered status old new = (is_removal_end status ≡ true) ⊎ ((status �
 -- local rules, the pod existed then at a moment of the call, and is gone at its end, for good; and if nothing hinders its removal after any
 -- own step, it ends so. Where it isn't done, it removed no folder
 pub record TellsRm (pod : PodId) (status : ℕ) (old new : Moment) : Type 0 where
-  pub removed : WhereObserved old (status ≡ 0 → WritesOf (λ text. (text ≡ removed_text pod) × HasRemovedPod pod old.outside.dir new.outside.dir) old new)
-  pub gone : WhereAllKeepRules old new (status ≡ 0 → WritesOf (λ text. (text ≡ removed_text pod) × IsRemovedBetween pod old.outside.dir.trace new.outside.dir.trace) old new)
+  pub removed : WhereObserved old (status ≡ 0 → WritesOf (λ text. (text ≡ removed_pod_text pod) × HasRemovedPod pod old.outside.dir new.outside.dir) old new)
+  pub gone : WhereAllKeepRules old new (status ≡ 0 → WritesOf (λ text. (text ≡ removed_pod_text pod) × ExistedThenGone pod old.outside.dir.trace new.outside.dir.trace) old new)
   pub complete : WhereAllKeepRules old new (IsUnhinderedThroughout pod old.outside.dir.process old.outside.dir.trace new.outside.dir.trace → EndsUnhindered status old.outside.dir new.outside.dir)
   pub kept : WhereObserved old (RemovesNoneUnlessDone status old new)
 
@@ -57,7 +57,7 @@ rm_command word pod = record {
   approach = approach_of word;
   asks = λ now draw. removes pod now;
   reads = nothing;
-  prints = λ draw bundle text. text ≡ removed_text pod;
+  prints = λ draw bundle text. text ≡ removed_pod_text pod;
   refusals = rm_refusal;
   refused_for = λ now draw refusal old new. RefusesRm pod refusal old.outside.dir new.outside.dir;
   names = names_refused pod;

@@ -8,16 +8,16 @@ use Rattle.phase_read.specs.Read.{is_pod_spot}
 use Rattle.stage1.specs.declared.end.AppEnd.{AppEnd}
 use Rattle.command_outcomes.specs.declared.refusal.Refusal.{Refusal}
 use Rattle.command_outcomes.specs.declared.refusal.Refusal.TheVariants.{NoMemory}
-use Rattle.command_outcomes.specs.Moments.{Inside, Moment, Outcome}
+use Rattle.command_outcomes.specs.Moments.{Inside, Moment, CommandOutcome}
 use Rattle.commands.specs.Answers.{inside_in}
 use Rattle.commands.specs.AppEnds.{app_lines}
-use Rattle.commands.specs.AppsTold.{WithinProcess, CameSo, TellsApps}
+use Rattle.commands.specs.AppsTold.{WithinProcess, CameOrNeverBegan, TellsApps}
 use Rattle.commands.specs.Opening.{directly}
 use Rattle.commands.specs.Phases.{names_none}
 use Rattle.commands.specs.Command.{Command, nothing, running, intent_for}
 use Rattle.commands.specs.Prepare.{pod_line}
 use Rattle.commands.specs.Run.{makes_and_runs, RunIsTold}
-use Rattle.commands.specs.RunQuiet.{HasMadeAndLeft, IsUnmadeFor, TellsItsEnds, made_by}
+use Rattle.commands.specs.RunQuiet.{HasMadeAndLeft, IsUnmadeFor, TellsItsEnds, entries_made}
 use Rattle.commands.specs.RunTable.{IsRefusedFor, RunsAll, StoppedFor}
 use Rattle.commands.specs.RunRefusals.{new_run_refusal}
 use Rattle.commands.specs.NextState.{LeavesBeside}
@@ -33,20 +33,20 @@ pub record RefusesNewRun (wants : Wants) (address : List ℕ) (now : ℕ) (draw 
 
 -- how the pod was made and its apps ran
 abbrev pub TellsNewRun : Wants → List ℕ → ℕ → Draw → ℕ → Moment → Moment → Type 0
-TellsNewRun wants address now draw status old new = TellsApps (CameSo directly (makes_and_runs draw.uuid) (RunIsTold wants address now draw) (run_intent now draw) (inside_in old) (inside_in new)) status old new
+TellsNewRun wants address now draw status old new = TellsApps (CameOrNeverBegan directly (makes_and_runs draw.uuid) (RunIsTold wants address now draw) (run_intent now draw) (inside_in old) (inside_in new)) status old new
 
 -- where every process keeps the local rules the pod was made faithfully, and is left in run, without an owner, with the mark and the
 -- status of each app whose line is told; its apps were those of what its maker made. Where it is refused for a cause of the run it is left
 -- so too, by what its maker made; or it wasn't made, for this cause
-abbrev pub LeavesMade : Wants → List ℕ → ℕ → Draw → Inside → Inside → Outcome → Type 0
+abbrev pub LeavesMade : Wants → List ℕ → ℕ → Draw → Inside → Inside → CommandOutcome → Type 0
 LeavesMade wants address now draw old new (Ok text) =
     IsConforming new.dir.trace →
     (x : HasMadeAndLeft wants old.dir.process draw.uuid old.dir.trace new.dir.trace) × (y : TellsItsEnds draw.uuid (pod_line draw.uuid) new.dir.trace text)
-    × RunsAll draw.uuid address (made_by x.2.0) y.ends old.spawner new.spawner
+    × RunsAll draw.uuid address (entries_made x.2.0) y.ends old.spawner new.spawner
 LeavesMade wants address now draw old new (Err NoMemory) = Unit {0}
 LeavesMade wants address now draw old new (Err refusal) =
     IsRefusedFor draw.uuid refusal new.dir.trace (λ error.
-    (x : HasMadeAndLeft wants old.dir.process draw.uuid old.dir.trace new.dir.trace) × StoppedFor draw.uuid address (made_by x.2.0) error old.spawner new.spawner)
+    (x : HasMadeAndLeft wants old.dir.process draw.uuid old.dir.trace new.dir.trace) × StoppedFor draw.uuid address (entries_made x.2.0) error old.spawner new.spawner)
     ⊎ IsUnmadeFor wants now draw old.dir new.dir refusal
 
 -- it asks for what a prepare asks for that leads to run, and then for what a run of the pod does

@@ -13,10 +13,10 @@ use Rattle.pod_locks.specs.declared.claim_error.ClaimError.{ClaimError}
 use Rattle.pod_locks.specs.ClaimRequests.{claims}
 use Rattle.pod_locks.specs.ClaimCauses.{ClaimCause, HadBothAlone}
 use Rattle.lifecycle.specs.Executions.{IsConforming}
-use Rattle.pod_locks.specs.Claims.{RefusedByAnother, IsFreeThroughout, IsFailure}
+use Rattle.pod_locks.specs.Claims.{ClaimRefusedByAnother, IsFreeThroughout, IsClaimFailure}
 use Rattle.pod_locks.specs.Elsewhere.{MetOwner}
 use Rattle.pod_locks.specs.ClaimHolding.{MayClaim}
-use Rattle.pod_locks.specs.Work.{Grew, Leaves, MovedNothing, TookBoth}
+use Rattle.pod_locks.specs.Work.{Grew, WhereObservedKnew, MovedNothing, TookBoth}
 use Rattle.stage1.specs.Runs.{runs_pod}
 use Rattle.command_outcomes.specs.Moments.{Answer, Inside}
 use Rattle.commands.specs.RunRefusals.{claim_refusal}
@@ -50,9 +50,9 @@ pub record IsUnclaimed (seen : Bool) (pod : PodId) (d d' : DirAt) (s s' : Spawne
   pub is : answer ≡ Err (claim_refusal pod error)
   pub cause : ClaimCause seen pod error d d'
   pub still : seen ≡ true → MovedNothing d.process d.trace d'.trace
-  pub another : Leaves seen MayClaim d (λ known. RefusedByAnother pod error d d')
-  pub owner : Leaves seen MayClaim d (λ known. MetOwner pod error d d')
-  pub complete : Leaves seen MayClaim d (λ known. IsConforming d'.trace → IsFreeThroughout pod d d' → IsFailure error)
+  pub another : WhereObservedKnew seen MayClaim d (λ known. ClaimRefusedByAnother pod error d d')
+  pub owner : WhereObservedKnew seen MayClaim d (λ known. MetOwner pod error d d')
+  pub complete : WhereObservedKnew seen MayClaim d (λ known. IsConforming d'.trace → IsFreeThroughout pod d d' → IsClaimFailure error)
   pub unasked : s' ≡ s
 
 -- what was told of the pod

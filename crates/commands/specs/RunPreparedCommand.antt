@@ -12,11 +12,11 @@ use Rattle.pod_locks.specs.declared.claim_error.ClaimError.{ClaimError}
 use Rattle.stage1.specs.declared.end.AppEnd.{AppEnd}
 use Rattle.command_outcomes.specs.declared.refusal.Refusal.{Refusal}
 use Rattle.command_outcomes.specs.declared.refusal.Refusal.TheVariants.{NoMemory}
-use Rattle.command_outcomes.specs.Conforming.{shown_at}
-use Rattle.command_outcomes.specs.Moments.{Inside, Moment, Outcome}
+use Rattle.command_outcomes.specs.Conforming.{dir_at_moment}
+use Rattle.command_outcomes.specs.Moments.{Inside, Moment, CommandOutcome}
 use Rattle.commands.specs.Answers.{inside_in}
 use Rattle.commands.specs.AppEnds.{app_lines}
-use Rattle.commands.specs.AppsTold.{WithinProcess, CameSo, TellsApps}
+use Rattle.commands.specs.AppsTold.{WithinProcess, CameOrNeverBegan, TellsApps}
 use Rattle.commands.specs.Opening.{approach_of}
 use Rattle.commands.specs.Phases.{names_refused}
 use Rattle.commands.specs.Command.{Command, nothing, running, intent_for, WhereAllKeepRules}
@@ -41,13 +41,13 @@ is_unfree_status status = list_any (λ n. n == status) (2 ∷ 4 ∷ 5 ∷ [])
 -- how the pod was claimed and its apps ran; and where every process keeps the local rules, if the pod waits with its manifest after each
 -- own step, and no other process holds a lock of it, it isn't refused for such a cause
 pub record TellsRunPrepared (word : List ℕ) (pod : PodId) (address : List ℕ) (now : ℕ) (draw : Draw) (status : ℕ) (old new : Moment) : Type 0 where
-  pub apps : TellsApps (CameSo (approach_of word) (runs_prepared pod) (RunPreparedSays pod address) (run_prepared_intent word now draw) (inside_in old) (inside_in new)) status old new
-  pub complete : WhereAllKeepRules old new (IsFreeThroughout pod (shown_at old.outside.dir) (shown_at new.outside.dir) → is_unfree_status status ≡ false)
+  pub apps : TellsApps (CameOrNeverBegan (approach_of word) (runs_prepared pod) (RunPreparedSays pod address) (run_prepared_intent word now draw) (inside_in old) (inside_in new)) status old new
+  pub complete : WhereAllKeepRules old new (IsFreeThroughout pod (dir_at_moment old.outside.dir) (dir_at_moment new.outside.dir) → is_unfree_status status ≡ false)
 
 -- the pod waited in prepared before and is left in run, without an owner, and the mark and the status of each app whose line is told stand
 -- there; its apps were those of what its folder held before. Where it is refused for a cause of the run it is left so too, by what its
 -- folder held; or it wasn't claimed, for a cause in the state before
-abbrev pub PassesQuietly : PodId → List ℕ → Inside → Inside → Outcome → Type 0
+abbrev pub PassesQuietly : PodId → List ℕ → Inside → Inside → CommandOutcome → Type 0
 PassesQuietly pod address old new (Ok text) =
     (x : HasPassed pod old.dir.process old.dir.trace new.dir.trace) × (y : TellsItsEnds pod [] new.dir.trace text)
     × (IsConforming new.dir.trace → RunsAll pod address (held_before x) y.ends old.spawner new.spawner)

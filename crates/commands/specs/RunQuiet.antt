@@ -28,7 +28,7 @@ use Rattle.pod_build.specs.Preparations.{IsPrepared}
 use Rattle.pod_manifest.specs.Wishes.{Wishes}
 use Rattle.pod_locks.specs.declared.claim_error.ClaimError.{ClaimError}
 use Rattle.pod_locks.specs.declared.claim_error.ClaimError.TheVariants as claim
-use Rattle.pod_locks.specs.ClaimCauses.{LacksManifest, is_held_elsewhere}
+use Rattle.pod_locks.specs.ClaimCauses.{IsPreparedWithoutManifest, is_held_elsewhere}
 use Rattle.pod_locks.specs.ClaimRequests.{in_prepared, in_run}
 use Rattle.commands.specs.ClaimTable.{claim_error, IsWhy}
 use Rattle.commands.specs.References.{OfReferences}
@@ -79,11 +79,11 @@ HasMadeAndLeft wants me draw old new =
 abbrev pub held_before : {pod : PodId} {me : ℕ} {old new : List Event} → HasPassed pod me old new → List Entry
 held_before {old = old} x = entries_in x.folder (state_after old).entries
 
-abbrev pub made_by : {refs : List ImageRef} {wishes : Wishes} {me : ℕ} {draw : PodId} {to : Area} {old new : List Event} → IsPrepared refs wishes me draw to old new → List Entry
-made_by x = x.faithful.built.making.entries
+abbrev pub entries_made : {refs : List ImageRef} {wishes : Wishes} {me : ℕ} {draw : PodId} {to : Area} {old new : List Event} → IsPrepared refs wishes me draw to old new → List Entry
+entries_made x = x.faithful.built.making.entries
 
 -- the mark of an app stands in the folder with this number, and the file of its status with that alone
-pub record HasEnded (folder : ℕ) (s : DirState) (end : AppEnd) : Type 0 where
+pub record FolderShowsEnd (folder : ℕ) (s : DirState) (end : AppEnd) : Type 0 where
   pub marked : has_file s.entries folder (start_mark end.app) ≡ true
   pub noted : has_file s.entries folder (status_path end.app) ≡ true
   pub status : content s.entries folder (status_path end.app) ≡ status_text end.status
@@ -92,7 +92,7 @@ pub record HasEnded (folder : ℕ) (s : DirState) (end : AppEnd) : Type 0 where
 pub record HasItsEnds (pod : PodId) (ends : List AppEnd) (trace : List Event) : Type 0 where
   pub folder : ℕ
   pub there : folder_at (state_after trace).namespace (in_run pod) ≡ Some folder
-  pub each : AllByRecursion (HasEnded folder (state_after trace)) ends
+  pub each : AllByRecursion (FolderShowsEnd folder (state_after trace)) ends
 
 -- each app's line is told after this text, and the pod has them
 pub record TellsItsEnds (pod : PodId) (front : List ℕ) (trace : List Event) (text : List ℕ) : Type 0 where
@@ -104,7 +104,7 @@ pub record TellsItsEnds (pod : PodId) (front : List ℕ) (trace : List Event) (t
 abbrev pub UnclaimedFor : PodId → ClaimError → ℕ → List Event → List Event → Type 0
 UnclaimedFor pod claim.NoPod me old new = IsConforming new → StandsNowhere pod (state_after old) × IsWhy pod claim.NoPod me (state_after old)
 UnclaimedFor pod (claim.WrongPhase phase) me old new = IsConforming new → HasPhaseNow pod phase old × IsWhy pod (claim.WrongPhase phase) me (state_after old)
-UnclaimedFor pod claim.NoManifest me old new = IsConforming new → LacksManifest pod (state_after old) × IsWhy pod claim.NoManifest me (state_after old)
+UnclaimedFor pod claim.NoManifest me old new = IsConforming new → IsPreparedWithoutManifest pod (state_after old) × IsWhy pod claim.NoManifest me (state_after old)
 UnclaimedFor pod (claim.Busy other which) me old new = (other ≡ pod) × IsClaimHeld pod which me (state_after old) × (IsConforming new → IsWhy pod (claim.Busy pod which) me (state_after old))
 UnclaimedFor pod claim.Stray me old new = NeverComes new
 UnclaimedFor pod error me old new = Unit {0}

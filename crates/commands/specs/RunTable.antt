@@ -4,7 +4,7 @@ use Rattle.dir_model.specs.declared.event.Event.{Event}
 use Rattle.dir_model.specs.declared.pod.PodId.{PodId}
 use Rattle.dir_model.specs.Causes.{Rose}
 use Rattle.dir_rules.specs.declared.seen.Entry.{Entry}
-use Rattle.dir_rules.specs.Rules.{has_file}
+use Rattle.dir_rules.specs.Rules.{has_file_among}
 use Rattle.folder_contents.specs.Entries.{file_bytes}
 use Rattle.image_reading.specs.Files.{IsListingOf}
 use Rattle.launch.specs.Launches.{IsLaunch, missing_word}
@@ -12,17 +12,18 @@ use Rattle.lifecycle.specs.Executions.{IsConforming}
 use Rattle.manifests.specs.PodData.{PodData, RuntimeAppData}
 use Rattle.path_map.specs.Entries.{Tree, entry_at}
 use Rattle.pod_files.specs.Files.{IsManifestOf, IsTokenOf}
+use Rattle.pod_files.specs.Places.{pod_manifest_name, token_name}
 use Rattle.stage1.specs.declared.load_error.LoadError.{LoadError}
 use Rattle.stage1.specs.declared.load_error.LoadError.TheVariants.{NoManifest, Damaged, NoProgram}
 use Rattle.stage1.specs.declared.start.AppStart.{AppStart}
-use Rattle.stage1.specs.AppPlaces.{manifest_name, token_name, tree_path, told_path, root_of}
+use Rattle.stage1.specs.AppPlaces.{tree_path, told_path, app_root_of}
 use Rattle.stage1.specs.declared.end.AppEnd.{AppEnd}
 use Rattle.stage1.specs.declared.error.RunError.{RunError}
 use Rattle.stage1.specs.declared.error.RunError.TheVariants as run
 use Rattle.stage1.specs.Asking.{Asks}
 use Rattle.stage1.specs.Cutting.{IsCutShort}
 use Rattle.stage1.specs.Runs.{end_of}
-use Rattle.stage1.specs.Sequences.{Ending, launch_sequence, status_of}
+use Rattle.stage1.specs.Sequences.{Ending, launch_sequence, app_status_of}
 use Rattle.tree_digest.specs.declared.line.ListingLine.{ListingLine}
 use Rattle.tree_digest.specs.Listings.{entries_of, listing_text}
 use Rattle.command_outcomes.specs.declared.refusal.Refusal.{Refusal}
@@ -31,7 +32,7 @@ use Rattle.commands.specs.RunRefusals.{run_refusal}
 
 -- the bytes of the file at a path of a folder that holds this, if one stands there
 abbrev pub file_in : List Entry → List ℕ → Option (List ℕ)
-file_in es path = cond (has_file path es) (Some (file_bytes path es)) None
+file_in es path = cond (has_file_among path es) (Some (file_bytes path es)) None
 
 -- a file stands there, and this is so of its bytes
 pub record HoldsFile (es : List Entry) (path : List ℕ) (P : List ℕ → Type 0) : Type 0 where
@@ -41,7 +42,7 @@ pub record HoldsFile (es : List Entry) (path : List ℕ) (P : List ℕ → Type 
 
 -- the pod's manifest, its token, and the listing of an app's root
 abbrev pub HoldsManifest : List Entry → PodData → Type 0
-HoldsManifest es manifest = HoldsFile es manifest_name (IsManifestOf manifest)
+HoldsManifest es manifest = HoldsFile es pod_manifest_name (IsManifestOf manifest)
 
 abbrev pub HoldsToken : List Entry → List ℕ → Type 0
 HoldsToken es token = HoldsFile es token_name (IsTokenOf token)
@@ -56,21 +57,21 @@ HoldsListings es [] [] = Unit {0}
 HoldsListings es _ _ = ⊥
 
 -- what stands in a root with this listing
-abbrev pub tree_of : List ListingLine → Tree
-tree_of lines = entry_at (entries_of lines)
+abbrev pub tree_of_lines : List ListingLine → Tree
+tree_of_lines lines = entry_at (entries_of lines)
 
 -- the app starts so in its root, of which this is the listing
-pub record StartsSo (pod : PodId) (address token : List ℕ) (app : RuntimeAppData) (lines : List ListingLine) (start : AppStart) : Type 0 where
+pub record IsStartOfApp (pod : PodId) (address token : List ℕ) (app : RuntimeAppData) (lines : List ListingLine) (start : AppStart) : Type 0 where
   pub name : start.name ≡ app.name
-  pub place : start.root ≡ root_of pod app.name
+  pub place : start.root ≡ app_root_of pod app.name
   pub listing : start.listing.items ≡ listing_text lines
-  pub launch : IfSome app.app (λ section. IsLaunch section app.name address token (tree_of lines) start.launch)
-  pub found : missing_word app.app (tree_of lines) ≡ None
+  pub launch : IfSome app.app (λ section. IsLaunch section app.name address token (tree_of_lines lines) start.launch)
+  pub found : missing_word app.app (tree_of_lines lines) ≡ None
 
-abbrev pub StartSo : PodId → List ℕ → List ℕ → List RuntimeAppData → List (List ListingLine) → List AppStart → Type 0
-StartSo pod address token (app ∷ apps) (lines ∷ roots) (start ∷ starts) = StartsSo pod address token app lines start × StartSo pod address token apps roots starts
-StartSo pod address token [] [] [] = Unit {0}
-StartSo pod address token _ _ _ = ⊥
+abbrev pub AreStartsOfApps : PodId → List ℕ → List ℕ → List RuntimeAppData → List (List ListingLine) → List AppStart → Type 0
+AreStartsOfApps pod address token (app ∷ apps) (lines ∷ roots) (start ∷ starts) = IsStartOfApp pod address token app lines start × AreStartsOfApps pod address token apps roots starts
+AreStartsOfApps pod address token [] [] [] = Unit {0}
+AreStartsOfApps pod address token _ _ _ = ⊥
 
 -- so the apps of the folder's manifest start: in its order, with the folder's token, by the listings of their roots there
 pub record AreStartsOf (pod : PodId) (address : List ℕ) (es : List Entry) (starts : List AppStart) : Type 0 where
@@ -80,28 +81,28 @@ pub record AreStartsOf (pod : PodId) (address : List ℕ) (es : List Entry) (sta
   pub token_told : HoldsToken es token
   pub roots : List (List ListingLine)
   pub listed : HoldsListings es manifest.apps roots
-  pub start : StartSo pod address token manifest.apps roots starts
+  pub start : AreStartsOfApps pod address token manifest.apps roots starts
 
 -- no file stands there that is a manifest, a token, or a listing of the root of this app
-abbrev pub LacksManifest : List Entry → Type 0
-LacksManifest es = (manifest : PodData) → HoldsManifest es manifest → ⊥
+abbrev pub EntriesLackManifest : List Entry → Type 0
+EntriesLackManifest es = (manifest : PodData) → HoldsManifest es manifest → ⊥
 
-abbrev pub LacksToken : List Entry → Type 0
-LacksToken es = (token : List ℕ) → HoldsToken es token → ⊥
+abbrev pub EntriesLackToken : List Entry → Type 0
+EntriesLackToken es = (token : List ℕ) → HoldsToken es token → ⊥
 
-abbrev pub LacksListing : List Entry → List ℕ → Type 0
-LacksListing es app = (lines : List ListingLine) → HoldsListing es app lines → ⊥
+abbrev pub EntriesLackListing : List Entry → List ℕ → Type 0
+EntriesLackListing es app = (lines : List ListingLine) → HoldsListing es app lines → ⊥
 
 -- this is the first of the apps whose listing is lacking
 abbrev pub FirstUnlisted : List Entry → List RuntimeAppData → List ℕ → Type 0
-FirstUnlisted es (app ∷ apps) name = ((name ≡ app.name) × LacksListing es app.name) ⊎ ((lines : List ListingLine) × HoldsListing es app.name lines × FirstUnlisted es apps name)
+FirstUnlisted es (app ∷ apps) name = ((name ≡ app.name) × EntriesLackListing es app.name) ⊎ ((lines : List ListingLine) × HoldsListing es app.name lines × FirstUnlisted es apps name)
 FirstUnlisted es [] name = ⊥
 
 -- this is the first of the apps that has no program for a word, and its first such word
 abbrev pub FirstMissing : List RuntimeAppData → List (List ListingLine) → List ℕ → List ℕ → Type 0
 FirstMissing (app ∷ apps) (lines ∷ roots) name word =
-    ((name ≡ app.name) × (missing_word app.app (tree_of lines) ≡ Some word))
-    ⊎ ((missing_word app.app (tree_of lines) ≡ None) × FirstMissing apps roots name word)
+    ((name ≡ app.name) × (missing_word app.app (tree_of_lines lines) ≡ Some word))
+    ⊎ ((missing_word app.app (tree_of_lines lines) ≡ None) × FirstMissing apps roots name word)
 FirstMissing _ _ name word = ⊥
 
 -- there is a manifest and no token
@@ -109,7 +110,7 @@ pub record IsBareOfToken (pod : PodId) (es : List Entry) (path : List ℕ) : Typ
   pub manifest : PodData
   pub told : HoldsManifest es manifest
   pub is : path ≡ told_path pod token_name
-  pub lacks : LacksToken es
+  pub lacks : EntriesLackToken es
 
 -- there are both, and not every listing
 pub record IsBareOfListing (pod : PodId) (es : List Entry) (path : List ℕ) : Type 0 where
@@ -133,7 +134,7 @@ pub record IsBareOfProgram (es : List Entry) (name word : List ℕ) : Type 0 whe
 
 -- the first that is lacking, in this order: the manifest, the token, a listing, a program
 abbrev pub HasNoStarts : PodId → List Entry → LoadError → Type 0
-HasNoStarts pod es NoManifest = LacksManifest es
+HasNoStarts pod es NoManifest = EntriesLackManifest es
 HasNoStarts pod es (Damaged path) = IsBareOfToken pod es path ⊎ IsBareOfListing pod es path
 HasNoStarts pod es (NoProgram name word) = IsBareOfProgram es name word
 HasNoStarts pod es error = ⊥
@@ -169,11 +170,11 @@ pub record RunsAll (pod : PodId) (address : List ℕ) (es : List Entry) (ends : 
   pub are : AreTheStarts pod address es starts
   pub endings : List Ending
   pub apps : map (λ e. e.begun.app) endings ≡ starts
-  pub each : ends ≡ map (λ e. end_of e.begun.app (status_of e)) endings
+  pub each : ends ≡ map (λ e. end_of e.begun.app (app_status_of e)) endings
   pub asked : Asks old.observed old.shown (launch_sequence endings) new.shown
 
 -- this is lacking in the folder first, and nothing was asked of the spawner
-pub record StartsNone (pod : PodId) (es : List Entry) (error : LoadError) (old new : SpawnerSeen) : Type 0 where
+pub record StartsNoApp (pod : PodId) (es : List Entry) (error : LoadError) (old new : SpawnerSeen) : Type 0 where
   pub lacks : IsWhyNone pod es error
   pub unasked : Asks old.observed old.shown [] new.shown
 
@@ -186,9 +187,9 @@ pub record StopsStarting (pod : PodId) (address : List ℕ) (es : List Entry) (o
 
 -- why a pod that its process runs isn't run to its end, by what its folder holds. No answer is stray
 abbrev pub StoppedFor : PodId → List ℕ → List Entry → RunError → SpawnerSeen → SpawnerSeen → Type 0
-StoppedFor pod address es run.NoManifest old new = StartsNone pod es NoManifest old new
-StoppedFor pod address es (run.Damaged path) old new = StartsNone pod es (Damaged path) old new
-StoppedFor pod address es (run.NoProgram app word) old new = StartsNone pod es (NoProgram app word) old new
+StoppedFor pod address es run.NoManifest old new = StartsNoApp pod es NoManifest old new
+StoppedFor pod address es (run.Damaged path) old new = StartsNoApp pod es (Damaged path) old new
+StoppedFor pod address es (run.NoProgram app word) old new = StartsNoApp pod es (NoProgram app word) old new
 StoppedFor pod address es run.SpawnFault old new = StopsStarting pod address es old new
 StoppedFor pod address es run.Stray old new = ⊥
 StoppedFor pod address es error old new = Unit {0}

@@ -14,11 +14,11 @@ use Rattle.pod_report.specs.declared.status.PodStatus.{PodStatus}
 use Rattle.pod_report.specs.Requests.{inspects}
 use Rattle.pod_report.specs.OwnReadings.{IsMissed, IsSeen}
 use Rattle.pod_report.specs.Sequential.{sequential_status}
-use Rattle.pod_report.specs.Status.{IsStatus}
+use Rattle.pod_report.specs.Status.{IsPodStatus}
 use Rattle.command_outcomes.specs.declared.refusal.Refusal.{Refusal}
 use Rattle.command_outcomes.specs.declared.refusal.Refusal.TheVariants.{DirFault, NoMemory, NoPod, Stray}
 use Rattle.command_outcomes.specs.Ends.{is_common}
-use Rattle.command_outcomes.specs.Moments.{Outcome}
+use Rattle.command_outcomes.specs.Moments.{CommandOutcome}
 use Rattle.commands.specs.AppEnds.{end_line}
 use Rattle.commands.specs.Report.{Report}
 use Rattle.commands.specs.Texts.{state_text}
@@ -54,28 +54,28 @@ pub record PrintsStatus (P : PodStatus → Type 0) (text : List ℕ) : Type 0 wh
   pub is : text ≡ status_lines status
 
 -- an own reading found the pod in that phase, and then its folder there showed the rest; or own readings missed it
-abbrev pub SeesStatus : PodId → ℕ → List Event → List Event → Outcome → Type 0
-SeesStatus pod me old new (Ok text) = PrintsStatus (λ status. IsSeen pod status me old new) text
-SeesStatus pod me old new (Err NoPod) = IsMissed pod me old new
-SeesStatus pod me old new (Err refusal) = Unit {0}
+abbrev pub SeesStatusOutcome : PodId → ℕ → List Event → List Event → CommandOutcome → Type 0
+SeesStatusOutcome pod me old new (Ok text) = PrintsStatus (λ status. IsSeen pod status me old new) text
+SeesStatusOutcome pod me old new (Err NoPod) = IsMissed pod me old new
+SeesStatusOutcome pod me old new (Err refusal) = Unit {0}
 
 -- it names its pod's
-abbrev pub names_status : PodId → Outcome → (PodId → Phase → Type 0) → Type 0
+abbrev pub names_status : PodId → CommandOutcome → (PodId → Phase → Type 0) → Type 0
 names_status pod (Ok text) Had = PrintsStatus (λ status. Had pod status.phase) text
 names_status pod (Err refusal) Had = Unit {0}
 
 -- the phase is the pod's at an own event, and so on; or it didn't exist at one. Contradictory answers don't come
-abbrev pub TellsStatus : PodId → ℕ → List Event → List Event → Outcome → Type 0
-TellsStatus pod me old new (Ok text) = PrintsStatus (λ status. IsStatus pod status me old new) text
+abbrev pub TellsStatus : PodId → ℕ → List Event → List Event → CommandOutcome → Type 0
+TellsStatus pod me old new (Ok text) = PrintsStatus (λ status. IsPodStatus pod status me old new) text
 TellsStatus pod me old new (Err NoPod) = AtOwnEvent me old new (IsNowhere pod)
 TellsStatus pod me old new (Err refusal) = ⊥
 
 -- where nobody else steps: the status that the state before gives the pod, or that there is none
-abbrev pub status_said : Result PodStatus ReportError → Outcome
+abbrev pub status_said : Result PodStatus ReportError → CommandOutcome
 status_said (Ok status) = Ok (status_lines status)
 status_said (Err error) = Err (unknown_refusal error)
 
-abbrev pub IsStatusIn : PodId → DirState → Outcome → Type 0
+abbrev pub IsStatusIn : PodId → DirState → CommandOutcome → Type 0
 IsStatusIn pod s o = o ≡ status_said (sequential_status s pod)
 
 -- it looks at the pod's locations, lists its folder and its statuses, and reads these
@@ -85,7 +85,7 @@ status_report pod = record {
   prints = λ text. (status : PodStatus) × (text ≡ status_lines status);
   refusals = status_refusal;
   names = names_status pod;
-  sees = SeesStatus pod;
+  sees = SeesStatusOutcome pod;
   tells = TellsStatus pod;
   quiet = IsStatusIn pod;
 }

@@ -13,7 +13,7 @@ use Rattle.image_removal.specs.declared.pass.Pass.{Pass}
 use Rattle.image_removal.specs.declared.pass.Pass.TheVariants.{PutAway, Delete}
 use Rattle.image_removal.specs.declared.pass.SweepLine.{SweepLine}
 use Rattle.image_removal.specs.declared.pass.SweepLine.TheVariants.{BusyGate}
-use Rattle.image_removal.specs.Passes.{area_of, line_of, is_uuid}
+use Rattle.image_removal.specs.Passes.{area_of_pass, line_of, is_uuid}
 
 -- a folder whose name is the text of a uuid stands in the area
 abbrev pub is_swept_in : Area → DirState → List ℕ → Bool
@@ -21,7 +21,7 @@ is_swept_in area s name = is_uuid name && stands s.namespace (record { area = ar
 
 -- another process holds the lock of the area of the pass
 abbrev pub is_barred : ℕ → Pass → DirState → Bool
-is_barred me pass s = is_busy_elsewhere me (area_of pass) Exclusive s
+is_barred me pass s = is_busy_elsewhere me (area_of_pass pass) Exclusive s
 
 -- what the pass meets: the folders of its area, and in removed those that were put away there before
 abbrev pub meets : ℕ → Pass → DirState → List ℕ → Bool
@@ -29,7 +29,7 @@ meets me PutAway s name = is_swept_in Incoming s name
 meets me Delete s name = is_swept_in Removed s name || (not (is_barred me PutAway s) && is_swept_in Incoming s name)
 
 -- its lines: one of each folder that it meets, in byte order of the names
-pub record ArePassLines (pass : Pass) (meeting : List ℕ → Bool) (lines : List SweepLine) : Type 0 where
+pub record AreImagePassLines (pass : Pass) (meeting : List ℕ → Bool) (lines : List SweepLine) : Type 0 where
   pub names : List (List ℕ)
   pub are : lines ≡ map (line_of pass) names
   pub rise : IsStrictlySortedBy (slice_cmp nat_cmp) names
@@ -37,16 +37,16 @@ pub record ArePassLines (pass : Pass) (meeting : List ℕ → Bool) (lines : Lis
 
 -- or the one line that says that the lock is held
 abbrev pub BarredOr : Bool → Pass → List SweepLine → Type 0 → Type 0
-BarredOr true pass lines Passed = lines ≡ BusyGate (area_of pass) ∷ []
+BarredOr true pass lines Passed = lines ≡ BusyGate (area_of_pass pass) ∷ []
 BarredOr false pass lines Passed = Passed
 
-abbrev pub IsPassOf : ℕ → DirState → Pass → List SweepLine → Type 0
-IsPassOf me s pass lines = BarredOr (is_barred me pass s) pass lines (ArePassLines pass (meets me pass s) lines)
+abbrev pub IsImagePassOf : ℕ → DirState → Pass → List SweepLine → Type 0
+IsImagePassOf me s pass lines = BarredOr (is_barred me pass s) pass lines (AreImagePassLines pass (meets me pass s) lines)
 
 -- those of incoming, and then those of removed
 pub record AreSweepLines (me : ℕ) (s : DirState) (lines : List SweepLine) : Type 0 where
   pub moved : List SweepLine
   pub deleted : List SweepLine
   pub are : lines ≡ moved ++ deleted
-  pub put_away : IsPassOf me s PutAway moved
-  pub delete : IsPassOf me s Delete deleted
+  pub put_away : IsImagePassOf me s PutAway moved
+  pub delete : IsImagePassOf me s Delete deleted

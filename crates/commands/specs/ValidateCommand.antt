@@ -8,7 +8,7 @@ use Rattle.commands.specs.Opening.{directly}
 use Rattle.commands.specs.Phases.{names_none}
 use Rattle.commands.specs.Command.{Command, reading, alone}
 use Rattle.commands.specs.Texts.{valid_text}
-use Rattle.commands.specs.Validate.{validate_refusal, ValidateSays, ReadsFile, sequential_validate}
+use Rattle.commands.specs.Validate.{validate_refusal, ValidateSays, ReadsFileAlone, sequential_validate}
 
 -- it answers as the bundle's file is to be judged; or the bundle failed, the line wasn't written or memory ran out
 abbrev pub TellsJudgement : List ℕ → ℕ → Moment → Moment → Type 0
@@ -25,7 +25,7 @@ validate_command path = record {
   begins = None;
   approach = directly;
   asks = λ now draw request. false;
-  reads = reading (ReadsFile path);
+  reads = reading (ReadsFileAlone path);
   prints = λ draw bundle text. (manifest : DocumentData) × (text ≡ valid_text manifest);
   refusals = validate_refusal;
   refused_for = λ now draw refusal old new. (validate_refusal refusal ≡ true) × ValidateSays path old.outside.bundle (Err refusal);

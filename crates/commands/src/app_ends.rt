@@ -1,7 +1,7 @@
 // What is told of the apps of a pod.
 ghost use Rattle.std.specs.Prelude.{◌≡◌, ◌⊎◌, ◌++◌, ◌==◌, Ok, Err, OnOk};
 ghost use Rattle.std.specs.List.{list_all};
-ghost use Rattle.commands.specs.AppEnds.{app_line, app_lines, all_well, end_line, told_of};
+ghost use Rattle.commands.specs.AppEnds.{app_line, app_lines, all_well, end_line, told_of_ends};
 
 use ac_types::NoMemory;
 use command_outcomes::{Output, Refusal, Told};
@@ -48,7 +48,7 @@ fn all_well(ends: &[AppEnd]) -> bool
 
 /// The text with the line of each app after it, and whether each ended with 0.
 pub(crate) fn tell(alloc: Global, text: Output, ends: &[AppEnd]) -> Result<Told, Refusal>
-    ensures { (result ≡ Ok (told_of text ends.now)) ⊎ (result ≡ Err Refusal.NoMemory) }
+    ensures { (result ≡ Ok (told_of_ends text ends.now)) ⊎ (result ≡ Err Refusal.NoMemory) }
 {
     let mut text = text;
     let well = all_well(ends);

@@ -2,12 +2,12 @@
 ghost use Rattle.std.specs.Prelude.{◌≡◌, ◌⊎◌, ◌++◌, true, Ok, Err, IfOk, IfErr, IsErrOf, OnOk};
 ghost use Rattle.dir_model.specs.Causes.{Rose};
 ghost use Rattle.dir_trait.specs.Local.{IsActive};
-ghost use Rattle.folder_building.specs.Work.{Worked};
-ghost use Rattle.pod_locks.specs.Holding.{KeepsReady, Stays};
+ghost use Rattle.dir_trait.specs.Effects.{OnlyAsks, Given};
+ghost use Rattle.pod_locks.specs.Holding.{KeepsReady};
 ghost use Rattle.pod_gc.specs.Requests.{sweeps};
 ghost use Rattle.pod_gc.specs.Sweeping.{MaySweepAll};
 ghost use Rattle.command_outcomes.specs.Moments.{dir_at};
-ghost use Rattle.commands.specs.Gc.{times_of, subject_text, deed_text, line_text, lines_text, sweep_refusal, gc_refusal, GcSays};
+ghost use Rattle.commands.specs.Gc.{times_of, subject_text, deed_text, gc_line_text, lines_text, sweep_refusal, gc_refusal, GcSays};
 
 use ac_types::NoMemory;
 use command_outcomes::{Output, Refusal, area_name, lock_name};
@@ -55,7 +55,7 @@ fn push_deed(text: &mut Output, place: Area, deed: Deed) -> Result<(), NoMemory>
 }
 
 fn add_line(text: &mut Output, line: &GcLine) -> Result<(), NoMemory>
-    ensures { OnOk result (text.new ≡ text.old ++ line_text line.now) }
+    ensures { OnOk result (text.new ≡ text.old ++ gc_line_text line.now) }
 {
     push_subject(text, line.pod, line.place)?;
     push_deed(text, line.place, line.deed)?;
@@ -109,10 +109,10 @@ pub fn gc_pods<D: Dir>(
     dir: &mut D,
 ) -> Result<Output, Refusal>
     requires active { IsActive (D.shown dir.old).local }
-    ensures worked { Worked D.observed (sweeps now) (D.shown dir.old) (D.shown dir.new) }
+    ensures worked { OnlyAsks D.observed (sweeps now) (D.shown dir.old) (D.shown dir.new) }
     ensures cause { IsErrOf result Refusal.DirFault → Rose (D.shown dir.old).faults (D.shown dir.new).faults }
     ensures refusals { IfErr result (λ r. gc_refusal r ≡ true) }
-    ensures ready { D.observed ≡ true → Stays (MaySweepAll now expire) (D.shown dir.old) (λ s. KeepsReady s (D.shown dir.new)) }
+    ensures ready { D.observed ≡ true → Given (MaySweepAll now expire) (D.shown dir.old) (λ s. KeepsReady s (D.shown dir.new)) }
     ensures says { GcSays (times_of now grace expire) (dir_at D.Dir dir.old) (dir_at D.Dir dir.new) result }
 {
     match gc(alloc, dir, now, grace, expire) {

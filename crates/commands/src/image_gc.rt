@@ -2,11 +2,11 @@
 ghost use Rattle.std.specs.Prelude.{◌≡◌, ◌≤◌, ◌⊎◌, ◌++◌, true, Ok, Err, IfOk, IfErr, IsErrOf, OnOk};
 ghost use Rattle.dir_model.specs.Causes.{Rose};
 ghost use Rattle.dir_trait.specs.Local.{IsActive};
-ghost use Rattle.folder_building.specs.Work.{Worked};
-ghost use Rattle.image_removal.specs.Causes.{is_work_refusal};
-ghost use Rattle.image_removal.specs.Requests.{sweeps};
-ghost use Rattle.image_removal.specs.Work.{MaySweep, StaysConforming, Stays};
-ghost use Rattle.commands.specs.ImageRm.{removal_refusal};
+ghost use Rattle.dir_trait.specs.Effects.{OnlyAsks};
+ghost use Rattle.image_removal.specs.Causes.{is_removal_work_refusal};
+ghost use Rattle.image_removal.specs.Requests.{sweeps_store};
+ghost use Rattle.image_removal.specs.Work.{MaySweepStore, KeepsStandingAndRules, Stays};
+ghost use Rattle.commands.specs.ImageRm.{refusal_of_removal};
 ghost use Rattle.commands.specs.ImageGc.{sweep_text, sweep_texts, image_gc_refusal, ImageGcSays};
 ghost use Rattle.command_outcomes.specs.Moments.{dir_at};
 
@@ -83,8 +83,8 @@ fn printed_lines(alloc: Global, lines: &[SweepLine]) -> Result<Output, Refusal>
 }
 
 fn sweep_refusal(error: StoreError) -> Refusal
-    requires { is_work_refusal error ≡ true }
-    ensures { result ≡ removal_refusal error }
+    requires { is_removal_work_refusal error ≡ true }
+    ensures { result ≡ refusal_of_removal error }
 {
     match error {
         StoreError::DirFault => Refusal::DirFault,
@@ -100,10 +100,10 @@ fn sweep_refusal(error: StoreError) -> Refusal
 /// keep; `DirFault` where it failed. Then what was done until then isn't told.
 pub fn image_gc<D: Dir>(alloc: Global, dir: &mut D) -> Result<Output, Refusal>
     requires active { IsActive (D.shown dir.old).local }
-    ensures worked { Worked D.observed sweeps (D.shown dir.old) (D.shown dir.new) }
+    ensures worked { OnlyAsks D.observed sweeps_store (D.shown dir.old) (D.shown dir.new) }
     ensures cause { IsErrOf result Refusal.DirFault → Rose (D.shown dir.old).faults (D.shown dir.new).faults }
     ensures refusals { IfErr result (λ r. image_gc_refusal r ≡ true) }
-    ensures conforms { D.observed ≡ true → Stays MaySweep StaysConforming (D.shown dir.old) (D.shown dir.new) }
+    ensures conforms { D.observed ≡ true → Stays MaySweepStore KeepsStandingAndRules (D.shown dir.old) (D.shown dir.new) }
     ensures says { ImageGcSays (dir_at D.Dir dir.old) (dir_at D.Dir dir.new) result }
 {
     match sweep(alloc, dir) {

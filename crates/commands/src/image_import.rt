@@ -5,11 +5,11 @@ ghost use Rattle.ac_types.specs.Ids.{id_text};
 ghost use Rattle.dir_model.specs.Causes.{Rose};
 ghost use Rattle.dir_model.specs.declared.intent.Intent.{Intent};
 ghost use Rattle.dir_trait.specs.Local.{IsActive};
-ghost use Rattle.folder_building.specs.Work.{Worked};
+ghost use Rattle.dir_trait.specs.Effects.{OnlyAsks};
 ghost use Rattle.image_store.specs.Requests.{building_spot, imports_at};
 ghost use Rattle.image_store.specs.Work.{IsImport};
 ghost use Rattle.command_outcomes.specs.Conforming.{StaysConforming};
-ghost use Rattle.commands.specs.ImageImport.{key_line, image_import_refusal, listing_refusal, is_import_error, import_refusal, IsSaidOf, ImageImportSays};
+ghost use Rattle.commands.specs.ImageImport.{key_line, image_import_refusal, import_listing_refusal, is_import_error, import_refusal, IsSaidOf, ImageImportSays};
 ghost use Rattle.command_outcomes.specs.Moments.{dir_at, outside_at};
 
 use ac_types::{BAD_ID, NoMemory, StoreKey, Text};
@@ -47,7 +47,7 @@ fn file_refusal(alloc: Global, name: &str, number: u8) -> Result<Refusal, NoMemo
 }
 
 fn listing_refusal(alloc: Global, error: ListingError) -> Result<Refusal, NoMemory>
-    ensures { IfOk result (λ refusal. refusal ≡ listing_refusal error) }
+    ensures { IfOk result (λ refusal. refusal ≡ import_listing_refusal error) }
 {
     match error {
         ListingError::BadLine(_) => file_refusal(alloc, "tree", BAD_LINE),
@@ -130,7 +130,7 @@ pub fn image_import<D: Dir, B: Bundle>(
     bundle: &mut B,
 ) -> Result<Output, Refusal>
     requires active { IsActive (D.shown dir.old).local }
-    ensures worked { Worked D.observed (imports_at (building_spot draw)) (D.shown dir.old) (D.shown dir.new) }
+    ensures worked { OnlyAsks D.observed (imports_at (building_spot draw)) (D.shown dir.old) (D.shown dir.new) }
     ensures cause { IsErrOf result Refusal.DirFault → Rose (D.shown dir.old).faults (D.shown dir.new).faults }
     ensures bundle { (B.shown bundle.old).faults ≤ (B.shown bundle.new).faults }
     ensures bundle_cause { IsErrOf result Refusal.BundleFault → Rose (B.shown bundle.old).faults (B.shown bundle.new).faults }

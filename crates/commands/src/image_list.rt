@@ -8,19 +8,19 @@ ghost use Rattle.dir_trait.specs.Local.{IsActive};
 ghost use Rattle.dir_files.specs.AreaLocks.{is_free_of};
 ghost use Rattle.image_reading.specs.Refusals.{IsReadRefusal};
 ghost use Rattle.image_reading.specs.Store.{IsStorePath};
-ghost use Rattle.commands.specs.ImageList.{image_text, images_text, image_list_refusal, lists_images, lock_refusal, store_refusal, ImageListSays};
+ghost use Rattle.commands.specs.ImageList.{image_line_text, images_text, image_list_refusal, lists_images, images_lock_refusal, images_read_refusal, ImageListSays};
 ghost use Rattle.command_outcomes.specs.Moments.{dir_at};
 
 use ac_types::NoMemory;
-use dir_files::{LockError, lock_area, unlock_area};
 use command_outcomes::{Output, Refusal};
 use dep_match::Stored;
+use dir_files::{LockError, lock_area, unlock_area};
 use dir_trait::{Area, Dir, Mode};
 use image_reading::{StoreError, stored};
 use std::alloc::Global;
 
 fn image_line(alloc: Global, image: &Stored) -> Result<Output, NoMemory>
-    ensures { IfOk result (λ line. line ≡ image_text image.now) }
+    ensures { IfOk result (λ line. line ≡ image_line_text image.now) }
 {
     let key = image.key.text(alloc)?;
     let mut line = Output::of(alloc, key.as_str())?;
@@ -33,7 +33,7 @@ fn image_line(alloc: Global, image: &Stored) -> Result<Output, NoMemory>
 }
 
 fn add_line(alloc: Global, text: &mut Output, image: &Stored) -> Result<(), NoMemory>
-    ensures { OnOk result (text.new ≡ text.old ++ image_text image.now) }
+    ensures { OnOk result (text.new ≡ text.old ++ image_line_text image.now) }
 {
     let line = image_line(alloc, image)?;
     text.append(&line)?;
@@ -51,7 +51,7 @@ fn image_lines(alloc: Global, images: &[Stored]) -> Result<Output, NoMemory>
 }
 
 fn lock_refusal(error: LockError) -> Refusal
-    ensures { result ≡ lock_refusal error }
+    ensures { result ≡ images_lock_refusal error }
 {
     match error {
         LockError::Busy => Refusal::Busy(Area::Images),
@@ -62,7 +62,7 @@ fn lock_refusal(error: LockError) -> Refusal
 
 fn store_refusal(error: StoreError) -> Refusal
     requires { IsReadRefusal IsStorePath error }
-    ensures { result ≡ store_refusal error }
+    ensures { result ≡ images_read_refusal error }
 {
     match error {
         StoreError::Damaged(path) => Refusal::Damaged(path),
@@ -76,7 +76,7 @@ fn store_refusal(error: StoreError) -> Refusal
 fn read_outcome(alloc: Global, found: Result<Vec<Stored>, StoreError>) -> Result<Output, Refusal>
     requires { IfErr found (IsReadRefusal IsStorePath) }
     ensures lists { IfOk found (λ images. (result ≡ Ok (images_text images.items)) ⊎ (result ≡ Err Refusal.NoMemory)) }
-    ensures refuses { IfErr found (λ e. result ≡ Err (store_refusal e)) }
+    ensures refuses { IfErr found (λ e. result ≡ Err (images_read_refusal e)) }
 {
     match found {
         Ok(images) => match image_lines(alloc, images.as_slice()) {

@@ -3,12 +3,12 @@ ghost use Rattle.std.specs.Prelude.{◌≡◌, ◌≤◌, ◌⊎◌, true, Ok, E
 ghost use Rattle.ac_types.specs.Ids.{id_text};
 ghost use Rattle.dir_model.specs.Causes.{Rose};
 ghost use Rattle.dir_trait.specs.Local.{IsActive};
-ghost use Rattle.folder_building.specs.Work.{Worked};
+ghost use Rattle.dir_trait.specs.Effects.{OnlyAsks};
 ghost use Rattle.image_removal.specs.Causes.{is_remove_refusal};
 ghost use Rattle.image_removal.specs.Requests.{removes_at};
-ghost use Rattle.image_removal.specs.Work.{MayRemove, StaysConforming, Stays};
+ghost use Rattle.image_removal.specs.Work.{MayRemoveImage, KeepsStandingAndRules, Stays};
 ghost use Rattle.commands.specs.Kept.{KeepsRefused};
-ghost use Rattle.commands.specs.ImageRm.{removed_text, image_rm_refusal, IsRemovalSaid, ImageRmSays};
+ghost use Rattle.commands.specs.ImageRm.{removed_image_text, image_rm_refusal, IsRemovalSaid, ImageRmSays};
 ghost use Rattle.command_outcomes.specs.Moments.{dir_at};
 
 use ac_types::{NoMemory, StoreKey};
@@ -19,7 +19,7 @@ use image_removal::remove;
 use std::alloc::Global;
 
 fn removed_line(alloc: Global, key: StoreKey) -> Result<Output, NoMemory>
-    ensures { IfOk result (λ line. line ≡ removed_text key) }
+    ensures { IfOk result (λ line. line ≡ removed_image_text key) }
 {
     let text = key.text(alloc)?;
     let line = named(alloc, "removed ", &text)?;
@@ -59,11 +59,11 @@ fn remove_saying<D: Dir>(
     dir: &mut D,
 ) -> Result<Output, Refusal>
     requires active { IsActive (D.shown dir.old).local }
-    requires line { line ≡ removed_text key }
-    ensures worked { Worked D.observed (removes_at key draw) (D.shown dir.old) (D.shown dir.new) }
+    requires line { line ≡ removed_image_text key }
+    ensures worked { OnlyAsks D.observed (removes_at key draw) (D.shown dir.old) (D.shown dir.new) }
     ensures cause { IsErrOf result Refusal.DirFault → Rose (D.shown dir.old).faults (D.shown dir.new).faults }
     ensures refusals { IfErr result (λ r. image_rm_refusal r ≡ true) }
-    ensures conforms { D.observed ≡ true → Stays (MayRemove draw) StaysConforming (D.shown dir.old) (D.shown dir.new) }
+    ensures conforms { D.observed ≡ true → Stays (MayRemoveImage draw) KeepsStandingAndRules (D.shown dir.old) (D.shown dir.new) }
     ensures says { ImageRmSays key draw (dir_at D.Dir dir.old) (dir_at D.Dir dir.new) result }
     ensures kept { KeepsRefused (dir_at D.Dir dir.old) (dir_at D.Dir dir.new) result }
 {
@@ -85,10 +85,10 @@ pub fn image_rm<D: Dir>(
     dir: &mut D,
 ) -> Result<Output, Refusal>
     requires active { IsActive (D.shown dir.old).local }
-    ensures worked { Worked D.observed (removes_at key draw) (D.shown dir.old) (D.shown dir.new) }
+    ensures worked { OnlyAsks D.observed (removes_at key draw) (D.shown dir.old) (D.shown dir.new) }
     ensures cause { IsErrOf result Refusal.DirFault → Rose (D.shown dir.old).faults (D.shown dir.new).faults }
     ensures refusals { IfErr result (λ r. image_rm_refusal r ≡ true) }
-    ensures conforms { D.observed ≡ true → Stays (MayRemove draw) StaysConforming (D.shown dir.old) (D.shown dir.new) }
+    ensures conforms { D.observed ≡ true → Stays (MayRemoveImage draw) KeepsStandingAndRules (D.shown dir.old) (D.shown dir.new) }
     ensures says { ImageRmSays key draw (dir_at D.Dir dir.old) (dir_at D.Dir dir.new) result }
     ensures kept { KeepsRefused (dir_at D.Dir dir.old) (dir_at D.Dir dir.new) result }
 {

@@ -6,7 +6,7 @@ ghost use Rattle.dir_trait.specs.Local.{IsActive};
 ghost use Rattle.pod_report.specs.Outside.{IsUnsaid};
 ghost use Rattle.pod_report.specs.Requests.{HasNoPodOpen, OnlyAsksFor, surveys};
 ghost use Rattle.command_outcomes.specs.Moments.{dir_at};
-ghost use Rattle.commands.specs.PodList.{apps_text, line_text, list_refusal, list_report, list_text, name_behind, names_text, unlisted_refusal};
+ghost use Rattle.commands.specs.PodList.{apps_text, pod_line_text, list_refusal, list_report, list_text, name_behind, names_text, unlisted_refusal};
 ghost use Rattle.commands.specs.Report.{ReportSays};
 
 use ac_types::{AcName, NoMemory};
@@ -54,7 +54,7 @@ fn apps_text(alloc: Global, apps: &Option<AppNames>) -> Result<Output, NoMemory>
 }
 
 fn pod_line(alloc: Global, line: &PodLine) -> Result<Output, NoMemory>
-    ensures { IfOk result (λ text. text ≡ line_text line.now) }
+    ensures { IfOk result (λ text. text ≡ pod_line_text line.now) }
 {
     let name = line.pod.name();
     let mut text = Output::of(alloc, name.as_str())?;
@@ -67,7 +67,7 @@ fn pod_line(alloc: Global, line: &PodLine) -> Result<Output, NoMemory>
 }
 
 fn add_line(alloc: Global, text: &mut Output, line: &PodLine) -> Result<(), NoMemory>
-    ensures { OnOk result (text.new ≡ text.old ++ line_text line.now) }
+    ensures { OnOk result (text.new ≡ text.old ++ pod_line_text line.now) }
 {
     text.append(&pod_line(alloc, line)?)?;
     Ok(())

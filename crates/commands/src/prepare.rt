@@ -4,12 +4,12 @@ ghost use Rattle.dir_model.specs.Causes.{Rose};
 ghost use Rattle.dir_model.specs.declared.area.Area.{Area};
 ghost use Rattle.dir_model.specs.declared.intent.Intent.{Intent};
 ghost use Rattle.dir_trait.specs.Local.{IsActive};
-ghost use Rattle.folder_building.specs.Work.{Worked};
+ghost use Rattle.dir_trait.specs.Effects.{OnlyAsks};
 ghost use Rattle.pod_build.specs.Preparations.{Began, MakesFaithfully};
 ghost use Rattle.command_outcomes.specs.Conforming.{StaysConforming};
 ghost use Rattle.command_outcomes.specs.Moments.{dir_at};
 ghost use Rattle.commands.specs.PrepareRefusals.{prepare_refusal};
-ghost use Rattle.commands.specs.Prepare.{pod_line, syncs, prepares_pod, sync_refusal, SyncSays, PrepareSays};
+ghost use Rattle.commands.specs.Prepare.{pod_line, syncs, prepares_pod, prepared_sync_refusal, SyncSays, PrepareSays};
 
 use crate::prepare_refusals::build_refusal;
 use crate::wanted::Wanted;
@@ -30,7 +30,7 @@ pub fn pod_line(alloc: Global, pod: PodId) -> Result<Output, NoMemory>
 }
 
 fn sync_refusal(error: DirError) -> Refusal
-    ensures { result ≡ sync_refusal error }
+    ensures { result ≡ prepared_sync_refusal error }
 {
     match error {
         DirError::Failed => Refusal::DirFault,
@@ -42,7 +42,7 @@ fn sync_refusal(error: DirError) -> Refusal
 // the machine.
 fn sync_saying<D: Dir>(alloc: Global, line: Output, dir: &mut D) -> Result<Output, Refusal>
     requires active { IsActive (D.shown dir.old).local }
-    ensures worked { Worked D.observed (syncs Area.Prepared) (D.shown dir.old) (D.shown dir.new) }
+    ensures worked { OnlyAsks D.observed (syncs Area.Prepared) (D.shown dir.old) (D.shown dir.new) }
     ensures cause { IsErrOf result Refusal.DirFault → Rose (D.shown dir.old).faults (D.shown dir.new).faults }
     ensures says { SyncSays line D.observed (D.shown dir.old) (D.shown dir.new) result }
 {
@@ -63,7 +63,7 @@ fn prepare_saying<D: Dir>(
 ) -> Result<Output, Refusal>
     requires active { IsActive (D.shown dir.old).local }
     requires line { line ≡ pod_line draw.now.uuid }
-    ensures worked { Worked D.observed (prepares_pod draw.now.uuid) (D.shown dir.old) (D.shown dir.new) }
+    ensures worked { OnlyAsks D.observed (prepares_pod draw.now.uuid) (D.shown dir.old) (D.shown dir.new) }
     ensures cause { IsErrOf result Refusal.DirFault → Rose (D.shown dir.old).faults (D.shown dir.new).faults }
     ensures refusals { IfErr result (λ r. prepare_refusal r ≡ true) }
     ensures known { D.observed ≡ true → (intent : Intent) → Began Area.Prepared draw.now now intent → StaysConforming intent (dir_at D.Dir dir.old) (dir_at D.Dir dir.new) }
@@ -103,7 +103,7 @@ pub fn prepare_pod<D: Dir>(
     dir: &mut D,
 ) -> Result<Output, Refusal>
     requires active { IsActive (D.shown dir.old).local }
-    ensures worked { Worked D.observed (prepares_pod draw.now.uuid) (D.shown dir.old) (D.shown dir.new) }
+    ensures worked { OnlyAsks D.observed (prepares_pod draw.now.uuid) (D.shown dir.old) (D.shown dir.new) }
     ensures cause { IsErrOf result Refusal.DirFault → Rose (D.shown dir.old).faults (D.shown dir.new).faults }
     ensures refusals { IfErr result (λ r. prepare_refusal r ≡ true) }
     ensures known { D.observed ≡ true → (intent : Intent) → Began Area.Prepared draw.now now intent → StaysConforming intent (dir_at D.Dir dir.old) (dir_at D.Dir dir.new) }

@@ -1,6 +1,6 @@
 // What is said of a pod that isn't prepared.
 ghost use Rattle.std.specs.Prelude.{◌≡◌, ◌<◌, ℕ, length, IfOk};
-ghost use Rattle.commands.specs.PrepareRefusals.{dependency_refusal, manifest_refusal, root_refusal, listing_refusal, word_at, build_refusal, IsSaid};
+ghost use Rattle.commands.specs.PrepareRefusals.{dependency_refusal, pod_manifest_refusal, root_refusal, root_listing_refusal, word_at, refusal_of_build, IsSaidOfBuild};
 
 use ac_types::{NoMemory, Text};
 use command_outcomes::Refusal;
@@ -35,7 +35,7 @@ fn named_fault(alloc: Global, name: &str, number: u8) -> Result<Refusal, NoMemor
 }
 
 fn manifest_refusal(alloc: Global, refusal: GenError) -> Result<Refusal, NoMemory>
-    ensures { IfOk result (λ said. said ≡ manifest_refusal refusal) }
+    ensures { IfOk result (λ said. said ≡ pod_manifest_refusal refusal) }
 {
     match refusal {
         GenError::TooManyApps => Ok(Refusal::Limit(MAX_APPS as u64)),
@@ -58,7 +58,7 @@ fn root_refusal(refusal: RenderError) -> Refusal
 
 // The listing of a root is only ever too large.
 fn listing_refusal(refusal: ListingError) -> Refusal
-    ensures { result ≡ listing_refusal refusal }
+    ensures { result ≡ root_listing_refusal refusal }
 {
     match refusal {
         ListingError::TooMany(limit) => Refusal::Limit(limit),
@@ -76,7 +76,7 @@ fn no_match(words: &[Text], place: usize) -> Result<Refusal, NoMemory>
 
 fn said(alloc: Global, words: &[Text], error: BuildError) -> Result<Refusal, NoMemory>
     requires { (place : ℕ) → error ≡ BuildError.NoMatch place → place < length words.now }
-    ensures { IfOk result (λ refusal. refusal ≡ build_refusal words.now error) }
+    ensures { IfOk result (λ refusal. refusal ≡ refusal_of_build words.now error) }
 {
     match error {
         BuildError::Busy(area) => Ok(Refusal::Busy(area)),
@@ -96,7 +96,7 @@ fn said(alloc: Global, words: &[Text], error: BuildError) -> Result<Refusal, NoM
 /// What is said of a pod for these words that isn't prepared; or that memory ran out.
 pub fn build_refusal(alloc: Global, words: &[Text], error: BuildError) -> Refusal
     requires { (place : ℕ) → error ≡ BuildError.NoMatch place → place < length words.now }
-    ensures { IsSaid words.now error result }
+    ensures { IsSaidOfBuild words.now error result }
 {
     match said(alloc, words, error) {
         Ok(refusal) => refusal,

@@ -3,13 +3,13 @@ ghost use Rattle.std.specs.Prelude.{◌≡◌, true, false, IfOk, IfErr, IsErrOf
 ghost use Rattle.dir_model.specs.Causes.{Rose};
 ghost use Rattle.dir_trait.specs.Local.{IsActive, has_own_open};
 ghost use Rattle.dir_trait.specs.Pods.{pod_text};
-ghost use Rattle.folder_building.specs.Work.{Worked};
-ghost use Rattle.pod_locks.specs.Holding.{KeepsReady, Stays};
+ghost use Rattle.dir_trait.specs.Effects.{OnlyAsks, Given};
+ghost use Rattle.pod_locks.specs.Holding.{KeepsReady};
 ghost use Rattle.pod_gc.specs.RemovalHolding.{MayRemovePod};
 ghost use Rattle.pod_gc.specs.RemovalRequests.{removes};
 ghost use Rattle.command_outcomes.specs.Moments.{dir_at};
 ghost use Rattle.commands.specs.Kept.{KeepsRefused};
-ghost use Rattle.commands.specs.Rm.{removed_text, remove_refusal, rm_refusal, RmSays, WhereRemoving, FailsAlone};
+ghost use Rattle.commands.specs.Rm.{removed_pod_text, remove_refusal, rm_refusal, RmSays, WhereRemovingPod, FailsAlone};
 
 use ac_types::NoMemory;
 use command_outcomes::{Output, Refusal};
@@ -18,7 +18,7 @@ use pod_gc::{RemoveError, remove_pod};
 use std::alloc::Global;
 
 fn removed_line(alloc: Global, pod: PodId) -> Result<Output, NoMemory>
-    ensures { IfOk result (λ line. line ≡ removed_text pod) }
+    ensures { IfOk result (λ line. line ≡ removed_pod_text pod) }
 {
     let name = pod.name();
     let mut line = Output::of(alloc, "removed ")?;
@@ -51,11 +51,11 @@ fn remove_saying<D: Dir>(
 ) -> Result<Output, Refusal>
     requires active { IsActive (D.shown dir.old).local }
     requires alone { has_own_open (D.shown dir.old).local (pod_text pod.bytes) ≡ false }
-    requires line { line ≡ removed_text pod }
-    ensures worked { Worked D.observed (removes pod now) (D.shown dir.old) (D.shown dir.new) }
+    requires line { line ≡ removed_pod_text pod }
+    ensures worked { OnlyAsks D.observed (removes pod now) (D.shown dir.old) (D.shown dir.new) }
     ensures cause { IsErrOf result Refusal.DirFault → Rose (D.shown dir.old).faults (D.shown dir.new).faults }
     ensures refusals { IfErr result (λ r. rm_refusal r ≡ true) }
-    ensures ready { D.observed ≡ true → Stays (MayRemovePod pod now) (D.shown dir.old) (λ s. KeepsReady s (D.shown dir.new)) }
+    ensures ready { D.observed ≡ true → Given (MayRemovePod pod now) (D.shown dir.old) (λ s. KeepsReady s (D.shown dir.new)) }
     ensures says { RmSays pod now (dir_at D.Dir dir.old) (dir_at D.Dir dir.new) result }
     ensures kept { KeepsRefused (dir_at D.Dir dir.old) (dir_at D.Dir dir.new) result }
 {
@@ -76,13 +76,13 @@ fn remove_saying<D: Dir>(
 pub fn rm<D: Dir>(alloc: Global, pod: PodId, now: u64, dir: &mut D) -> Result<Output, Refusal>
     requires active { IsActive (D.shown dir.old).local }
     requires alone { has_own_open (D.shown dir.old).local (pod_text pod.bytes) ≡ false }
-    ensures worked { Worked D.observed (removes pod now) (D.shown dir.old) (D.shown dir.new) }
+    ensures worked { OnlyAsks D.observed (removes pod now) (D.shown dir.old) (D.shown dir.new) }
     ensures cause { IsErrOf result Refusal.DirFault → Rose (D.shown dir.old).faults (D.shown dir.new).faults }
     ensures refusals { IfErr result (λ r. rm_refusal r ≡ true) }
-    ensures ready { D.observed ≡ true → Stays (MayRemovePod pod now) (D.shown dir.old) (λ s. KeepsReady s (D.shown dir.new)) }
+    ensures ready { D.observed ≡ true → Given (MayRemovePod pod now) (D.shown dir.old) (λ s. KeepsReady s (D.shown dir.new)) }
     ensures says { RmSays pod now (dir_at D.Dir dir.old) (dir_at D.Dir dir.new) result }
     ensures kept { KeepsRefused (dir_at D.Dir dir.old) (dir_at D.Dir dir.new) result }
-    ensures complete { IfErr result (λ r. WhereRemoving pod now (dir_at D.Dir dir.old) (FailsAlone pod (dir_at D.Dir dir.old) (dir_at D.Dir dir.new) r)) }
+    ensures complete { IfErr result (λ r. WhereRemovingPod pod now (dir_at D.Dir dir.old) (FailsAlone pod (dir_at D.Dir dir.old) (dir_at D.Dir dir.new) r)) }
 {
     // Made first: a pod that is gone can't be said to be removed where there is no memory for the line.
     match removed_line(alloc, pod) {

@@ -4,7 +4,7 @@ ghost use Rattle.dir_model.specs.Causes.{Rose};
 ghost use Rattle.dir_model.specs.declared.area.Area.{Area};
 ghost use Rattle.dir_model.specs.declared.intent.Intent.{Intent};
 ghost use Rattle.dir_trait.specs.Local.{IsActive};
-ghost use Rattle.folder_building.specs.Work.{Worked};
+ghost use Rattle.dir_trait.specs.Effects.{OnlyAsks};
 ghost use Rattle.pod_build.specs.Preparations.{Began, MakesFaithfully};
 ghost use Rattle.commands.specs.Prepare.{pod_line};
 ghost use Rattle.command_outcomes.specs.Conforming.{StaysConforming};
@@ -49,7 +49,7 @@ fn run_saying<D: Dir, S: Spawner>(
     requires free { (D.shown dir.old).local.holdings ≡ [] }
     requires can { D.observed ≡ true → CanRun draw.now now (D.shown dir.old) }
     requires line { line ≡ pod_line draw.now.uuid }
-    ensures worked { Worked D.observed (makes_and_runs draw.now.uuid) (D.shown dir.old) (D.shown dir.new) }
+    ensures worked { OnlyAsks D.observed (makes_and_runs draw.now.uuid) (D.shown dir.old) (D.shown dir.new) }
     ensures cause { IsErrOf result Refusal.DirFault → Rose (D.shown dir.old).faults (D.shown dir.new).faults }
     ensures spawn_cause { IsErrOf result Refusal.SpawnFault → Rose (S.shown spawner.old).faults (S.shown spawner.new).faults }
     ensures refusals { IfErr result (λ r. new_run_refusal r ≡ true) }
@@ -81,7 +81,7 @@ pub fn run<D: Dir, S: Spawner>(
     requires active { IsActive (D.shown dir.old).local }
     requires free { (D.shown dir.old).local.holdings ≡ [] }
     requires can { D.observed ≡ true → CanRun draw.now now (D.shown dir.old) }
-    ensures worked { Worked D.observed (makes_and_runs draw.now.uuid) (D.shown dir.old) (D.shown dir.new) }
+    ensures worked { OnlyAsks D.observed (makes_and_runs draw.now.uuid) (D.shown dir.old) (D.shown dir.new) }
     ensures cause { IsErrOf result Refusal.DirFault → Rose (D.shown dir.old).faults (D.shown dir.new).faults }
     ensures spawn_cause { IsErrOf result Refusal.SpawnFault → Rose (S.shown spawner.old).faults (S.shown spawner.new).faults }
     ensures refusals { IfErr result (λ r. new_run_refusal r ≡ true) }

@@ -4,7 +4,7 @@ ghost use Rattle.dir_model.specs.Causes.{Rose};
 ghost use Rattle.dir_model.specs.declared.intent.Intent.{Intent};
 ghost use Rattle.dir_rules.specs.Standing.{is_run_prepared};
 ghost use Rattle.dir_trait.specs.Local.{IsActive};
-ghost use Rattle.folder_building.specs.Work.{Worked};
+ghost use Rattle.dir_trait.specs.Effects.{OnlyAsks};
 ghost use Rattle.command_outcomes.specs.Conforming.{StaysConforming};
 ghost use Rattle.command_outcomes.specs.Moments.{dir_at, inside_at};
 ghost use Rattle.commands.specs.RunRefusals.{run_prepared_refusal};
@@ -36,7 +36,7 @@ pub fn run_prepared<D: Dir, S: Spawner>(
     requires active { IsActive (D.shown dir.old).local }
     requires free { (D.shown dir.old).local.holdings ≡ [] }
     requires can { D.observed ≡ true → CanClaim (D.shown dir.old) }
-    ensures worked { Worked D.observed (runs_prepared pod) (D.shown dir.old) (D.shown dir.new) }
+    ensures worked { OnlyAsks D.observed (runs_prepared pod) (D.shown dir.old) (D.shown dir.new) }
     ensures cause { IsErrOf result Refusal.DirFault → Rose (D.shown dir.old).faults (D.shown dir.new).faults }
     ensures spawn_cause { IsErrOf result Refusal.SpawnFault → Rose (S.shown spawner.old).faults (S.shown spawner.new).faults }
     ensures refusals { IfErr result (λ r. run_prepared_refusal r ≡ true) }

@@ -2,8 +2,9 @@
 ghost use Rattle.std.specs.Prelude.{◌≡◌, ◌≤◌, true, IfErr, IsErrOf};
 ghost use Rattle.dir_model.specs.Causes.{Rose};
 ghost use Rattle.dir_trait.specs.Local.{IsActive, IsOpen, without};
+ghost use Rattle.dir_trait.specs.Effects.{LeavesOpen};
 ghost use Rattle.pod_locks.specs.Running.{RunsPod};
-ghost use Rattle.stage1.specs.Runs.{Went, runs_and_closes};
+ghost use Rattle.stage1.specs.Runs.{runs_and_closes};
 ghost use Rattle.stage1.specs.Keeping.{KeepsToEnd};
 ghost use Rattle.commands.specs.RunRefusals.{apps_refusal};
 ghost use Rattle.commands.specs.AppRuns.{RunSays};
@@ -31,7 +32,7 @@ pub(crate) fn run_owned<D: Dir, S: Spawner>(
     requires active { IsActive (D.shown dir.old).local }
     requires open { IsOpen (D.shown dir.old).local owned.own }
     requires runs { D.observed ≡ true → RunsPod owned.pod (D.shown dir.old) }
-    ensures went { Went D.observed (runs_and_closes owned.pod owned.own) (without (D.shown dir.old).local owned.own) (D.shown dir.old) (D.shown dir.new) }
+    ensures went { LeavesOpen D.observed (runs_and_closes owned.pod owned.own) (without (D.shown dir.old).local owned.own) (D.shown dir.old) (D.shown dir.new) }
     ensures cause { IsErrOf result Refusal.DirFault → Rose (D.shown dir.old).faults (D.shown dir.new).faults }
     ensures spawn_cause { IsErrOf result Refusal.SpawnFault → Rose (S.shown spawner.old).faults (S.shown spawner.new).faults }
     ensures refusals { IfErr result (λ r. apps_refusal r ≡ true) }

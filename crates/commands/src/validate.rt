@@ -5,7 +5,7 @@ ghost use Rattle.manifests.specs.DocumentData.{any_manifest, document_data};
 ghost use Rattle.commands.specs.Texts.{valid_text};
 ghost use Rattle.command_outcomes.specs.Ends.{is_own_end};
 ghost use Rattle.command_outcomes.specs.Moments.{bundle_at};
-ghost use Rattle.commands.specs.Validate.{validate_refusal, manifest_outcome, reading_refusal, IsRefusalOf, ValidateSays, ReadsFile};
+ghost use Rattle.commands.specs.Validate.{validate_refusal, manifest_outcome, reading_refusal, IsRefusalOf, ValidateSays, ReadsFileAlone};
 
 use ac_types::{ReadError, Text};
 use bundle_image::read_file;
@@ -79,7 +79,7 @@ pub fn validate<B: Bundle>(alloc: Global, path: &Text, bundle: &mut B) -> Result
     ensures faults { (B.shown bundle.old).faults ≤ (B.shown bundle.new).faults }
     ensures cause { IsErrOf result Refusal.BundleFault → Rose (B.shown bundle.old).faults (B.shown bundle.new).faults }
     ensures refusals { IfErr result (λ r. validate_refusal r ≡ true) }
-    ensures reads { ReadsFile path.now (bundle_at B.Bundle bundle.old) (bundle_at B.Bundle bundle.new) }
+    ensures reads { ReadsFileAlone path.now (bundle_at B.Bundle bundle.old) (bundle_at B.Bundle bundle.new) }
     ensures says { is_own_end result ≡ true → ValidateSays path.now (bundle_at B.Bundle bundle.old) result }
 {
     match read_file(alloc, bundle, path.as_str(), MOST_READ) {

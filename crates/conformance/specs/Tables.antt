@@ -2,7 +2,7 @@
 use Rattle.std.specs.Prelude.{Option, List, ℕ, option_map, map}
 use Rattle.dir_model.specs.declared.item.Inner.{Inner}
 use Rattle.dir_model.specs.declared.tree.TreeNode.TheVariants.{Piece}
-use Rattle.dir_rules.specs.Seen.{with_entry, making_changed}
+use Rattle.dir_rules.specs.Seen.{making_with_entry, making_changed}
 use Rattle.dir_rules.specs.declared.seen.Making.{Making}
 use Rattle.dir_rules.specs.declared.seen.Created.{Created}
 use Rattle.dir_rules.specs.declared.seen.Seen.{Seen}
@@ -17,8 +17,8 @@ abbrev pub table_making : MakingTable → Making
 table_making t = record { spot = t.spot; clean = t.clean; entries = t.entries.items; unsynced = t.unsynced.items }
 
 -- a piece of a file was made: its entry, and the directory or file that is to be synced for it
-abbrev pub with_piece : Inner → List ℕ → List ℕ → Option Making → Option Making
-with_piece inner piece unsynced making = making_changed inner.spot (with_entry inner.path (Piece piece) unsynced) making
+abbrev pub making_with_piece : Inner → List ℕ → List ℕ → Option Making → Option Making
+making_with_piece inner piece unsynced making = making_changed inner.spot (making_with_entry inner.path (Piece piece) unsynced) making
 
 abbrev pub created_of : CreatedMark → Created
 created_of t = record { name = t.name; moment = t.moment }

@@ -2,7 +2,7 @@
 ghost use Rattle.std.specs.Prelude.{◌≡◌, map, find, bytes_eq};
 ghost use Rattle.std.specs.Option.{option_copied};
 ghost use Rattle.dir_rules.specs.Standing.{intends};
-ghost use Rattle.dir_rules.specs.Rules.{asks_for, is_asked};
+ghost use Rattle.dir_rules.specs.Rules.{asks_for, has_asked_for_removal};
 ghost use Rattle.conformance.specs.Tables.{created_of};
 ghost use Rattle.conformance.specs.Asked.{asks_at};
 
@@ -11,7 +11,7 @@ use dir_model::{Intent, Kind, Name};
 use dir_rules::{Created, Seen};
 
 // By the greatest moment that a listing of the pod's folder showed.
-fn asks_at(intent: &Option<Intent>, moment: Option<u128>, name: &Name) -> bool
+fn asks_at(intent: &Option<Intent>, moment: Option<u64>, name: &Name) -> bool
     ensures { result ≡ intends (λ i. asks_at i.kind i moment name.now) intent.now }
 {
     let Some(intent) = intent else {
@@ -22,9 +22,7 @@ fn asks_at(intent: &Option<Intent>, moment: Option<u128>, name: &Name) -> bool
             .as_str()
             .as_bytes()
             .starts_with(intent.word.as_str().as_bytes()),
-        (Kind::Gc, Some(moment)) => {
-            u128::from(intent.expire) <= u128::from(intent.now).saturating_sub(moment)
-        }
+        (Kind::Gc, Some(moment)) => { intent.expire <= intent.now.saturating_sub(moment) }
         _ => false,
     }
 }
@@ -54,11 +52,11 @@ pub fn asks_for(intent: &Option<Intent>, created: &[CreatedMark], name: &Name) -
 /// Whether the process was asked to remove this pod: an rm by its word, a gc by the age of the
 /// greatest `created-` mark that its own listing of the pod's folder showed.
 pub fn is_removal_requested(seen: &Seen, name: &Name) -> bool
-    ensures { result ≡ is_asked seen.now name.now }
+    ensures { result ≡ has_asked_for_removal seen.now name.now }
 {
     let intent = &seen.standing.intent;
     match find_created(seen.created.as_slice(), name) {
         None => asks_at(intent, None, name),
-        Some(mark) => asks_at(intent, Some(u128::from(mark.moment)), name),
+        Some(mark) => asks_at(intent, Some(mark.moment), name),
     }
 }

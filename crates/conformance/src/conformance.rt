@@ -16,7 +16,7 @@ fn is_kill(request: &Request) -> bool
 
 impl SeenTable {
     ghost use Rattle.std.specs.Prelude.{◌≡◌, OnOk};
-    ghost use Rattle.dir_rules.specs.Conforms.{nothing_seen, seen_replied, saw};
+    ghost use Rattle.dir_rules.specs.Conforms.{nothing_seen, seen_replied, seen_after_event};
     ghost use Rattle.conformance.specs.Tables.{table_seen};
 
     fn new(alloc: Global) -> SeenTable
@@ -51,7 +51,7 @@ impl SeenTable {
 
     // The events of others aren't seen, nor its own kill.
     fn saw(&mut self, me: u32, event: &Event) -> Result<(), NoMemory>
-        ensures { OnOk result (table_seen self.new ≡ saw me (table_seen self.old) event.now) }
+        ensures { OnOk result (table_seen self.new ≡ seen_after_event me (table_seen self.old) event.now) }
     {
         if event.process != me || is_kill(&event.request) {
             return Ok(());

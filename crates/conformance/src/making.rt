@@ -2,14 +2,14 @@
 ghost use Rattle.std.specs.Prelude.{◌≡◌, ◌&&◌, not, filter, bytes_eq, option_map, IfOk, OnOk};
 ghost use Rattle.std.specs.List.{list_any};
 ghost use Rattle.dir_rules.specs.Marks.{parent, is_below_status, is_later_mark};
-ghost use Rattle.dir_rules.specs.Seen.{is_making_area, makes_at, with_entry, without_path, spoilt, making_changed, moved_making};
-ghost use Rattle.dir_rules.specs.Rules.{has_made_none, is_dir, has_path, has_dir, has_file, is_all_done, is_whole_pod, of_making, is_in_directory, is_new_path, may_sync_entry};
-ghost use Rattle.conformance.specs.Tables.{table_making, with_piece};
+ghost use Rattle.dir_rules.specs.Seen.{is_making_area, makes_at, making_with_entry, with_path_synced, spoilt, making_changed, moved_making};
+ghost use Rattle.dir_rules.specs.Rules.{has_made_none, is_dir, has_path_among, has_dir_among, has_file_among, is_all_done, is_whole_pod, of_making, is_in_directory, is_new_path, may_sync_entry};
+ghost use Rattle.conformance.specs.Tables.{table_making, making_with_piece};
 
 use crate::table::MakingTable;
 use dir_model::{Area, Bytes, Inner, NoMemory, Spot, TreeNode};
 use dir_rules::Entry;
-use rule_marks::{is_below_status, is_empty, is_later_mark, parent, push_front, same_spot};
+use marks::{is_below_status, is_empty, is_later_mark, parent, push_front, same_spot};
 use std::alloc::Global;
 
 fn is_making_area(area: Area) -> bool
@@ -39,14 +39,14 @@ pub fn has_made_none(making: &Option<MakingTable>) -> bool
 }
 
 fn add_entry(making: &mut MakingTable, entry: Entry, directory: Bytes) -> Result<(), NoMemory>
-    ensures { OnOk result (table_making making.new ≡ with_entry entry.path entry.node directory (table_making making.old)) }
+    ensures { OnOk result (table_making making.new ≡ making_with_entry entry.path entry.node directory (table_making making.old)) }
 {
     making.entries.push(entry)?;
     push_front(&mut making.unsynced, directory)
 }
 
 fn add_dir(making: &mut MakingTable, path: &Bytes) -> Result<(), NoMemory>
-    ensures { OnOk result (table_making making.new ≡ with_entry path.now TreeNode.Dir (parent path.now) (table_making making.old)) }
+    ensures { OnOk result (table_making making.new ≡ making_with_entry path.now TreeNode.Dir (parent path.now) (table_making making.old)) }
 {
     let alloc = *making.entries.allocator();
     let directory = Bytes::of(alloc, parent(path.as_slice()))?;
@@ -72,7 +72,7 @@ fn add_piece(
     piece: &[u8],
     directory: &[u8],
 ) -> Result<(), NoMemory>
-    ensures { OnOk result (table_making making.new ≡ with_entry path.now (TreeNode.Piece piece.now) directory.now (table_making making.old)) }
+    ensures { OnOk result (table_making making.new ≡ making_with_entry path.now (TreeNode.Piece piece.now) directory.now (table_making making.old)) }
 {
     let alloc = *making.entries.allocator();
     let directory = Bytes::of(alloc, directory)?;
@@ -82,7 +82,7 @@ fn add_piece(
 
 /// A directory was made. Refused only where memory ran out.
 pub fn note_dir(making: &mut Option<MakingTable>, inner: &Inner) -> Result<(), NoMemory>
-    ensures { OnOk result (option_map table_making making.new ≡ making_changed inner.now.spot (with_entry inner.now.path TreeNode.Dir (parent inner.now.path)) (option_map table_making making.old)) }
+    ensures { OnOk result (option_map table_making making.new ≡ making_changed inner.now.spot (making_with_entry inner.now.path TreeNode.Dir (parent inner.now.path)) (option_map table_making making.old)) }
 {
     if !makes_at(making, &inner.spot) {
         return Ok(());
@@ -100,7 +100,7 @@ pub fn note_piece(
     piece: &[u8],
     directory: &[u8],
 ) -> Result<(), NoMemory>
-    ensures { OnOk result (option_map table_making making.new ≡ with_piece inner.now piece.now directory.now (option_map table_making making.old)) }
+    ensures { OnOk result (option_map table_making making.new ≡ making_with_piece inner.now piece.now directory.now (option_map table_making making.old)) }
 {
     if !makes_at(making, &inner.spot) {
         return Ok(());
@@ -119,7 +119,7 @@ fn drop_path(unsynced: &mut Vec<Bytes>, path: &[u8])
 
 /// Something was synced.
 pub fn note_sync(making: &mut Option<MakingTable>, inner: &Inner)
-    ensures { option_map table_making making.new ≡ making_changed inner.now.spot (without_path inner.now.path) (option_map table_making making.old) }
+    ensures { option_map table_making making.new ≡ making_changed inner.now.spot (with_path_synced inner.now.path) (option_map table_making making.old) }
 {
     if !makes_at(making, &inner.spot) {
         return;
@@ -169,20 +169,20 @@ fn is_dir(node: &TreeNode) -> bool
 
 /// Whether something was made at the path.
 pub fn has_path(path: &[u8], entries: &[Entry]) -> bool
-    ensures { result ≡ has_path path.now entries.now }
+    ensures { result ≡ has_path_among path.now entries.now }
 {
     entries.iter().any(|entry| entry.path.as_slice() == path)
 }
 
 fn has_dir(path: &[u8], entries: &[Entry]) -> bool
-    ensures { result ≡ has_dir path.now entries.now }
+    ensures { result ≡ has_dir_among path.now entries.now }
 {
     entries.iter().any(|entry| is_dir(&entry.node) && entry.path.as_slice() == path)
 }
 
 /// Whether a file was made at the path.
 pub fn has_file(path: &[u8], entries: &[Entry]) -> bool
-    ensures { result ≡ has_file path.now entries.now }
+    ensures { result ≡ has_file_among path.now entries.now }
 {
     entries.iter().any(|entry| !is_dir(&entry.node) && entry.path.as_slice() == path)
 }
@@ -271,7 +271,7 @@ pub fn has_to_sync(inner: &Inner, making: &Option<MakingTable>) -> bool
 
 /// Whether it made the file to which it appends.
 pub fn has_made_file(path: &[u8], making: &Option<MakingTable>) -> bool
-    ensures { result ≡ of_making (λ m. has_file path.now m.entries) (option_map table_making making.now) }
+    ensures { result ≡ of_making (λ m. has_file_among path.now m.entries) (option_map table_making making.now) }
 {
     match making {
         None => false,

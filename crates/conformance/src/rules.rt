@@ -4,7 +4,7 @@ ghost use Rattle.std.specs.List.{list_any};
 ghost use Rattle.dir_model.specs.State.{spot_eq};
 ghost use Rattle.dir_rules.specs.Marks.{created_mark};
 ghost use Rattle.dir_rules.specs.Standing.{intends};
-ghost use Rattle.dir_rules.specs.Rules.{is_deleting, keeps_name, is_file_item, shows};
+ghost use Rattle.dir_rules.specs.Rules.{is_deleting, keeps_name, is_file_item, is_item_shown};
 
 use crate::asked::asks_for;
 use crate::making::{
@@ -17,7 +17,7 @@ use crate::table::{MakingTable, SeenTable};
 use dir_model::{Area, Inner, Intent, ItemKind, Name, Request, Spot};
 use dir_rules::{Entry, Held, ShownItem};
 use lock_rules::{area_of, is_own_held};
-use rule_marks::{
+use marks::{
     is_empty, is_garbage, is_in, is_mark, is_stage, is_started_mark, is_status_file, same_inner,
     same_spot,
 };
@@ -50,7 +50,7 @@ fn is_file_item(kind: ItemKind) -> bool
 }
 
 fn shows_file(inner: &Inner, items: &[ShownItem]) -> bool
-    ensures { result ≡ shows is_file_item inner.now items.now }
+    ensures { result ≡ is_item_shown is_file_item inner.now items.now }
 {
     items
         .iter()
@@ -58,7 +58,7 @@ fn shows_file(inner: &Inner, items: &[ShownItem]) -> bool
 }
 
 fn shows_dir(inner: &Inner, items: &[ShownItem]) -> bool
-    ensures { result ≡ shows (λ k. not (is_file_item k)) inner.now items.now }
+    ensures { result ≡ is_item_shown (λ k. not (is_file_item k)) inner.now items.now }
 {
     items
         .iter()
@@ -83,14 +83,14 @@ fn has_spot(spot: &Spot, spots: &[Spot]) -> bool
 
 impl SeenTable {
     ghost use Rattle.std.specs.Prelude.{◌≡◌};
-    ghost use Rattle.dir_rules.specs.Standing.{is_in, last_of};
+    ghost use Rattle.dir_rules.specs.Standing.{is_in, last_move_of};
     ghost use Rattle.dir_rules.specs.LockRules.{on_spot};
-    ghost use Rattle.dir_rules.specs.Seen.{inner_eq, makes_at, stands_in};
-    ghost use Rattle.dir_rules.specs.Rules.{runs, deletes, of_making, may_make_in, has_done, is_whole_pod, is_all_done, is_asked, may_bring_between, may_bring, may_look, makes_here, in_order, may_make_entry, may_make_dir, has_note, may_note, may_mark, may_make_file_in, may_append_in, may_sync_in, spares, is_emptied, may_remove_file, may_remove_dir, may_change, allows};
+    ghost use Rattle.dir_rules.specs.Seen.{inner_eq, makes_at, is_item_in};
+    ghost use Rattle.dir_rules.specs.Rules.{runs, deletes, of_making, may_make_in, has_done, is_whole_pod, is_all_done, has_asked_for_removal, contents_allow_move, may_move_by_contents, may_read_area, makes_here, is_in_order, may_make_entry, may_make_dir, has_note, may_note, may_mark, may_make_file_in, may_append_in, may_sync_in, spares_deleted_pod, is_emptied, may_remove_file, may_remove_dir, content_rules_allow, allows};
     ghost use Rattle.conformance.specs.Tables.{table_making, table_seen};
 
     fn is_moved_to_run(&self, name: &Name) -> bool
-        ensures { result ≡ on_spot (λ spot. is_in Area.Run spot.area) (last_of name.now (table_seen self.now).standing.moves) }
+        ensures { result ≡ on_spot (λ spot. is_in Area.Run spot.area) (last_move_of name.now (table_seen self.now).standing.moves) }
     {
         match self.standing.last_of(name) {
             None => false,
@@ -146,13 +146,13 @@ impl SeenTable {
     }
 
     fn is_asked(&self, name: &Name) -> bool
-        ensures { result ≡ is_asked (table_seen self.now) name.now }
+        ensures { result ≡ has_asked_for_removal (table_seen self.now) name.now }
     {
         asks_for(&self.standing.intent, &self.contents.created, name)
     }
 
     fn may_leave_embryo(&self, from: &Spot, to: &Spot, area: Area) -> bool
-        ensures { result ≡ may_bring_between (table_seen self.now) from.now to.now Area.Embryo area }
+        ensures { result ≡ contents_allow_move (table_seen self.now) from.now to.now Area.Embryo area }
     {
         match area {
             Area::Prepare => self.makes_at(from),
@@ -162,7 +162,7 @@ impl SeenTable {
     }
 
     fn may_leave_prepare(&self, from: &Spot, to: &Spot, area: Area) -> bool
-        ensures { result ≡ may_bring_between (table_seen self.now) from.now to.now Area.Prepare area }
+        ensures { result ≡ contents_allow_move (table_seen self.now) from.now to.now Area.Prepare area }
     {
         match area {
             Area::Prepared => self.has_pod_done(from),
@@ -173,7 +173,7 @@ impl SeenTable {
     }
 
     fn may_leave_prepared(&self, from: &Spot, to: &Spot, area: Area) -> bool
-        ensures { result ≡ may_bring_between (table_seen self.now) from.now to.now Area.Prepared area }
+        ensures { result ≡ contents_allow_move (table_seen self.now) from.now to.now Area.Prepared area }
     {
         match area {
             Area::Run => true,
@@ -183,7 +183,7 @@ impl SeenTable {
     }
 
     fn may_leave_run(&self, from: &Spot, to: &Spot, area: Area) -> bool
-        ensures { result ≡ may_bring_between (table_seen self.now) from.now to.now Area.Run area }
+        ensures { result ≡ contents_allow_move (table_seen self.now) from.now to.now Area.Run area }
     {
         match area {
             Area::ExitedGarbage => has_spot(from, &self.contents.marked),
@@ -192,7 +192,7 @@ impl SeenTable {
     }
 
     fn may_leave_incoming(&self, from: &Spot, to: &Spot, area: Area) -> bool
-        ensures { result ≡ may_bring_between (table_seen self.now) from.now to.now Area.Incoming area }
+        ensures { result ≡ contents_allow_move (table_seen self.now) from.now to.now Area.Incoming area }
     {
         match area {
             Area::Images => self.has_image_done(from) && self.contents.stored,
@@ -202,7 +202,7 @@ impl SeenTable {
     }
 
     fn may_leave_images(&self, from: &Spot, to: &Spot, area: Area) -> bool
-        ensures { result ≡ may_bring_between (table_seen self.now) from.now to.now Area.Images area }
+        ensures { result ≡ contents_allow_move (table_seen self.now) from.now to.now Area.Images area }
     {
         match area {
             Area::Removed => {
@@ -214,7 +214,7 @@ impl SeenTable {
     }
 
     fn may_bring_between(&self, from: &Spot, to: &Spot) -> bool
-        ensures { result ≡ may_bring_between (table_seen self.now) from.now to.now from.now.area to.now.area }
+        ensures { result ≡ contents_allow_move (table_seen self.now) from.now to.now from.now.area to.now.area }
     {
         match from.area {
             Area::Embryo => self.may_leave_embryo(from, to, to.area),
@@ -229,7 +229,7 @@ impl SeenTable {
 
     // Only what goes into images or out of it gets another name.
     fn may_bring(&self, from: &Spot, to: &Spot) -> bool
-        ensures { result ≡ may_bring (table_seen self.now) from.now to.now }
+        ensures { result ≡ may_move_by_contents (table_seen self.now) from.now to.now }
     {
         self.may_bring_between(from, to)
             && ((!keeps_name(from.area, to.area) || from.name == to.name)
@@ -238,7 +238,7 @@ impl SeenTable {
 
     // Images are listed and read only under their lock.
     fn may_look(&self, area: Area) -> bool
-        ensures { result ≡ may_look (table_seen self.now) area }
+        ensures { result ≡ may_read_area (table_seen self.now) area }
     {
         match area {
             Area::Images => {
@@ -261,7 +261,7 @@ impl SeenTable {
 
     // In a pod the created- mark comes first, and pod is the last file.
     fn in_order(&self, area: Area, file: bool, path: &[u8], entries: &[Entry]) -> bool
-        ensures { result ≡ in_order (table_seen self.now) area file path.now entries.now }
+        ensures { result ≡ is_in_order (table_seen self.now) area file path.now entries.now }
     {
         match area {
             Area::Prepare => {
@@ -358,7 +358,7 @@ impl SeenTable {
 
     // A pod that it deletes isn't changed otherwise.
     fn spares(&self, inner: &Inner) -> bool
-        ensures { result ≡ spares (table_seen self.now) inner.now }
+        ensures { result ≡ spares_deleted_pod (table_seen self.now) inner.now }
     {
         !(is_stage(inner.spot.area) && self.deletes(&inner.spot.name))
     }
@@ -371,7 +371,7 @@ impl SeenTable {
     }
 
     fn has_shown(&self, spot: &Spot, path: &[u8]) -> bool
-        ensures { result ≡ list_any (stands_in (record { spot = spot.now; path = path.now })) (table_seen self.now).items }
+        ensures { result ≡ list_any (is_item_in (record { spot = spot.now; path = path.now })) (table_seen self.now).items }
     {
         self.contents
             .items
@@ -400,7 +400,7 @@ impl SeenTable {
     }
 
     fn may_change(&self, request: &Request) -> bool
-        ensures { result ≡ may_change (table_seen self.now) request.now }
+        ensures { result ≡ content_rules_allow (table_seen self.now) request.now }
     {
         match request {
             Request::MakeFolder(spot) => self.may_make_in(&spot.name, spot.area),

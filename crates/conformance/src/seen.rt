@@ -14,7 +14,7 @@ use dir_model::{
     Area, DirError, Handle, Inner, Intent, Item, Names, NoMemory, Reply, Request, Spot,
 };
 use lock_rules::{StandingTable, gives_up_shared_gate};
-use rule_marks::{is_in, is_mark, parent, push_front, same_spot};
+use marks::{is_in, is_mark, parent, push_front, same_spot};
 use std::alloc::Global;
 
 /// Whether it is the mark of the process's own moment.
@@ -79,7 +79,7 @@ impl ContentsTable {
     ghost use Rattle.std.specs.Prelude.{◌≡◌, ◌∷◌, cond, OnOk};
     ghost use Rattle.dir_rules.specs.LockRules.{may_remove};
     ghost use Rattle.lock_rules.specs.declared.standing.StandingTable.{StandingTable};
-    ghost use Rattle.dir_rules.specs.Seen.{closed, folder_made, folder_moved, file_made, file_refused, listed, area_listed, item_removed, folder_removed, learned_done, learned_refused, learned_items, learned_names, learned};
+    ghost use Rattle.dir_rules.specs.Seen.{closed, folder_made, folder_moved, file_made, file_refused, seen_after_listing, area_listed, item_removed, folder_removed, learned_done, learned_refused, learned_items, learned_names, learned};
     ghost use Rattle.conformance.specs.Tables.{seen_with};
 
     fn alloc(&self) -> Global {
@@ -155,7 +155,7 @@ impl ContentsTable {
         inner: &Inner,
         items: &[Item],
     ) -> Result<(), NoMemory>
-        ensures { OnOk result (seen_with standing.now self.new ≡ listed (seen_with standing.now self.old) inner.now items.now) }
+        ensures { OnOk result (seen_with standing.now self.new ≡ seen_after_listing (seen_with standing.now self.old) inner.now items.now) }
     {
         note_created(&mut self.created, inner, items)?;
         if !standing.may_remove(&inner.spot) {

@@ -2,15 +2,16 @@
 ghost use Rattle.std.specs.Prelude.{◌≡◌, ◌++◌, not, bytes_eq, filter, map, IfOk, OnOk};
 ghost use Rattle.std.specs.List.{list_any};
 ghost use Rattle.dir_rules.specs.Standing.{is_in};
-ghost use Rattle.dir_rules.specs.Seen.{inner_eq, still_listed, still_shown, still_known, forget_listed, forget_items, moved_away, is_item_at, stands_in, shown_in, with_items, with_names, later, created_among, note_created, listed_created};
+ghost use Rattle.dir_rules.specs.Seen.{inner_eq, still_listed, still_shown, still_known, forget_listed, forget_items, moved_away, is_item_at, is_item_in, shown_in, with_items, with_names, created_among, note_created, listed_created};
 ghost use Rattle.conformance.specs.Tables.{created_of};
 
 use crate::table::CreatedMark;
 use dir_model::{Area, Handle, Inner, Item, Name, Names, NoMemory, Spot};
 use dir_rules::{Held, ShownArea, ShownItem};
 use lock_rules::{gives_up_exclusive_gate, gives_up_removal};
-use rule_marks::{
-    created_moment, is_empty, is_in, is_stage, parent, path_in, push_front, same_inner, same_spot,
+use marks::{
+    created_moment, is_empty, is_in, is_stage, later, parent, path_in, push_front, same_inner,
+    same_spot,
 };
 use std::alloc::Global;
 use std::mem;
@@ -85,7 +86,7 @@ pub fn is_item_at(inner: &Inner, item: &ShownItem) -> bool
 
 /// Whether it is an item of this directory.
 pub fn stands_in(spot: &Spot, path: &[u8], item: &ShownItem) -> bool
-    ensures { result ≡ stands_in (record { spot = spot.now; path = path.now }) item.now }
+    ensures { result ≡ is_item_in (record { spot = spot.now; path = path.now }) item.now }
 {
     same_spot(&item.inner.spot, spot) && parent(item.inner.path.as_slice()) == path
 }
@@ -104,7 +105,7 @@ fn shown_in(alloc: Global, inner: &Inner, item: &Item) -> Result<ShownItem, NoMe
 }
 
 fn drop_directory(items: &mut Vec<ShownItem>, inner: &Inner)
-    ensures { items.new.items ≡ filter (λ i. not (stands_in inner.now i)) items.old.items }
+    ensures { items.new.items ≡ filter (λ i. not (is_item_in inner.now i)) items.old.items }
 {
     items.retain(|item| !stands_in(&inner.spot, inner.path.as_slice(), item))
 }
@@ -149,17 +150,7 @@ pub fn note_names(areas: &mut Vec<ShownArea>, area: Area, names: &Names) -> Resu
     push_front(areas, ShownArea { area, names })
 }
 
-fn later(a: Option<u128>, b: Option<u128>) -> Option<u128>
-    ensures { result ≡ later a b }
-{
-    match (a, b) {
-        (None, b) => b,
-        (Some(a), None) => Some(a),
-        (Some(a), Some(b)) => { if a <= b { Some(b) } else { Some(a) } }
-    }
-}
-
-fn created_among(items: &[Item]) -> Option<u128>
+fn created_among(items: &[Item]) -> Option<u64>
     ensures { result ≡ created_among items.now }
 {
     let mut greatest = None;
@@ -172,7 +163,7 @@ fn created_among(items: &[Item]) -> Option<u128>
 fn note_moment(
     created: &mut Vec<CreatedMark>,
     name: &Name,
-    moment: Option<u128>,
+    moment: Option<u64>,
 ) -> Result<(), NoMemory>
     ensures { OnOk result (map created_of created.new.items ≡ note_created name.now moment (map created_of created.old.items)) }
 {

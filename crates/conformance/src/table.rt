@@ -12,12 +12,11 @@ pub struct MakingTable {
     pub unsynced: Vec<Bytes>,
 }
 
-/// A `created-` mark that a listing of a pod's folder showed. Its moment is a number of 64 bits, as
-/// its twenty digits are read.
+/// A `created-` mark that a listing of a pod's folder showed.
 #[derive(Clone, Copy)]
 pub struct CreatedMark {
     pub name: Name,
-    pub moment: u128,
+    pub moment: u64,
 }
 
 /// What a process knows beside locks and places.

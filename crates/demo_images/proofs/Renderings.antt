@@ -24,8 +24,9 @@ use Rattle.render.proofs.LaidOver.{is_hidden, upper_or, laid_is_over, laid_itsel
 use Rattle.render.proofs.Laying.{test_here, test_at_key}
 use Rattle.render.proofs.PathOrder.{one_or_two}
 use Rattle.std.proofs.lemmas.List.Folds.{list_any-append}
+use Rattle.plain_laws.proofs.Booleans.{or_none}
 use Rattle.demo_images.specs.DemoImages.{common_path, own_path, AreDemoImages, IsDemoTree, AreDemoTrees}
-use Rattle.demo_line.specs.Ways.{way_within, way, entries_of}
+use Rattle.demo_line.specs.Ways.{way_within, dependency_way, rendering_size}
 use Rattle.demo_images.specs.DemoTrees.{nodes_within, nodes_of, paths_of}
 use Rattle.demo_images.proofs.Names.{one_path, not_common, own_flat}
 use Rattle.demo_line.proofs.WayLaws.{way_falls}
@@ -122,10 +123,6 @@ laid_shows i own t tree below shown flat q =
     by false is b at = ap (λ h. not h && is_some (tree q)) is ∙ shown q
     by true is false at = ap (λ h. not h && is_some (tree q)) is ∙ sym at
     by true is true at = let clash : true ≡ false = sym (hidden_slash i own t q is) ∙ flat q at in cc
-
-or_none : (b : Bool) → (b || false) ≡ b
-or_none true = refl
-or_none false = refl
 
 together : (a b m : Bool) → ((a || (b || false)) || (a || m)) ≡ (a || (b || m))
 together true b m = refl
@@ -235,12 +232,12 @@ common_apart (j ∷ images) = (other_path (own_path j) common_path (not_common j
 
 -- so the rendering of a demo image has one entry for each image on its way, and one more
 pub rendering_counts : (n : ℕ) (images : List Stored) (maps : List Entries) (i : ℕ) (whole : Entries) → n ≤ 2 ^ 31 → AreDemoImages n images → AreDemoTrees n maps → i < n →
-    IsRendering (nodes_of i) images maps whole → length whole ≡ entries_of i
+    IsRendering (nodes_of i) images maps whole → length whole ≡ rendering_size i
 rendering_counts n images maps i whole bound demo trees h rendering =
     let shows = assembled n bound images maps demo trees (nodes_of i) i (length (nodes_of i)) 0 i whole h refl rendering in
-    let keys = length-from_same_keys (eq_by_cmp_equiv nat_list_cmp_total) (keys_of whole) (paths_of (way i)) (IsDistinct-from_sorted (slice_cmp nat_cmp) (keys_of whole) shows.kind.rising)
-    (IsDistinct-cons same_path common_path (map own_path (way i)) (common_apart (way i)) (own_distinct i i (omega arith)))
+    let keys = length-from_same_keys (eq_by_cmp_equiv nat_list_cmp_total) (keys_of whole) (paths_of (dependency_way i)) (IsDistinct-from_sorted (slice_cmp nat_cmp) (keys_of whole) shows.kind.rising)
+    (IsDistinct-cons same_path common_path (map own_path (dependency_way i)) (common_apart (dependency_way i)) (own_distinct i i (omega arith)))
     (λ q. sym (is_some-lookup (same_path q) whole) ∙ shows.paths q) in
-    let paths : length (map own_path (way i)) ≡ length (way i) = length-map (way i) own_path in
+    let paths : length (map own_path (dependency_way i)) ≡ length (dependency_way i) = length-map (dependency_way i) own_path in
     let all : length (keys_of whole) ≡ length whole = length-map whole (λ e. e.0) in
     omega arith

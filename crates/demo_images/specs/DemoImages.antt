@@ -8,9 +8,9 @@ use Rattle.path_map.specs.Entries.{Entries, is_directory, IsPathMap}
 pub use Rattle.demo_line.specs.Names.{demo_name, common_path, own_path}
 
 -- the image on which this one stands, above 0
-abbrev pub parent : ℕ → ℕ
-parent zero = zero
-parent (suc i) = i / 2
+abbrev pub parent_image : ℕ → ℕ
+parent_image zero = zero
+parent_image (suc i) = i / 2
 
 -- a dependency on the image of this number: by its name alone
 pub record IsDependencyOn (i : ℕ) (d : Dependency) : Type 0 where

@@ -4,7 +4,7 @@ use Rattle.std.specs.Fmt.{decimal}
 use Rattle.std.proofs.Common.{zero, suc}
 use Rattle.std.proofs.Math.ListN.{replicate}
 use Rattle.dir_trait.specs.declared.node.Node.TheVariants.{File}
-use Rattle.dir_memory.specs.MemoryBundles.{BundleMemory, with_entry}
+use Rattle.dir_memory.specs.MemoryBundles.{BundleMemory, bundle_with_entry}
 use Rattle.memory_spawner.specs.SpawnerMemories.{SpawnerMemory}
 use Rattle.demo_line.specs.Names.{demo_name, own_path}
 
@@ -31,8 +31,8 @@ manifest_text i =
     ++ (codes "\",\"app\":{\"exec\":[\"" ++ (own_path i ++ (codes "\"],\"user\":\"0\",\"group\":\"0\"}" ++ (dependencies_text i ++ codes "}")))))
 
 -- what both files in its root hold
-abbrev pub content : ℕ → List ℕ
-content i = decimal i ++ 10 ∷ []
+abbrev pub input_content : ℕ → List ℕ
+input_content i = decimal i ++ 10 ∷ []
 
 -- the path at which every bundle stands
 abbrev pub bundle_path : List ℕ
@@ -43,9 +43,9 @@ no_bundle = record { entries = []; faults = 0; calls = 0; given = 0; asked = [];
 
 abbrev pub image_bundle : ℕ → BundleMemory
 image_bundle i =
-    with_entry
-    (with_entry (with_entry (with_entry no_bundle (codes "b/manifest") (File (manifest_text i))) (codes "b/id") (File (id_text i))) (codes "b/rootfs/common") (File (content i)))
-    (codes "b/rootfs" ++ own_path i) (File (content i))
+    bundle_with_entry
+    (bundle_with_entry (bundle_with_entry (bundle_with_entry no_bundle (codes "b/manifest") (File (manifest_text i))) (codes "b/id") (File (id_text i))) (codes "b/rootfs/common") (File (input_content i)))
+    (codes "b/rootfs" ++ own_path i) (File (input_content i))
 
 -- a spawner whose programs end with 0, and one whose first program ends with the rest of its pod's number by 2
 abbrev pub plain_spawner : SpawnerMemory

@@ -1,7 +1,7 @@
 // The texts of an image of the demo.
 ghost use Rattle.std.specs.Prelude.{◌≡◌, ◌<◌, ◌++◌, IfOk, OnOk, codes, length, string_bytes};
 ghost use Rattle.demo_line.specs.Names.{demo_name, own_path};
-ghost use Rattle.demo_inputs.specs.Bundles.{content, dependencies_text, hex_digit, hex_digits, id_text, manifest_text};
+ghost use Rattle.demo_inputs.specs.Bundles.{input_content, dependencies_text, hex_digit, hex_digits, id_text, manifest_text};
 
 use command_outcomes::Output;
 use std::alloc::{AllocError, Global};
@@ -91,7 +91,7 @@ pub(crate) fn id_text(alloc: Global, image: u32) -> Result<Vec<u8>, AllocError>
 
 /// What both files of an image hold: its number in a line.
 pub(crate) fn content(alloc: Global, image: u32) -> Result<Output, AllocError>
-    ensures { IfOk result (λ text. text ≡ content image) }
+    ensures { IfOk result (λ text. text ≡ input_content image) }
 {
     let mut text = Output::new(alloc);
     text.push_number(alloc, u64::from(image))?;

@@ -1,6 +1,6 @@
 -- Counts and sums over the numbers below another, one number more.
 use Rattle.std.proofs.Common.{◌≡◌, ℕ, zero, suc, ◌+◌, ◌*◌, ◌≤◌, ◌^◌, Bool, true, false, if◌then◌else◌, ap, arith}
-use Rattle.demo_line.specs.Ways.{entries_of}
+use Rattle.demo_line.specs.Ways.{rendering_size}
 use Rattle.demo_line.specs.Numbers.{count_below, sum_below}
 use Rattle.demo_line.proofs.WayLaws.{few_entries}
 
@@ -21,6 +21,6 @@ count_few test (suc n) = let few = count_few test n in by (test n) few
     by true few = omega arith
     by false few = omega arith
 
-pub sum_few : (n : ℕ) → n ≤ 2 ^ 31 → sum_below entries_of n ≤ 33 * n
+pub sum_few : (n : ℕ) → n ≤ 2 ^ 31 → sum_below rendering_size n ≤ 33 * n
 sum_few zero h = omega arith
 sum_few (suc n) h = let few = sum_few n (omega arith) in let last = few_entries n (omega arith) in omega arith

@@ -1,7 +1,7 @@
 -- The ways of the demo's images: they fall, and are short.
 use Rattle.std.proofs.Common.{◌≡◌, ℕ, zero, suc, ◌+◌, ◌-◌, ◌/◌, ◌^◌, ◌<◌, ◌≤◌, List, ◌∷◌, length, refl, sym, ap, arith}
 use Rattle.std.specs.List.{AllByRecursion}
-use Rattle.demo_line.specs.Ways.{way_within, way, entries_of}
+use Rattle.demo_line.specs.Ways.{way_within, dependency_way, rendering_size}
 
 -- every image on a way has at most its number
 pub way_falls : (n i bound : ℕ) → i < bound → AllByRecursion (λ j. j < bound) (way_within n i)
@@ -35,15 +35,15 @@ enough (suc n) zero (suc i) h k = absurd (omega arith)
 enough (suc n) (suc m) (suc i) h k = ap (λ (l : List ℕ). suc i ∷ l) (enough n m (i / 2) (omega arith) (omega arith))
 
 -- one step of the way
-pub way_down : (i : ℕ) → 0 < i → length (way i) ≡ length (way ((i - 1) / 2)) + 1
+pub way_down : (i : ℕ) → 0 < i → length (dependency_way i) ≡ length (dependency_way ((i - 1) / 2)) + 1
 way_down zero h = absurd (omega arith)
 way_down (suc i) h =
     let same : i ≡ suc i - 1 = omega arith in
     let more : way_within i (i / 2) ≡ way_within (i / 2) (i / 2) = enough i (i / 2) (i / 2) (omega arith) (omega arith) in
     let long : length (way_within i (i / 2)) ≡ length (way_within (i / 2) (i / 2)) = ap length more in
-    let here : length (way ((suc i - 1) / 2)) ≡ length (way (i / 2)) = ap (λ j. length (way (j / 2))) (sym same) in
+    let here : length (dependency_way ((suc i - 1) / 2)) ≡ length (dependency_way (i / 2)) = ap (λ j. length (dependency_way (j / 2))) (sym same) in
     omega arith
 
 -- so few entries each rendering has
-pub few_entries : (i : ℕ) → i < 2 ^ 31 → entries_of i ≤ 33
+pub few_entries : (i : ℕ) → i < 2 ^ 31 → rendering_size i ≤ 33
 few_entries i h = let short = way_short 31 i i h in omega arith

@@ -5,8 +5,8 @@ use Rattle.std.proofs.lemmas.Slice.Eq.{bytes_eq-Decides, strip_prefix_is, strip_
 use Rattle.std.proofs.lemmas.Bool.Decides.{Decides-eqb}
 use lib.Pointwise.{pointwise}
 use Rattle.std.proofs.Math.Seq.{take-append_seam}
+use Rattle.plain_laws.proofs.Texts.{same_bytes}
 use Rattle.dir_model.proofs.Lists.{and_left}
-use Rattle.dir_rules.proofs.Looks.{same_bytes}
 use Rattle.dir_rules.specs.Marks.{has_slash}
 use Rattle.demo_tally.specs.TreeFiles.{is_tree_file, listed_app, tree_file}
 

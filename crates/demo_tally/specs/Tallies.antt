@@ -14,15 +14,15 @@ use Rattle.demo_tally.specs.declared.tally.Deed.{Deed}
 use Rattle.demo_tally.specs.declared.tally.Deed.TheVariants.{Stored, Prepared, Run, Deleted}
 
 -- an image came into images; a pod came to prepared; one came to run; one was removed in a garbage place
-abbrev pub is_done : Deed → Request → Reply → Bool
-is_done Stored (MoveFolder from to) Done = is_in area.Incoming from.area && is_in area.Images to.area
-is_done Prepared (MoveFolder from to) Done = is_in area.Prepare from.area && is_in area.Prepared to.area
-is_done Run (MoveFolder from to) Done = is_in area.Prepared from.area && is_in area.Run to.area
-is_done Deleted (RemoveFolder spot) Done = is_garbage spot.area
-is_done deed request reply = false
+abbrev pub is_deed_done : Deed → Request → Reply → Bool
+is_deed_done Stored (MoveFolder from to) Done = is_in area.Incoming from.area && is_in area.Images to.area
+is_deed_done Prepared (MoveFolder from to) Done = is_in area.Prepare from.area && is_in area.Prepared to.area
+is_deed_done Run (MoveFolder from to) Done = is_in area.Prepared from.area && is_in area.Run to.area
+is_deed_done Deleted (RemoveFolder spot) Done = is_garbage spot.area
+is_deed_done deed request reply = false
 
 abbrev pub is_deed : Deed → Event → Bool
-is_deed deed e = is_done deed e.request e.reply
+is_deed deed e = is_deed_done deed e.request e.reply
 
 -- how often it was done
 abbrev pub deeds_in : Deed → List Event → ℕ
@@ -33,8 +33,8 @@ abbrev pub lines_written : Request → Reply → ℕ
 lines_written (AppendIn inner piece) Done = if is_root_listing inner then count_by (λ b. b == 10) piece else 0
 lines_written request reply = 0
 
-abbrev pub entries_in : List Event → ℕ
-entries_in trace = sum_by (λ (e : Event). lines_written e.request e.reply) trace
+abbrev pub lines_tallied : List Event → ℕ
+lines_tallied trace = sum_by (λ (e : Event). lines_written e.request e.reply) trace
 
 -- the numbers of a demo: by its trace, the apps that it was told to have failed, and the pods that its list shows
 abbrev pub tally_of : List Event → ℕ → ℕ → Numbers
@@ -45,5 +45,5 @@ tally_of trace failed left = record {
   failed = failed;
   deleted = deeds_in Deleted trace;
   left = left;
-  entries = entries_in trace;
+  entries = lines_tallied trace;
 }

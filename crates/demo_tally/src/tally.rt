@@ -1,12 +1,12 @@
 // The numbers of a demo, counted over its history.
 ghost use Rattle.std.specs.Prelude.{◌≡◌, ◌==◌, IfSome};
 ghost use Rattle.std.specs.List.{count_by};
-ghost use Rattle.demo_tally.specs.Tallies.{is_done, is_deed, deeds_in, lines_written, entries_in, tally_of};
+ghost use Rattle.demo_tally.specs.Tallies.{is_deed_done, is_deed, deeds_in, lines_written, lines_tallied, tally_of};
 
 use crate::tree_file::is_root_listing;
 use demo_line::Numbers;
 use dir_model::{Area, Event, History, Reply, Request};
-use rule_marks::{is_garbage, is_in};
+use marks::{is_garbage, is_in};
 
 /// What a demo does with images and pods.
 #[derive(Clone, Copy, Debug, PartialEq, Eq)]
@@ -19,7 +19,7 @@ pub enum Deed {
 }
 
 fn is_done(deed: Deed, request: &Request, reply: &Reply) -> bool
-    ensures { result ≡ is_done deed request.now reply.now }
+    ensures { result ≡ is_deed_done deed request.now reply.now }
 {
     match (deed, request, reply) {
         (Deed::Stored, Request::MoveFolder { from, to }, Reply::Done) => {
@@ -72,7 +72,7 @@ fn lines_written(request: &Request, reply: &Reply) -> usize
 
 /// How many entries the renderings of the pods have that were made. None where that is no 64-bit number.
 pub fn entries_in(events: &[Event]) -> Option<u64>
-    ensures { IfSome result (λ count. count ≡ entries_in events.now) }
+    ensures { IfSome result (λ count. count ≡ lines_tallied events.now) }
 {
     let mut count: u64 = 0;
     'events: for event in events {

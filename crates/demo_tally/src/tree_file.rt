@@ -3,7 +3,7 @@ ghost use Rattle.std.specs.Prelude.{◌≡◌};
 ghost use Rattle.demo_tally.specs.TreeFiles.{is_tree_file, is_root_listing};
 
 use dir_model::{Area, Inner};
-use rule_marks::{has_slash, is_in};
+use marks::{has_slash, is_in};
 
 /// What stands before an app's name.
 const STAGE: &[u8] = b"stage1/rootfs/opt/stage2/";

@@ -14,20 +14,20 @@ use Rattle.dir_model.specs.declared.request.Reply.TheVariants.{Begun, Items, Ref
 use Rattle.dir_model.specs.State.{DirState, Namespace, folder_at}
 use Rattle.dir_model.specs.Trace.{states_next, state_after}
 use Rattle.dir_model.specs.Trees.{items_in}
-use Rattle.dir_model.specs.Listings.{is_of, is_listing, begun_at, listing_of, shows_inside, shows_missing}
-use Rattle.dir_model.specs.Replies.{is_own_of, is_any_reply, is_late_reply, is_reply, is_state_reply}
+use Rattle.dir_model.specs.Listings.{is_listing_of, is_listing, begun_at, listing_of, shows_inside, shows_missing}
+use Rattle.dir_model.specs.Replies.{is_apps_inner, is_any_reply, is_late_reply, is_reply, is_state_reply}
 use Rattle.dir_model.specs.Calls.{Listing, ListStep, AtOwnStep, event}
 use Rattle.dir_model.proofs.Lists.{not_true, same_self}
 use Rattle.dir_model.proofs.Allowed.{allowed_reply}
 use Rattle.dir_laws.proofs.Directories.{item_name, inside_now}
-use Rattle.dir_laws.proofs.Open.{open_along, find_own, is_self}
+use Rattle.dir_laws.proofs.Open.{open_along, find_own}
 use Rattle.dir_trait.specs.DirCalls.{DirAt, ListCall, HeldBetween}
 use Rattle.dir_files.specs.Reads.{inner_at}
 use Rattle.dir_files.proofs.Listings.{began, ended, of_others, last_is, opened, same_namespace}
 use Rattle.dir_laws.proofs.Apps.{not_apps_own}
 
 -- a started app's root is never the folder itself
-pub not_own : (spot : Spot) (h : List Event) → is_own_of (state_after h) (Some (inner_at spot [])) ≡ false
+pub not_own : (spot : Spot) (h : List Event) → is_apps_inner (state_after h) (Some (inner_at spot [])) ≡ false
 not_own spot h = not_apps_own (codes "stage1/") (λ app rest. refl) h (inner_at spot []) refl
 
 module _ (me : ℕ) (old new : List Event) (spot : Spot) (reply : Reply) (l : Listing me old (ListIn (inner_at spot [])) reply new) (timely : is_late_reply (ListIn (inner_at spot [])) reply ≡ false) where
@@ -45,7 +45,7 @@ module _ (me : ℕ) (old new : List Event) (spot : Spot) (reply : Reply) (l : Li
 
   -- the replies are the state's
   by_state : (h : List Event) (r : Reply) → is_reply (state_after h) me (ListIn root) r ≡ true → is_state_reply (state_after h) me (ListIn root) r ≡ true
-  by_state h r allowed = by (is_own_of (state_after h) (Some root)) (not_own spot h) allowed
+  by_state h r allowed = by (is_apps_inner (state_after h) (Some root)) (not_own spot h) allowed
     where
       by : (b : Bool) → b ≡ false → cond b (is_any_reply (state_after h) me (ListIn root) r) (is_state_reply (state_after h) me (ListIn root) r) ≡ true → is_state_reply (state_after h) me (ListIn root) r ≡ true
       by true off a = cc
@@ -57,8 +57,8 @@ module _ (me : ℕ) (old new : List Event) (spot : Spot) (reply : Reply) (l : Li
   abbrev Begins : Option ℕ → OpenListing
   Begins o = record { process = me; listed = begun_at Before root o }
 
-  begins_open : find (is_of me) Now.listings ≡ Some (Begins (folder_at Before.namespace spot))
-  begins_open = opened me old new (ListIn root) reply l refl refl timely none_listing _ (find_own me Before.listings (Begins (folder_at Before.namespace spot)) none_listing (is_self me))
+  begins_open : find (is_listing_of me) Now.listings ≡ Some (Begins (folder_at Before.namespace spot))
+  begins_open = opened me old new (ListIn root) reply l refl refl timely none_listing _ (find_own me Before.listings (Begins (folder_at Before.namespace spot)) none_listing (same_self me))
 
   abbrev apart_meanwhile : AllByRecursion (λ e. (e.process == me) ≡ false) Meanwhile
   apart_meanwhile = of_others me old new (ListIn root) reply l refl refl timely

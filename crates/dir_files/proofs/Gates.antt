@@ -1,5 +1,6 @@
 -- What a process knows by the calls on the lock of an area.
 use Rattle.std.proofs.Common.{◌≡◌, ℕ, Bool, true, false, not, ◌&&◌, ◌||◌, cond, Option, Some, None, List, [], ◌∷◌, map, filter, refl, ap, ◌∙◌}
+use Rattle.plain_laws.proofs.Booleans.{not_twice}
 use Rattle.dir_model.specs.declared.area.Area.{Area}
 use Rattle.dir_model.specs.declared.area.Area.TheVariants.{Embryo, Incoming}
 use Rattle.dir_model.specs.declared.item.Inner.{Inner}
@@ -19,7 +20,7 @@ use Rattle.dir_rules.specs.declared.standing.Standing.{Standing}
 use Rattle.dir_rules.specs.declared.seen.Seen.{Seen}
 use Rattle.dir_rules.specs.declared.seen.ShownItem.{ShownItem}
 use Rattle.dir_rules.specs.declared.seen.ShownArea.{ShownArea}
-use Rattle.dir_rules.specs.Standing.{is_in, is_gate_of, is_number, held_in, gives_up, gives_up_cover, recover}
+use Rattle.dir_rules.specs.Standing.{is_in, is_gate_of, is_handle_held, held_with_mode, gives_up, gives_up_cover, uncovered_by_close}
 use Rattle.dir_rules.specs.Standing.{given_up, looked_by, intends, holds_own, is_claim_held, is_gate_shared, is_gate_exclusive, standing_done}
 use Rattle.dir_rules.specs.LockRules.{is_removal_held, is_removal_target, may_lock_by, may_lock_gate}
 use Rattle.dir_rules.specs.Seen.{still_listed, still_shown, still_known}
@@ -31,10 +32,6 @@ use Rattle.dir_files.specs.AreaLocks.{on_gate, with_gate, MayLock, shared_given,
 and_true : (b : Bool) → (b && true) ≡ b
 and_true true = refl
 and_true false = refl
-
-not_twice : (b : Bool) → not (not b) ≡ true → b ≡ true
-not_twice true h = refl
-not_twice false h = cc
 
 filter_by : {X : Type 0} (t q : X → Bool) (xs : List X) → ((x : X) → t x ≡ q x) → filter t xs ≡ filter q xs
 filter_by t q [] same = refl
@@ -57,7 +54,7 @@ module _ (s : Seen) (h : Handle) (area : Area) (fresh : Fresh h s.standing.holdi
 
   lock_stands : (mode : Mode) → standing_done opened.standing (TryLock h mode) ≡ (with_gate s h area (Some mode)).standing
   lock_stands Shared =
-      ap (λ (o : Option Held). looked_by o (record s.standing { holdings = map (held_in h Shared) (on_gate h area None ∷ s.standing.holdings) }))
+      ap (λ (o : Option Held). looked_by o (record s.standing { holdings = map (held_with_mode h Shared) (on_gate h area None ∷ s.standing.holdings) }))
       (newest_found (on_gate h area None) s.standing.holdings)
       ∙ ap (λ (l : List Held). let r : Standing = record s.standing { holdings = l } in r) (newest_locked (on_gate h area None) Shared s.standing.holdings fresh)
   lock_stands Exclusive = ap (λ (l : List Held). let r : Standing = record s.standing { holdings = l } in r) (newest_locked (on_gate h area None) Exclusive s.standing.holdings fresh)
@@ -99,7 +96,7 @@ module _ (s : Seen) (h : Handle) (area : Area) (fresh : Fresh h s.standing.holdi
   Hs = Newest ∷ s.standing.holdings
 
   abbrev Others : List Held → List Held
-  Others hs = filter (λ g. not (is_number h g)) hs
+  Others hs = filter (λ g. not (is_handle_held h g)) hs
 
   gives_it : (test : Held → Bool) → gives_up test h Hs ≡ test Newest
   gives_it test =
@@ -116,27 +113,27 @@ module _ (s : Seen) (h : Handle) (area : Area) (fresh : Fresh h s.standing.holdi
   no_cover (Gate a) = refl
 
   others_same : Others s.standing.holdings ≡ s.standing.holdings
-  others_same = filter_all (λ g. not (is_number h g)) s.standing.holdings
-      (any_fewer (λ g. not (not (is_number h g))) (is_number h) (λ g is. not_twice (is_number h g) is) s.standing.holdings fresh)
+  others_same = filter_all (λ g. not (is_handle_held h g)) s.standing.holdings
+      (any_fewer (λ g. not (not (is_handle_held h g))) (is_handle_held h) (λ g is. not_twice (is_handle_held h g) is) s.standing.holdings fresh)
 
-  dropped : map (recover h Hs) (Others Hs) ≡ s.standing.holdings
+  dropped : map (uncovered_by_close h Hs) (Others Hs) ≡ s.standing.holdings
   dropped =
-      ap (λ (l : List Held). map (recover h Hs) l) (ap (λ b. cond (not b) (Newest ∷ Others s.standing.holdings) (Others s.standing.holdings)) (same_self h.number) ∙ others_same)
-      ∙ map_same (recover h Hs) s.standing.holdings (λ g. ap
+      ap (λ (l : List Held). map (uncovered_by_close h Hs) l) (ap (λ b. cond (not b) (Newest ∷ Others s.standing.holdings) (Others s.standing.holdings)) (same_self h.number) ∙ others_same)
+      ∙ map_same (uncovered_by_close h Hs) s.standing.holdings (λ g. ap
       (λ b. let r : Held = record { handle = g.handle; target = g.target; lock = g.lock; covered = not b && g.covered } in r) (no_cover g.target))
 
   not_shared : (a : Area) → gives_up (is_gate_shared a) h Hs ≡ false
   not_shared a = gives_it (is_gate_shared a) ∙ and_false (is_in a area)
 
   abbrev Uncleared : List (List ℕ)
-  Uncleared = filter (λ u. not (gives_up (is_claim_held u) h Hs)) s.standing.cleared
+  Uncleared = filter (λ u. not (gives_up (is_claim_held u) h Hs)) s.standing.seen_unowned_under_claim
 
   given_standing : given_up h (with_gate s h area (Some Exclusive)).standing ≡ s.standing
   given_standing =
-      ap (λ b. let r : Standing = record s.standing { gated = not b && s.standing.gated; holdings = map (recover h Hs) (Others Hs); cleared = Uncleared } in r) (not_shared Embryo)
-      ∙ ap (λ (l : List Held). let r : Standing = record s.standing { holdings = l; cleared = Uncleared } in r) dropped
-      ∙ ap (λ (l : List (List ℕ)). let r : Standing = record s.standing { cleared = l } in r)
-      (filter_same (λ u. not (gives_up (is_claim_held u) h Hs)) s.standing.cleared (λ u. ap not (gives_it (is_claim_held u))))
+      ap (λ b. let r : Standing = record s.standing { embryo_under_lock = not b && s.standing.embryo_under_lock; holdings = map (uncovered_by_close h Hs) (Others Hs); seen_unowned_under_claim = Uncleared } in r) (not_shared Embryo)
+      ∙ ap (λ (l : List Held). let r : Standing = record s.standing { holdings = l; seen_unowned_under_claim = Uncleared } in r) dropped
+      ∙ ap (λ (l : List (List ℕ)). let r : Standing = record s.standing { seen_unowned_under_claim = l } in r)
+      (filter_same (λ u. not (gives_up (is_claim_held u) h Hs)) s.standing.seen_unowned_under_claim (λ u. ap not (gives_it (is_claim_held u))))
 
   abbrev Given : Standing → Bool → Bool → Seen
   Given standing b c = record s {
@@ -145,7 +142,7 @@ module _ (s : Seen) (h : Handle) (area : Area) (fresh : Fresh h s.standing.holdi
     listed = still_listed h Hs s.listed;
     items = still_shown h Hs s.items;
     areas = still_known h Hs s.areas;
-    kept = (not ((c && s.standing.gated) && intends (λ i. holds_own (pod_text i.draw.bytes) (with_gate s h area (Some Exclusive)).standing) s.standing.intent) && true) && s.kept;
+    kept = (not ((c && s.standing.embryo_under_lock) && intends (λ i. holds_own (pod_text i.draw.bytes) (with_gate s h area (Some Exclusive)).standing) s.standing.intent) && true) && s.kept;
   }
 
   listed_still : still_listed h Hs s.listed ≡ filter (λ inner. not (is_listed_under area inner)) s.listed

@@ -1,5 +1,4 @@
 mod Listings
-mod Fronts
 pub mod Reading
 pub mod Folders
 pub mod OwnHandles

@@ -1,7 +1,6 @@
 -- What the names and items of a listing tell of the time that it took.
-use Rattle.std.proofs.Common.{◌≡◌, ◌⊎◌, inl, inr, ℕ, Bool, true, false, not, ◌||◌, ◌==◌, cond, Option, Some, None, List, [], ◌∷◌, ◌++◌, append-nil, append_assoc, arith, find, refl, sym, ap, subst, ◌∙◌}
-use Rattle.std.proofs.lemmas.Bool.Decides.{nat_tests}
-use Rattle.std.specs.List.{list_any, AllByRecursion}
+use Rattle.std.proofs.Common.{◌≡◌, ◌⊎◌, inl, inr, ℕ, Bool, true, false, not, ◌==◌, cond, Option, Some, None, List, [], ◌∷◌, ◌++◌, append-nil, append_assoc, find, refl, sym, ap, subst, ◌∙◌}
+use Rattle.std.specs.List.{AllByRecursion}
 use Rattle.dir_model.specs.declared.area.Area.{Area}
 use Rattle.dir_model.specs.declared.event.Event.{Event}
 use Rattle.dir_model.specs.declared.item.Inner.{Inner}
@@ -9,28 +8,29 @@ use Rattle.dir_model.specs.declared.item.Item.{Item}
 use Rattle.dir_model.specs.declared.tree.Listed.TheVariants as listed
 use Rattle.dir_model.specs.declared.tree.OpenListing.{OpenListing}
 use Rattle.dir_model.specs.declared.request.Request.{Request}
-use Rattle.dir_model.specs.declared.request.Request.TheVariants.{ListArea, ListIn, Kill}
+use Rattle.dir_model.specs.declared.request.Request.TheVariants.{ListArea, ListIn}
 use Rattle.dir_model.specs.declared.request.Reply.{Reply}
-use Rattle.dir_model.specs.declared.request.Reply.TheVariants.{Done, Begun, Names, Items, Refused}
+use Rattle.dir_model.specs.declared.request.Reply.TheVariants.{Begun, Names, Items}
 use Rattle.dir_model.specs.State.{DirState, empty_state, lives, Namespace, has_begun, folder_at}
 use Rattle.dir_model.specs.Trace.{state_next, states_next, state_after, listings_replied}
 use Rattle.dir_model.specs.Trees.{names_in, items_in, has_dir}
-use Rattle.dir_model.specs.Listings.{is_of, is_listing, begun_at, listing_of, has_name, has_named, has_item, shows_area, shows_inside}
-use Rattle.dir_model.specs.Replies.{is_apps_request, is_reply, is_any_reply, is_late_reply}
+use Rattle.dir_model.specs.Listings.{is_listing_of, is_listing, begun_at, listing_of, has_name, has_named, has_item, shows_area, shows_inside}
+use Rattle.dir_model.specs.Replies.{is_apps_request, is_any_reply, is_late_reply}
 use Rattle.dir_model.specs.Paths.{is_well_formed}
-use Rattle.dir_model.specs.Calls.{TookPlace, LeftNothing, Listing, ListStep, IsRun, is_run_from, is_allowed, is_begin, is_kill, is_foreign, event}
-use Rattle.dir_model.proofs.Lists.{and_left, and_right, and_false, not_true, any_last, same_self}
+use Rattle.dir_model.specs.Calls.{TookPlace, Listing, ListStep, IsRun, is_begin, event}
+use Rattle.dir_model.proofs.Lists.{and_right, not_true, same_self}
 use Rattle.dir_model.proofs.Chains.{states_next-append, state_after-push, run-left, run_from-right}
 use Rattle.dir_model.proofs.Allowed.{allowed_step, allowed_reply}
-use Rattle.dir_rules.proofs.Tied.{lived_before}
 use Rattle.dir_laws.specs.Stretches.{Throughout, Sometime, StandsInArea, StandsNamed, StandsInside}
 use Rattle.dir_laws.proofs.Areas.{area_begins, shows_throughout, shows_only}
 use Rattle.dir_laws.proofs.Directories.{item_name, inside_now, inside_begins, items_throughout, items_only}
-use Rattle.dir_laws.proofs.Open.{open_along, find_own, is_self}
+use Rattle.dir_laws.proofs.Open.{open_along, find_own}
+use Rattle.dir_laws.proofs.Living.{apart}
 use Rattle.std.specs.Prelude.{Result, Ok, Err, IfOk}
 use Rattle.dir_model.specs.declared.request.DirError.{DirError}
 use Rattle.dir_model.specs.Replies.{names_reply, items_reply}
 use Rattle.dir_trait.specs.DirCalls.{DirAt, ListCall}
+use Rattle.dir_trait.proofs.Calls.{took}
 use Rattle.dir_files.specs.Listed.{Stretch, ShowsArea, ShowsAreaBetween, ShowsInside, ShowsDirectory, ShowsDirectoryBetween}
 
 -- at the first moment of a stretch
@@ -41,36 +41,6 @@ at_first P s (e ∷ es) h = h.0
 from_first : (P : DirState → Type 0) (s : DirState) (es : List Event) → P s → Sometime P s es
 from_first P s [] h = h
 from_first P s (e ∷ es) h = inl h
-
-same_process : (p me : ℕ) → (p == me) ≡ true → p ≡ me
-same_process p me h = grind (arith, nat_tests)
-
--- a kill that comes ends its process
-killed : (s : DirState) (me : ℕ) (request : Request) (reply : Reply) → is_kill request ≡ true → is_reply s me request reply ≡ true → lives (state_next s (event me request reply)).namespace me ≡ true → ⊥
-killed s me Kill Done kill r alive =
-    let ended : list_any (λ p. p == me) (s.namespace.ended ++ me ∷ []) ≡ true = any_last (λ p. p == me) s.namespace.ended me (same_self me) in
-    let e : true ≡ false = sym ended ∙ not_true (list_any (λ p. p == me) (s.namespace.ended ++ me ∷ [])) (and_right (has_begun s.namespace me) (not (list_any (λ p. p == me) (s.namespace.ended ++ me ∷ []))) alive) in
-    cc
-killed s me Kill (Refused error left) kill r alive = let e : true ≡ false = sym r ∙ and_false (left == 0) in cc
-killed s me Kill reply kill r alive = cc
-killed s me request reply kill r alive = cc
-
--- who lives at the end wasn't killed meanwhile
-apart : (me : ℕ) (s : DirState) (es : List Event) → is_run_from s es ≡ true → AllByRecursion (λ e. is_foreign me e ≡ true) es → lives (states_next s es).namespace me ≡ true → AllByRecursion (λ e. (e.process == me) ≡ false) es
-apart me s [] run f alive = tt
-apart me s (e ∷ es) run f alive = (by (e.process == me) refl f.0 (lived_before me (state_next s e) es f.1 alive), apart me (state_next s e) es (and_right (is_allowed s e) (is_run_from (state_next s e) es) run) f.1 alive)
-  where
-    by : (b : Bool) → (e.process == me) ≡ b → (not b || is_kill e.request) ≡ true → lives (state_next s e).namespace me ≡ true → (e.process == me) ≡ false
-    by false is h here = is
-    by true is h here =
-        let p : e.process ≡ me = same_process e.process me is in
-        let allowed = and_left (is_allowed s e) (is_run_from (state_next s e) es) run in
-        absurd (killed s me e.request e.reply h (allowed_reply s me e.request e.reply (subst (λ (q : ℕ). is_allowed s (event q e.request e.reply) ≡ true) p allowed)) (subst (λ (q : ℕ). lives (state_next s (event q e.request e.reply)).namespace me ≡ true) p here))
-
--- a call that was answered so took place
-took : {me : ℕ} {before new : List Event} {request : Request} {reply : Reply} → is_late_reply request reply ≡ false → TookPlace before me request reply new ⊎ LeftNothing before me request reply new → TookPlace before me request reply new
-took timely (inl t) = t
-took timely (inr left) = let e : true ≡ false = sym left.late ∙ timely in cc
 
 module _ (me : ℕ) (old new : List Event) (request : Request) (reply : Reply) (l : Listing me old request reply new) (listing : is_begin request ≡ false) (early : is_late_reply request Begun ≡ false) (timely : is_late_reply request reply ≡ false) where
   abbrev others : List Event
@@ -115,8 +85,8 @@ module _ (me : ℕ) (old new : List Event) (request : Request) (reply : Reply) (
   }
 
   -- the listing that it began is open
-  pub opened : is_listing (state_after l.begins.before) me ≡ false → (x : OpenListing) → find (is_of me) (listings_replied (state_after l.begins.before) me request Begun) ≡ Some x → find (is_of me) first.listings ≡ Some x
-  opened none x is = ap (λ (s : DirState). find (is_of me) s.listings) first_is ∙ is
+  pub opened : is_listing (state_after l.begins.before) me ≡ false → (x : OpenListing) → find (is_listing_of me) (listings_replied (state_after l.begins.before) me request Begun) ≡ Some x → find (is_listing_of me) first.listings ≡ Some x
+  opened none x is = ap (λ (s : DirState). find (is_listing_of me) s.listings) first_is ∙ is
 
   pub same_namespace : first.namespace ≡ (state_next (state_after l.begins.before) (event me request Begun)).namespace
   same_namespace = ap (λ (s : DirState). s.namespace) first_is
@@ -141,7 +111,7 @@ module _ (me : ℕ) (old new : List Event) (area : Area) (names : List (List ℕ
   abbrev Known : List (List ℕ)
   Known = names_in area Start.namespace.folders
 
-  open_now : find (is_of me) Then.listings ≡ Some (record { process = me; listed = listed.Area area Known [] })
+  open_now : find (is_listing_of me) Then.listings ≡ Some (record { process = me; listed = listed.Area area Known [] })
   open_now = opened me old new (ListArea area) (Names names) l refl refl refl none_open _ (area_begins Start me area none_open)
 
   known_then : Known ≡ names_in area Then.namespace.folders
@@ -189,8 +159,8 @@ module _ (me : ℕ) (old new : List Event) (inner : Inner) (items : List Item) (
   abbrev Begins : Option ℕ → OpenListing
   Begins o = record { process = me; listed = begun_at Before inner o }
 
-  begins_open : find (is_of me) Now.listings ≡ Some (Begins (folder_at Before.namespace inner.spot))
-  begins_open = opened me old new (ListIn inner) (Items items) l refl refl refl none_listing _ (find_own me Before.listings (Begins (folder_at Before.namespace inner.spot)) none_listing (is_self me))
+  begins_open : find (is_listing_of me) Now.listings ≡ Some (Begins (folder_at Before.namespace inner.spot))
+  begins_open = opened me old new (ListIn inner) (Items items) l refl refl refl none_listing _ (find_own me Before.listings (Begins (folder_at Before.namespace inner.spot)) none_listing (same_self me))
 
   abbrev apart_meanwhile : AllByRecursion (λ e. (e.process == me) ≡ false) Meanwhile
   apart_meanwhile = of_others me old new (ListIn inner) (Items items) l refl refl refl
@@ -206,7 +176,7 @@ module _ (me : ℕ) (old new : List Event) (inner : Inner) (items : List Item) (
       by false off h = h
 
   -- nothing is shown of a directory that wasn't there
-  not_missing : find (is_of me) Now.listings ≡ Some (record { process = me; listed = listed.Missing inner }) → shows_inside inner items (listing_of (states_next Now Meanwhile) me) ≡ true → ⊥
+  not_missing : find (is_listing_of me) Now.listings ≡ Some (record { process = me; listed = listed.Missing inner }) → shows_inside inner items (listing_of (states_next Now Meanwhile) me) ≡ true → ⊥
   not_missing open_now shown =
       let at_end = open_along item_name (inside_now 0 []) (λ through ever. listed.Missing inner) (λ s through ever. refl) Now Meanwhile me me ([], []) apart_meanwhile open_now in
       let e : false ≡ true = sym (ap (shows_inside inner items) at_end) ∙ shown in
@@ -216,7 +186,7 @@ module _ (me : ℕ) (old new : List Event) (inner : Inner) (items : List Item) (
     abbrev KnownItems : List Item
     KnownItems = items_in folder inner.path Before.entries
 
-    inside_open : find (is_of me) Now.listings ≡ Some (record { process = me; listed = listed.Inside inner folder KnownItems [] })
+    inside_open : find (is_listing_of me) Now.listings ≡ Some (record { process = me; listed = listed.Inside inner folder KnownItems [] })
     inside_open = opened me old new (ListIn inner) (Items items) l refl refl refl none_listing _ (inside_begins Before me folder inner none_listing here there)
 
     entries_then : Now.entries ≡ Before.entries
@@ -241,11 +211,11 @@ module _ (me : ℕ) (old new : List Event) (inner : Inner) (items : List Item) (
   shows_by : shows_inside inner items (listing_of (states_next Now Meanwhile) me) ≡ true → ShowsInside me old new inner items (stretch me old new (ListIn inner) (Items items) l refl refl refl)
   shows_by shown = by (folder_at Before.namespace inner.spot) refl begins_open
     where
-      there_or_not : (folder : ℕ) → folder_at Before.namespace inner.spot ≡ Some folder → (b : Bool) → has_dir Before.entries folder inner.path ≡ b → find (is_of me) Now.listings ≡ Some (record { process = me; listed = cond b (listed.Inside inner folder (items_in folder inner.path Before.entries) []) (listed.Missing inner) }) → ShowsInside me old new inner items (stretch me old new (ListIn inner) (Items items) l refl refl refl)
+      there_or_not : (folder : ℕ) → folder_at Before.namespace inner.spot ≡ Some folder → (b : Bool) → has_dir Before.entries folder inner.path ≡ b → find (is_listing_of me) Now.listings ≡ Some (record { process = me; listed = cond b (listed.Inside inner folder (items_in folder inner.path Before.entries) []) (listed.Missing inner) }) → ShowsInside me old new inner items (stretch me old new (ListIn inner) (Items items) l refl refl refl)
       there_or_not folder here true there open_now = inside_shown shown folder here there
       there_or_not folder here false there open_now = absurd (not_missing open_now shown)
 
-      by : (o : Option ℕ) → folder_at Before.namespace inner.spot ≡ o → find (is_of me) Now.listings ≡ Some (Begins o) → ShowsInside me old new inner items (stretch me old new (ListIn inner) (Items items) l refl refl refl)
+      by : (o : Option ℕ) → folder_at Before.namespace inner.spot ≡ o → find (is_listing_of me) Now.listings ≡ Some (Begins o) → ShowsInside me old new inner items (stretch me old new (ListIn inner) (Items items) l refl refl refl)
       by None here open_now = absurd (not_missing open_now shown)
       by (Some folder) here open_now = there_or_not folder here (has_dir Before.entries folder inner.path) refl open_now
 

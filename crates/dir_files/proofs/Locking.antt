@@ -1,5 +1,5 @@
 -- What the calls that take the lock of an area leave open, and what a process then knows.
-use Rattle.std.proofs.Common.{◌≡◌, ℕ, Bool, true, false, ◌||◌, cond, Some, None, List, [], ◌∷◌, ◌++◌, map, refl, sym, ap, subst, ◌∙◌}
+use Rattle.std.proofs.Common.{◌≡◌, ℕ, Bool, true, false, cond, Some, None, List, [], ◌∷◌, ◌++◌, refl, sym, ap, subst, ◌∙◌}
 use Rattle.dir_model.specs.declared.area.Area.{Area}
 use Rattle.dir_model.specs.declared.opening.Holding.{Holding}
 use Rattle.dir_model.specs.declared.opening.Target.TheVariants.{Gate}
@@ -11,11 +11,11 @@ use Rattle.dir_model.specs.declared.request.DirError.TheVariants.{Locked}
 use Rattle.dir_model.specs.declared.request.Request.TheVariants.{OpenArea, TryLock, Close}
 use Rattle.dir_model.specs.declared.request.Reply.TheVariants.{Done, Opened, Refused}
 use Rattle.dir_model.specs.Calls.{AtOwnStep, CallStep, Extends}
-use Rattle.dir_model.specs.Local.{Local, is_number, held_in, with_handle, with_lock, without, is_open_among, IsActive, IsOpen, IsUnopened}
+use Rattle.dir_model.specs.Local.{Local, is_handle_of, held_in, with_handle, with_lock, without, is_open_among, IsActive, IsOpen, IsUnopened}
 use Rattle.dir_model.specs.State.{DirState}
 use Rattle.dir_model.proofs.Lists.{same_self, map_push, any_last}
 use Rattle.dir_model.proofs.Chains.{nothing_yet, and_call}
-use Rattle.dir_model.proofs.Holdings.{closed_after_lock}
+use Rattle.dir_model.proofs.Holdings.{closed_after_lock, none_locked}
 use Rattle.dir_model.proofs.Moments.{at_after, at_before}
 use Rattle.dir_rules.specs.declared.seen.Seen.{Seen}
 use Rattle.dir_rules.specs.Conforms.{IsTied}
@@ -23,7 +23,7 @@ use Rattle.dir_rules.specs.Standing.{is_known}
 use Rattle.dir_trait.specs.DirCalls.{DirAt, DirCall, HeldBetween}
 use Rattle.dir_trait.specs.Knowledge.{Knows}
 use Rattle.dir_trait.proofs.Knowing.{knows_call}
-use Rattle.dir_files.specs.AreaLocks.{is_same_mode, and_lock, with_gate, is_free_of, MayLock, IsBusy, IsBusyElsewhere, IsFreeElsewhere}
+use Rattle.dir_files.specs.AreaLocks.{is_same_mode, and_area_lock, with_gate, is_free_of, MayLock, IsBusy, IsBusyElsewhere, IsFreeElsewhere}
 use Rattle.dir_files.proofs.Gates.{lock_seen, refusal_seen, open_given}
 use Rattle.dir_files.proofs.Opposed.{busy_step, elsewhere_step, free_step}
 
@@ -33,17 +33,8 @@ mode_self Exclusive = refl
 
 -- what is open
 
-none_locked : (h : Handle) (mode : Mode) (hs : List Holding) → is_open_among h hs ≡ false → map (held_in h mode) hs ≡ hs
-none_locked h mode [] none = refl
-none_locked h mode (x ∷ xs) none = by (is_number h x) none (λ rest. none_locked h mode xs rest)
-  where
-    by : (b : Bool) → (b || is_open_among h xs) ≡ false → (is_open_among h xs ≡ false → map (held_in h mode) xs ≡ xs) →
-        cond b (record x { lock = Some mode }) x ∷ map (held_in h mode) xs ≡ x ∷ xs
-    by true none rest = cc
-    by false none rest = ap (λ (l : List Holding). x ∷ l) (rest none)
-
 pub locked_by : {a b : Local} (m : Local) (h : Handle) (area : Area) (mode : Mode) → IsUnopened m h → a ≡ with_handle m h (Gate area) →
-    b ≡ with_lock a h mode → b ≡ and_lock m h area mode
+    b ≡ with_lock a h mode → b ≡ and_area_lock m h area mode
 locked_by {a} {b} m h area mode unopened open_is lock_is =
     let fresh : Holding = record { handle = h; target = Gate area; lock = None } in
     lock_is ∙ (ap (λ (x : Local). with_lock x h mode) open_is
@@ -52,15 +43,15 @@ locked_by {a} {b} m h area mode unopened open_is lock_is =
     (none_locked h mode m.holdings unopened) ∙ ap (λ b. m.holdings ++ cond b (record fresh { lock = Some mode }) fresh ∷ []) (same_self h.number))))
 
 -- what a caller needs to give it back
-pub locked_open : {b : Local} (m : Local) (h : Handle) (area : Area) (mode : Mode) → b ≡ and_lock m h area mode → IsOpen b h
+pub locked_open : {b : Local} (m : Local) (h : Handle) (area : Area) (mode : Mode) → b ≡ and_area_lock m h area mode → IsOpen b h
 locked_open {b} m h area mode is = ap (λ (x : Local). is_open_among h x.holdings) is
-    ∙ any_last (is_number h) m.holdings (record { handle = h; target = Gate area; lock = Some mode }) (same_self h.number)
+    ∙ any_last (is_handle_of h) m.holdings (record { handle = h; target = Gate area; lock = Some mode }) (same_self h.number)
 
-pub locked_active : {b : Local} (m : Local) (h : Handle) (area : Area) (mode : Mode) → IsActive m → b ≡ and_lock m h area mode → IsActive b
+pub locked_active : {b : Local} (m : Local) (h : Handle) (area : Area) (mode : Mode) → IsActive m → b ≡ and_area_lock m h area mode → IsActive b
 locked_active {b} m h area mode active is = subst IsActive (sym is) (record { begun = active.begun; unfinished = active.unfinished })
 
 -- and once it is given back
-pub unlocked_same : {b c : Local} (m : Local) (h : Handle) (area : Area) (mode : Mode) → IsUnopened m h → b ≡ and_lock m h area mode →
+pub unlocked_same : {b c : Local} (m : Local) (h : Handle) (area : Area) (mode : Mode) → IsUnopened m h → b ≡ and_area_lock m h area mode →
     c ≡ without b h → c ≡ m
 unlocked_same {b} {c} m h area mode unopened lock_is close_is =
     close_is ∙ (ap (λ (x : Local). without x h) (lock_is ∙ sym (locked_by m h area mode unopened refl refl))
@@ -69,7 +60,7 @@ unlocked_same {b} {c} m h area mode unopened lock_is close_is =
 -- what is known
 
 pub number_is_new : {d : DirAt} {s : Seen} (h : Handle) → Knows d s → IsUnopened d.local h → is_known h s.standing ≡ false
-number_is_new h k unopened = k.handles (is_number h) ∙ unopened
+number_is_new h k unopened = k.handles (is_handle_of h) ∙ unopened
 
 pub knows_lock : {observed : Bool} {old mid new : DirAt} {area : Area} {mode : Mode} {h : Handle} → observed ≡ true → IsUnopened old.local h →
     DirCall observed old (OpenArea area) (Opened h) mid → DirCall observed mid (TryLock h mode) Done new → (s : Seen) → Knows old s →

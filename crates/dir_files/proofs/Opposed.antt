@@ -4,6 +4,7 @@ use Rattle.std.proofs.Common.{arith, ◌≡◌, ◌⊎◌, inl, inr, ℕ, Bool, 
 use Rattle.std.proofs.Common.{Option, Some, None, List, [], ◌∷◌, ◌++◌, map, filter, find, refl, sym, ap, subst, ◌∙◌}
 use Rattle.std.specs.List.{list_any}
 use Rattle.std.proofs.lemmas.Bool.Decides.{nat_tests}
+use Rattle.plain_laws.proofs.Lists.{any_but}
 use Rattle.dir_model.specs.declared.area.Area.{Area}
 use Rattle.dir_model.specs.declared.event.Event.{Event}
 use Rattle.dir_model.specs.declared.opening.Holding.{Holding}
@@ -21,9 +22,9 @@ use Rattle.dir_model.specs.Areas.{rank}
 use Rattle.dir_model.specs.Locks.{is_handle, is_one_lock, is_same_lock, opposes}
 use Rattle.dir_model.specs.State.{Namespace, DirState, has_open}
 use Rattle.dir_model.specs.Trace.{locked, state_after}
-use Rattle.dir_model.specs.Replies.{is_late_reply, is_locked, is_opposed}
+use Rattle.dir_model.specs.Replies.{is_locked, is_opposed}
 use Rattle.dir_model.specs.Calls.{AtOwnStep, CallStep, Interference, IsRun, LeftNothing, TookPlace, event}
-use Rattle.dir_model.specs.Local.{nothing_local, is_number, holding_of, holdings_in}
+use Rattle.dir_model.specs.Local.{nothing_local, is_handle_of, holding_of, holdings_in}
 use Rattle.dir_model.proofs.Lists.{and_left, and_right, and_both, and_false, not_true, or_none, same_self, any_last, any_last_not, any_fewer, any_map}
 use Rattle.dir_model.proofs.Chains.{state_after-push, run-left}
 use Rattle.dir_model.proofs.Allowed.{allowed_reply, held_says, lock_says}
@@ -34,9 +35,10 @@ use Rattle.dir_rules.specs.declared.seen.Seen.{Seen}
 use Rattle.dir_rules.specs.Standing.{is_gate_of}
 use Rattle.dir_rules.specs.LockRules.{is_open_on}
 use Rattle.dir_rules.specs.Conforms.{seen_of, IsTied}
-use Rattle.dir_rules.proofs.Tied.{meanwhile_unseen, lived_meanwhile}
+use Rattle.dir_rules.proofs.Tied.{meanwhile_unseen, lived_meanwhile, Lives}
+use Rattle.dir_trait.proofs.Calls.{late_never}
 use Rattle.dir_files.specs.AreaLocks.{on_gate, with_gate, is_free_of, is_against, IsBusy, IsBusyElsewhere, IsFreeElsewhere}
-use Rattle.dir_files.proofs.OwnHandles.{Lives, open_meanwhile, open_as_seen}
+use Rattle.dir_files.proofs.OwnHandles.{open_meanwhile, open_as_seen}
 
 -- lists
 
@@ -60,19 +62,6 @@ unfound {X} t (x ∷ xs) f = by (t x) f (λ g. unfound t xs g)
     by : (b : Bool) → cond b (Some x) (find t xs) ≡ None → (find t xs ≡ None → list_any t xs ≡ false) → (b || list_any t xs) ≡ false
     by true g rest = cc
     by false g rest = rest g
-
--- some item passes one test, and none another
-any_but : {X : Type 0} (t bad q : X → Bool) → ((x : X) → t x ≡ true → bad x ≡ false → q x ≡ true) → (xs : List X) →
-    list_any bad xs ≡ false → list_any t xs ≡ true → list_any q xs ≡ true
-any_but t bad q only [] none h = cc
-any_but t bad q only (x ∷ xs) none h = by (t x) (bad x) (q x) (only x) none h (λ rest more. any_but t bad q only xs rest more)
-  where
-    by : (a b c : Bool) → (a ≡ true → b ≡ false → c ≡ true) → (b || list_any bad xs) ≡ false → (a || list_any t xs) ≡ true →
-        (list_any bad xs ≡ false → list_any t xs ≡ true → list_any q xs ≡ true) → (c || list_any q xs) ≡ true
-    by a b true f n k go = refl
-    by true false false f n k go = let e : false ≡ true = f refl refl in cc
-    by false false false f n k go = go n k
-    by a true c f n k go = cc
 
 none_fails : {X : Type 0} (xs : List X) → list_any (λ (x : X). false) xs ≡ false
 none_fails [] = refl
@@ -105,10 +94,10 @@ same_gate area (Claim spot) b f g h k = cc
 module _ (me : ℕ) (handle : Handle) (area : Area) (mode : Mode) where
   -- an own handle of this number on something else, and an own handle of another number on this lock
   abbrev strays : Holding → Bool
-  strays x = is_number handle x && not (is_gate_of area x.target)
+  strays x = is_handle_of handle x && not (is_gate_of area x.target)
 
   abbrev doubles : Holding → Bool
-  doubles x = is_gate_of area x.target && not (is_number handle x)
+  doubles x = is_gate_of area x.target && not (is_handle_of handle x)
 
   abbrev is_other : Opening → Bool
   is_other o = not (is_handle me handle o) && is_against area mode o
@@ -180,15 +169,15 @@ module _ (me : ℕ) (handle : Handle) (area : Area) (mode : Mode) (opened_at mid
   none_strays =
       ap (list_any (strays me handle area mode)) open_then
       ∙ (any_last_not (strays me handle area mode) (holdings_in before me) new_one
-      (ap (λ b. is_number handle new_one && not b) (same_self (rank area)) ∙ and_false (is_number handle new_one))
-      ∙ any_fewer (strays me handle area mode) (is_number handle) (λ x is. and_left (is_number handle x) (not (is_gate_of area x.target)) is) (holdings_in before me)
+      (ap (λ b. is_handle_of handle new_one && not b) (same_self (rank area)) ∙ and_false (is_handle_of handle new_one))
+      ∙ any_fewer (strays me handle area mode) (is_handle_of handle) (λ x is. and_left (is_handle_of handle x) (not (is_gate_of area x.target)) is) (holdings_in before me)
       (open_same before me handle ∙ not_true (has_open before me handle) (allowed_reply (state_after opened_at) me (OpenArea area) (Opened handle) open_took.allowed)))
 
   -- it is among the open handles
   is_open : list_any (is_handle me handle) (state_after asked_at).namespace.openings ≡ true
   is_open =
-      sym (own_any me (is_number handle) (state_after asked_at).namespace.openings)
-      ∙ (ap (list_any (is_number handle)) open_then ∙ any_last (is_number handle) (holdings_in before me) new_one (same_self handle.number))
+      sym (own_any me (is_handle_of handle) (state_after asked_at).namespace.openings)
+      ∙ (ap (list_any (is_handle_of handle)) open_then ∙ any_last (is_handle_of handle) (holdings_in before me) new_one (same_self handle.number))
 
 -- in vain
 module _ (me : ℕ) (handle : Handle) (area : Area) (mode : Mode) (opened_at mid asked_at late : List Event)
@@ -291,10 +280,6 @@ module _ (me : ℕ) (handle : Handle) (area : Area) (mode : Mode) where
       (any_map is_elsewhere (locked me handle mode) its_own n.openings
       ∙ none_elsewhere n (none_strays me handle area mode opened_at mid asked_at open_took between says.living)
       (is_open me handle area mode opened_at mid asked_at open_took between says.living) says.told)
-
--- the same of the calls
-late_never : {X : Type 0} {request : Request} {reply : Reply} {me : ℕ} {before new : List Event} → LeftNothing before me request reply new → is_late_reply request reply ≡ false → X
-late_never {X} {request} {reply} {me} {before} {new} l timely = let clash : true ≡ false = sym l.late ∙ timely in cc
 
 abbrev Happened : ℕ → List Event → Request → Reply → List Event → Type 0
 Happened me before request reply new = TookPlace before me request reply new ⊎ LeftNothing before me request reply new

@@ -1,7 +1,7 @@
 -- While a process lives, the handles that it knows to be open by its events are those that the state has open.
 use Rattle.std.proofs.Common.{arith, ◌≡◌, inl, ℕ, Bool, true, false, not, ◌||◌, ◌==◌, cond, List, [], ◌∷◌, ◌++◌, refl, sym, ap, subst, ◌∙◌, append_assoc, append-nil}
 use Rattle.std.specs.List.{list_any, AllByRecursion}
-use Rattle.std.proofs.lemmas.Bool.Decides.{nat_tests}
+use Rattle.plain_laws.proofs.Booleans.{over}
 use Rattle.dir_model.specs.declared.event.Event.{Event}
 use Rattle.dir_model.specs.declared.request.Request.{Request}
 use Rattle.dir_model.specs.declared.request.Request.TheVariants.{Begin, Kill}
@@ -12,7 +12,7 @@ use Rattle.dir_model.specs.State.{Namespace, DirState, empty_state, has_begun, l
 use Rattle.dir_model.specs.Trace.{namespace_replied, state_next, states_next, state_after}
 use Rattle.dir_model.specs.Calls.{IsRun, is_allowed, is_begin, is_foreign, is_kill, event, Interference}
 use Rattle.dir_model.specs.Local.{Local, nothing_local, holdings_in, local_replied}
-use Rattle.dir_model.proofs.Lists.{and_left, and_right, not_true, any_last}
+use Rattle.dir_model.proofs.Lists.{and_left, and_right, not_true, any_last, same_number}
 use Rattle.dir_model.proofs.Chains.{states_next-append, state_after-push, run_from-right, run-left}
 use Rattle.dir_model.proofs.Allowed.{allowed_step}
 use Rattle.dir_model.proofs.Begun.{unborn_holds_nothing}
@@ -21,27 +21,19 @@ use Rattle.dir_rules.specs.declared.standing.Standing.{Standing}
 use Rattle.dir_rules.specs.declared.seen.Seen.{Seen}
 use Rattle.dir_rules.specs.Standing.{standing_replied}
 use Rattle.dir_rules.specs.Conforms.{nothing_seen, seen_of}
-use Rattle.dir_rules.proofs.Tied.{seen_after-append, others_unseen, own_seen, lived_before}
+use Rattle.dir_rules.proofs.Tied.{seen_after-append, others_unseen, own_seen, lived_before, Lives}
 use Rattle.dir_rules.proofs.Unborn.{unborn_saw_nothing}
 use Rattle.dir_trait.specs.DirCalls.{DirAt}
 use Rattle.dir_trait.specs.Knowledge.{SameHandles}
 use Rattle.dir_trait.proofs.Knowing.{knows_call}
 
-abbrev pub Lives : ℕ → List Event → Type 0
-Lives me h = lives (state_after h).namespace me ≡ true
-
 abbrev pub SameOpen : ℕ → List Event → Type 0
 SameOpen me h = SameHandles (seen_of me h).standing.holdings (holdings_in (state_after h).namespace me)
-
--- a process that is over doesn't live
-clash : {X : Type 0} (b : Bool) → b ≡ true → not b ≡ true → X
-clash true h k = cc
-clash false h k = cc
 
 -- its own kill leaves it living only where it wasn't done
 kill_keeps : (n : Namespace) (me p : ℕ) (request : Request) (reply : Reply) → (p == me) ≡ true → is_kill request ≡ true →
     lives (namespace_replied n p request reply) me ≡ true → holdings_in (namespace_replied n p request reply) me ≡ holdings_in n me
-kill_keeps n me p Kill Done is kill now = clash (list_any (λ q. q == me) (n.ended ++ p ∷ [])) (any_last (λ q. q == me) n.ended p is)
+kill_keeps n me p Kill Done is kill now = over (list_any (λ q. q == me) (n.ended ++ p ∷ [])) (any_last (λ q. q == me) n.ended p is)
     (and_right (has_begun n me) (not (list_any (λ q. q == me) (n.ended ++ p ∷ []))) now)
 kill_keeps n me p Kill (Opened handle) is kill now = refl
 kill_keeps n me p Kill reply is kill now = refl
@@ -128,9 +120,6 @@ foreign_step me h e f now before test =
     ∙ (before (lived_before me (state_after h) (e ∷ []) (f, tt) living) test
     ∙ sym (ap (λ (s : DirState). list_any test (holdings_in s.namespace me)) (state_after-push h e) ∙ ap (list_any test) (foreign_keeps me (state_after h) e f living)))
 
-same_process : (p me : ℕ) → (p == me) ≡ true → p ≡ me
-same_process p me h = grind (arith, nat_tests)
-
 one_step : (me : ℕ) (h : List Event) (e : Event) → IsRun (h ++ e ∷ []) → (Lives me h → SameOpen me h) → Lives me (h ++ e ∷ []) → SameOpen me (h ++ e ∷ [])
 one_step me h e run before now = by (e.process == me) (is_kill e.request) refl refl
   where
@@ -138,7 +127,7 @@ one_step me h e run before now = by (e.process == me) (is_kill e.request) refl r
     by false k is kill = foreign_step me h e (rw is refl) now before
     by true true is kill = foreign_step me h e (rw (is, kill) refl) now before
     by true false is kill =
-        let same : e ≡ event me e.request e.reply = ap (λ (p : ℕ). event p e.request e.reply) (same_process e.process me is) in
+        let same : e ≡ event me e.request e.reply = ap (λ (p : ℕ). event p e.request e.reply) (same_number e.process me is) in
         subst (λ (x : Event). SameOpen me (h ++ x ∷ [])) (sym same) (own_step me h e.request e.reply (subst (λ (x : Event). IsRun (h ++ x ∷ [])) same run) kill before)
 
 along : (me : ℕ) (h es : List Event) → IsRun (h ++ es) → (Lives me h → SameOpen me h) → Lives me (h ++ es) → SameOpen me (h ++ es)

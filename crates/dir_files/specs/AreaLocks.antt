@@ -29,11 +29,11 @@ is_same_mode Exclusive Exclusive = true
 is_same_mode _ _ = false
 
 -- a request of taking the lock: it is opened, asked for, and where it isn't had given up again
-abbrev pub takes : Area → Mode → Request → Bool
-takes area mode (OpenArea here) = is_in area here
-takes area mode (TryLock handle asked) = is_same_mode mode asked
-takes area mode (Close handle) = true
-takes area mode _ = false
+abbrev pub is_taking_area : Area → Mode → Request → Bool
+is_taking_area area mode (OpenArea here) = is_in area here
+is_taking_area area mode (TryLock handle asked) = is_same_mode mode asked
+is_taking_area area mode (Close handle) = true
+is_taking_area area mode _ = false
 
 -- the request gives this handle up
 abbrev pub closes : Handle → Request → Bool
@@ -50,8 +50,8 @@ is_lock_refusal Locked = true
 is_lock_refusal error = is_fault error
 
 -- what a process has open, and that lock
-abbrev pub and_lock : Local → Handle → Area → Mode → Local
-and_lock m handle area mode = record m { holdings = m.holdings ++ record { handle = handle; target = Gate area; lock = Some mode } ∷ [] }
+abbrev pub and_area_lock : Local → Handle → Area → Mode → Local
+and_area_lock m handle area mode = record m { holdings = m.holdings ++ record { handle = handle; target = Gate area; lock = Some mode } ∷ [] }
 
 -- what a process knows, and that handle
 abbrev pub with_gate : Seen → Handle → Area → Option Mode → Seen

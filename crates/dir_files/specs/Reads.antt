@@ -12,13 +12,13 @@ use Rattle.dir_model.specs.declared.tree.TreeEntry.{TreeEntry}
 use Rattle.dir_model.specs.State.{DirState, folder_at}
 use Rattle.dir_model.specs.Trace.{state_after}
 use Rattle.dir_model.specs.Trees.{has_file, content}
-use Rattle.dir_model.specs.Replies.{is_own_of}
+use Rattle.dir_model.specs.Replies.{is_apps_inner}
 use Rattle.dir_model.specs.Calls.{AtOwnStep, is_foreign}
 use Rattle.dir_rules.specs.declared.standing.Standing.{Standing}
 use Rattle.dir_rules.specs.declared.seen.Seen.{Seen}
 use Rattle.dir_rules.specs.Conforms.{nothing_seen}
 use Rattle.dir_rules.specs.Seen.{inner_eq}
-use Rattle.dir_rules.specs.Rules.{may_look}
+use Rattle.dir_rules.specs.Rules.{may_read_area}
 use Rattle.dir_trait.specs.DirCalls.{DirAt, ExtendsBy, HeldBetween}
 use Rattle.dir_trait.specs.Knowledge.{Knows}
 
@@ -35,7 +35,7 @@ file_at s inner = bytes_in s.entries inner.path (folder_at s.namespace inner.spo
 
 -- this holds of the file there, unless the path is a started app's own, which writes there itself
 abbrev pub TellsFile : Inner → (Option (List ℕ) → Type 0) → DirState → Type 0
-TellsFile inner P s = is_own_of s (Some inner) ≡ false → P (file_at s inner)
+TellsFile inner P s = is_apps_inner s (Some inner) ≡ false → P (file_at s inner)
 
 -- the bytes that a read from this place on with so much room gets
 abbrev pub IsPiece : ℕ → ℕ → List ℕ → Option (List ℕ) → Type 0
@@ -47,9 +47,9 @@ pub record Piece : Type 0 where
   pub bytes : List ℕ
 
 -- the bytes of some pieces, the last of them first in the list
-abbrev pub joined : List Piece → List ℕ
-joined [] = []
-joined (p ∷ earlier) = joined earlier ++ p.bytes
+abbrev pub joined_pieces : List Piece → List ℕ
+joined_pieces [] = []
+joined_pieces (p ∷ earlier) = joined_pieces earlier ++ p.bytes
 
 -- a piece more was told by an own step after the earlier ones
 pub record ThenTold (Earlier : List Event → Type 0) (me : ℕ) (new : List Event) (P : DirState → Type 0) : Type 0 where
@@ -60,7 +60,7 @@ pub record ThenTold (Earlier : List Event → Type 0) (me : ℕ) (new : List Eve
 -- the pieces follow each other in the file, each as it stood at an own step, one step after the other
 abbrev pub AreTold : ℕ → Inner → List Event → List Piece → List Event → Type 0
 AreTold me inner old [] new = new ≡ old
-AreTold me inner old (p ∷ earlier) new = ThenTold (AreTold me inner old earlier) me new (TellsFile inner (IsPiece (length (joined earlier)) p.room p.bytes))
+AreTold me inner old (p ∷ earlier) new = ThenTold (AreTold me inner old earlier) me new (TellsFile inner (IsPiece (length (joined_pieces earlier)) p.room p.bytes))
 
 -- the last piece didn't fill its room
 abbrev pub IsShort : List Piece → Type 0
@@ -68,14 +68,14 @@ IsShort [] = ⊥
 IsShort (p ∷ earlier) = length p.bytes < p.room
 
 -- bytes that were read so far
-pub record Reads (inner : Inner) (old new : DirAt) (bytes : List ℕ) : Type 0 where
+pub record HasReadSoFar (inner : Inner) (old new : DirAt) (bytes : List ℕ) : Type 0 where
   pub pieces : List Piece
-  pub whole : bytes ≡ joined pieces
+  pub whole : bytes ≡ joined_pieces pieces
   pub told : AreTold old.process inner old.trace pieces new.trace
 
 -- a file was read to its end, or up to a limit
 pub record ReadsUp (inner : Inner) (most : ℕ) (old new : DirAt) (bytes : List ℕ) : Type 0 where
-  pub reads : Reads inner old new bytes
+  pub reads : HasReadSoFar inner old new bytes
   pub ended : (length bytes ≡ most) ⊎ IsShort reads.pieces
 
 -- the next piece of a file was read; with the answer true the file ends there
@@ -96,7 +96,7 @@ reads_at inner _ = false
 
 -- the locks under which what stands in an area may be read
 abbrev pub may_read : Area → Standing → Bool
-may_read area s = may_look (record nothing_seen { standing = s }) area
+may_read area s = may_read_area (record nothing_seen { standing = s }) area
 
 -- whatever a process knew that may read there, it knows
 abbrev pub KeepsKnown : Area → DirAt → DirAt → Type 0
@@ -125,7 +125,7 @@ is_read_refusal _ = false
 abbrev pub StaysFrom : ℕ → Inner → List ℕ → List Event → List Event → Type 0
 StaysFrom me inner file old new =
     (later rest : List Event) (step : Event) → new ≡ ((old ++ later) ++ step ∷ []) ++ rest → is_foreign me step ≡ false
-    → (is_own_of (state_after ((old ++ later) ++ step ∷ [])) (Some inner) ≡ false) × (file_at (state_after ((old ++ later) ++ step ∷ [])) inner ≡ Some file)
+    → (is_apps_inner (state_after ((old ++ later) ++ step ∷ [])) (Some inner) ≡ false) × (file_at (state_after ((old ++ later) ++ step ∷ [])) inner ≡ Some file)
 
-abbrev pub StaysBetween : Inner → List ℕ → DirAt → DirAt → Type 0
-StaysBetween inner file old new = StaysFrom old.process inner file old.trace new.trace
+abbrev pub FileStaysBetween : Inner → List ℕ → DirAt → DirAt → Type 0
+FileStaysBetween inner file old new = StaysFrom old.process inner file old.trace new.trace

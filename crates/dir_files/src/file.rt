@@ -4,7 +4,7 @@ ghost use Rattle.dir_trait.specs.Causes.{Rose};
 ghost use Rattle.dir_trait.specs.Paths.{is_path};
 ghost use Rattle.dir_trait.specs.Local.{IsActive};
 ghost use Rattle.dir_model.specs.Replies.{is_fault};
-ghost use Rattle.dir_files.specs.Reads.{inner_at, OnlyReads, ReadsNext, ReadsUp, WasMissing, StaysBetween, IsCounted, is_read_refusal};
+ghost use Rattle.dir_files.specs.Reads.{inner_at, OnlyReads, ReadsNext, ReadsUp, WasMissing, FileStaysBetween, IsCounted, is_read_refusal};
 
 use dir_trait::{Dir, DirError, Spot};
 use std::alloc::{AllocError, Global};
@@ -124,7 +124,7 @@ pub fn read_file<D: Dir>(
         (WasMissing (inner_at spot path.now) (D.shown dir.old) (D.shown dir.new))
         (λ bytes. ReadsUp (inner_at spot path.now) most (D.shown dir.old) (D.shown dir.new) bytes.items)) }
     ensures whole { IfOk result (λ found. D.observed ≡ true → (file : List ℕ)
-        → StaysBetween (inner_at spot path.now) file (D.shown dir.old) (D.shown dir.new) → IsSomeAnd found (λ bytes. bytes.items ≡ take most file)) }
+        → FileStaysBetween (inner_at spot path.now) file (D.shown dir.old) (D.shown dir.new) → IsSomeAnd found (λ bytes. bytes.items ≡ take most file)) }
 {
     let spot = &spot;
     match read_pieces(alloc, dir, spot, path, most) {

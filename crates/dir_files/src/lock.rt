@@ -7,7 +7,7 @@ ghost use Rattle.dir_trait.specs.Causes.{Rose};
 ghost use Rattle.dir_trait.specs.Local.{IsActive, IsOpen, IsUnopened, without};
 ghost use Rattle.dir_trait.specs.DirCalls.{ExtendsBy, HeldBetween};
 ghost use Rattle.dir_trait.specs.Knowledge.{Knows};
-ghost use Rattle.dir_files.specs.AreaLocks.{takes, closes, and_lock, with_gate, is_free_of, MayLock, IsBusy, IsBusyElsewhere, IsFreeElsewhere, shared_given, exclusive_given};
+ghost use Rattle.dir_files.specs.AreaLocks.{is_taking_area, closes, and_area_lock, with_gate, is_free_of, MayLock, IsBusy, IsBusyElsewhere, IsFreeElsewhere, shared_given, exclusive_given};
 
 use crate::lock_error::{LockError, lock_error};
 use dir_trait::{Area, Dir, Handle, Mode, Reply, Request};
@@ -27,13 +27,13 @@ pub fn lock_area<D: Dir>(
     ensures same { (D.shown dir.new).process ≡ (D.shown dir.old).process }
     ensures faults { (D.shown dir.old).faults ≤ (D.shown dir.new).faults }
     ensures cause { IsErrOf result LockError.DirFault → Rose (D.shown dir.old).faults (D.shown dir.new).faults }
-    ensures held { IfOk result (λ handle. (D.shown dir.new).local ≡ and_lock (D.shown dir.old).local handle area mode) }
+    ensures held { IfOk result (λ handle. (D.shown dir.new).local ≡ and_area_lock (D.shown dir.old).local handle area mode) }
     ensures refused { IfErr result (λ e. (D.shown dir.new).local ≡ (D.shown dir.old).local) }
     ensures unopened { IfOk result (λ handle. IsUnopened (D.shown dir.old).local handle) }
-    ensures extends { D.observed ≡ true → ExtendsBy (takes area mode) (D.shown dir.old) (D.shown dir.new) }
+    ensures extends { D.observed ≡ true → ExtendsBy (is_taking_area area mode) (D.shown dir.old) (D.shown dir.new) }
     ensures busy { IsErrOf result LockError.Busy → D.observed ≡ true
         → HeldBetween (D.shown dir.old) (D.shown dir.new) (IsBusy area mode) }
-    ensures another { IsErrOf result LockError.Busy → D.observed ≡ true
+    ensures by_other_process { IsErrOf result LockError.Busy → D.observed ≡ true
         → (s : Seen) → Knows (D.shown dir.old) s → is_free_of area s ≡ true
         → HeldBetween (D.shown dir.old) (D.shown dir.new) (IsBusyElsewhere (D.shown dir.old).process area mode) }
     ensures free { IfOk result (λ handle. D.observed ≡ true

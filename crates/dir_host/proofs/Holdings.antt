@@ -3,14 +3,14 @@ use Rattle.std.proofs.Common.{◌≡◌, ℕ, ◌+◌, inl, inr, arith, subst, B
 use Rattle.std.specs.List.{list_any}
 use Rattle.dir_model.specs.declared.spot.Handle.{Handle}
 use Rattle.dir_model.specs.declared.spot.Mode.{Mode}
-use Rattle.dir_model.specs.Local.{is_number, is_open_among, held_in}
+use Rattle.dir_model.specs.Local.{is_handle_of, is_open_among, held_in}
 use Rattle.dir_model.proofs.Lists.{any_of_map}
 use Rattle.dir_host.specs.declared.open_folders.OpenFolder.{OpenFolder}
 use Rattle.std.proofs.lemmas.Bool.{cases_lt}
 use Rattle.dir_host.specs.OpenFolders.{holdings_of, AreOpenBelow}
 
-pub holdings_any : (handle : Handle) (folders : List OpenFolder) → is_open_among handle (holdings_of folders) ≡ list_any (λ f. is_number handle f.holding) folders
-holdings_any handle folders = any_of_map (λ f. f.holding) (is_number handle) folders
+pub holdings_any : (handle : Handle) (folders : List OpenFolder) → is_open_among handle (holdings_of folders) ≡ list_any (λ f. is_handle_of handle f.holding) folders
+holdings_any handle folders = any_of_map (λ f. f.holding) (is_handle_of handle) folders
 
 -- a folder whose holding changed
 abbrev pub locked_folder : Handle → Mode → OpenFolder → OpenFolder
@@ -21,11 +21,11 @@ holdings_locked handle mode [] = refl
 holdings_locked handle mode (f ∷ fs) = ap (λ l. held_in handle mode f.holding ∷ l) (holdings_locked handle mode fs)
 
 -- closing a folder takes its holding away
-pub holdings_closed : (handle : Handle) (folders : List OpenFolder) → holdings_of (filter (λ f. not (is_number handle f.holding)) folders) ≡ filter (λ h. not (is_number handle h)) (holdings_of folders)
+pub holdings_closed : (handle : Handle) (folders : List OpenFolder) → holdings_of (filter (λ f. not (is_handle_of handle f.holding)) folders) ≡ filter (λ h. not (is_handle_of handle h)) (holdings_of folders)
 holdings_closed handle [] = refl
-holdings_closed handle (f ∷ fs) = by (is_number handle f.holding) (holdings_closed handle fs)
+holdings_closed handle (f ∷ fs) = by (is_handle_of handle f.holding) (holdings_closed handle fs)
   where
-    by : (b : Bool) → holdings_of (filter (λ g. not (is_number handle g.holding)) fs) ≡ filter (λ h. not (is_number handle h)) (holdings_of fs) → holdings_of (cond (not b) (f ∷ filter (λ g. not (is_number handle g.holding)) fs) (filter (λ g. not (is_number handle g.holding)) fs)) ≡ cond (not b) (f.holding ∷ filter (λ h. not (is_number handle h)) (holdings_of fs)) (filter (λ h. not (is_number handle h)) (holdings_of fs))
+    by : (b : Bool) → holdings_of (filter (λ g. not (is_handle_of handle g.holding)) fs) ≡ filter (λ h. not (is_handle_of handle h)) (holdings_of fs) → holdings_of (cond (not b) (f ∷ filter (λ g. not (is_handle_of handle g.holding)) fs) (filter (λ g. not (is_handle_of handle g.holding)) fs)) ≡ cond (not b) (f.holding ∷ filter (λ h. not (is_handle_of handle h)) (holdings_of fs)) (filter (λ h. not (is_handle_of handle h)) (holdings_of fs))
     by true rest = rest
     by false rest = ap (λ l. f.holding ∷ l) rest
 

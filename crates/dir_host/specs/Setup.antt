@@ -14,7 +14,7 @@ use Rattle.dir_host.specs.declared.setup.SetupError.{SetupError}
 use Rattle.dir_host.specs.declared.setup.SetupError.TheVariants.{Usage, DirFault, NoMemory}
 
 -- the system's error means want of memory, and else that the folder, the clock or the bytes can't be had
-pub record StandsFor (given : Error) (error : SetupError) : Type 0 where
+pub record IsSetupErrorOf (given : Error) (error : SetupError) : Type 0 where
   pub memory : (error ≡ NoMemory) ↔ (error_kind given ≡ OutOfMemory)
   pub words : error ≡ Usage → ⊥
 

@@ -59,7 +59,7 @@ fn path_or_here(path: &str) -> &str
 impl<R: Files<File = File> + AllocGlobal + Clone + Drop> Bundle for HostBundle<R> {
     ghost use Rattle.std.specs.Prelude.{◌≡◌, ◌≤◌, length, false, IfOk, IsErrOf};
     ghost use Rattle.dir_model.specs.Causes.{Rose};
-    ghost use Rattle.dir_trait.specs.Bundles.{bytes_given, IsListing, BundleCall, request_at};
+    ghost use Rattle.dir_trait.specs.Bundles.{bytes_given, IsBundleListing, BundleCall, request_at};
     ghost use Rattle.dir_host.specs.Counts.{Counts};
     ghost use Rattle.dir_host.specs.Shown.{bundle_shown};
 
@@ -117,7 +117,7 @@ impl<R: Files<File = File> + AllocGlobal + Clone + Drop> Bundle for HostBundle<R
     fn list(&mut self, alloc: Global, path: &str) -> Result<BundleItems, BundleError>
         ensures cause { IsErrOf result BundleError.Failed → Rose self.old.faults self.new.faults }
         ensures counts { Counts BundleError.Failed result self.old.faults self.new.faults }
-        ensures ordered { IfOk result IsListing }
+        ensures ordered { IfOk result IsBundleListing }
         ensures called { BundleCall false (bundle_shown self.old) (request_at BundleAction.List path.now) 0 (bundle_shown self.new) }
     {
         match list_bundle(

@@ -73,7 +73,7 @@ impl<R: Files<File = File> + AllocGlobal + Clone + Drop> Dir for HostDir<R> {
     ghost use Rattle.dir_model.specs.Listings.{item_names};
     ghost use Rattle.dir_model.specs.Replies.{done_reply, opened_reply, names_reply, items_reply, read_reply, may_refuse};
     ghost use Rattle.dir_model.specs.Local.{nothing_local, IsActive, IsUnopened, IsOpen, IsUnlocked};
-    ghost use Rattle.dir_trait.specs.DirCalls.{DirCall, AppendCall, ListCall, IsFilled};
+    ghost use Rattle.dir_trait.specs.DirCalls.{DirCall, AppendCall, ListCall, KeepsUnreadRoom};
     ghost use Rattle.host_files.specs.Places.{has_dots};
     ghost use Rattle.dir_host.specs.Counts.{Counts};
     ghost use Rattle.dir_host.specs.Shown.{dir_shown};
@@ -318,7 +318,7 @@ impl<R: Files<File = File> + AllocGlobal + Clone + Drop> Dir for HostDir<R> {
         ensures dots { has_dots path.now ≡ true → result ≡ Err DirError.Missing }
         ensures below { OnOk result (path.now ≢ []) }
         ensures refusals { IfErr result (λ e. may_refuse (Request.ReadIn (record { spot = spot; path = path.now }) at (length room.old)) e ≡ true) }
-        ensures filled { IsFilled room.old result room.new }
+        ensures filled { KeepsUnreadRoom room.old result room.new }
         ensures called { DirCall false (dir_shown self.old) (Request.ReadIn (record { spot = spot; path = path.now }) at (length room.old)) (read_reply room.new result) (dir_shown self.new) }
     {
         match host_files::read(

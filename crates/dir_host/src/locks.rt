@@ -1,7 +1,7 @@
 // Locks: what is opened for them, and how they are taken.
 ghost use Rattle.std.specs.Prelude.{◌≡◌, ◌⊎◌, true, IfErr};
 ghost use Rattle.dir_model.specs.Replies.{is_fault};
-ghost use Rattle.dir_model.specs.Local.{is_number, is_open_among};
+ghost use Rattle.dir_model.specs.Local.{is_handle_of, is_open_among};
 ghost use Rattle.dir_host.specs.OpenFolders.{holdings_of};
 ghost use Rattle.dir_host.specs.LockAnswers.{lock_answer};
 
@@ -43,7 +43,7 @@ fn lock_answer(answer: Result<(), TryLockError>) -> Result<(), DirError>
 
 /// Asks for the lock of what is open under the handle, and doesn't wait for it.
 fn lock_folder(locked: &OpenFolder, handle: Handle, mode: Mode) -> Result<(), DirError>
-    requires { is_number handle locked.now.holding ≡ true }
+    requires { is_handle_of handle locked.now.holding ≡ true }
     ensures { IfErr result (λ e. (e ≡ DirError.Locked) ⊎ (is_fault e ≡ true)) }
 {
     match mode {

@@ -2,7 +2,7 @@
 ghost use Rattle.std.specs.Prelude.{◌≡◌, ◌^◌, ◌-◌, ◌++◌, ◌∷◌, [], map, filter, find, not, false, None, IfSome, IfOk, IfErr, OnErr};
 ghost use Rattle.std.specs.List.{list_any};
 ghost use Rattle.std.specs.Option.{option_copied};
-ghost use Rattle.dir_model.specs.Local.{is_number, is_open_among, held_in};
+ghost use Rattle.dir_model.specs.Local.{is_handle_of, is_open_among, held_in};
 ghost use Rattle.dir_model.specs.Locks.{target_of};
 ghost use Rattle.dir_host.specs.OpenFolders.{holdings_of, AreOpenBelow};
 
@@ -17,7 +17,7 @@ pub struct OpenFolder {
 }
 
 fn is_open(folders: &[OpenFolder], handle: Handle) -> bool
-    ensures { result ≡ list_any (λ f. is_number handle f.holding) folders.now }
+    ensures { result ≡ list_any (λ f. is_handle_of handle f.holding) folders.now }
 {
     folders
         .iter()
@@ -42,7 +42,7 @@ fn unused_handle(folders: &[OpenFolder]) -> Option<Handle>
 
 /// The folder that is open under a handle.
 pub fn folder_of<'a>(folders: &'a [OpenFolder], handle: Handle) -> Option<&'a OpenFolder>
-    ensures { option_copied result ≡ find (λ f. is_number handle f.holding) folders.now }
+    ensures { option_copied result ≡ find (λ f. is_handle_of handle f.holding) folders.now }
 {
     folders
         .iter()
@@ -106,7 +106,7 @@ pub fn set_lock(folders: &mut [OpenFolder], handle: Handle, mode: Mode)
 
 /// The handle is given up, and its lock. Takes no memory.
 pub fn give_up(folders: &mut Vec<OpenFolder>, handle: Handle)
-    ensures { holdings_of folders.new.items ≡ filter (λ h. not (is_number handle h)) (holdings_of folders.old.items) }
+    ensures { holdings_of folders.new.items ≡ filter (λ h. not (is_handle_of handle h)) (holdings_of folders.old.items) }
 {
     folders.retain(|f| f.holding.handle.number != handle.number);
 }

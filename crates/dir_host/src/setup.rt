@@ -1,7 +1,7 @@
 // What a program is asked: the words of its command line, and which data folder it is run on.
 ghost use Rattle.std.specs.Prelude.{◌≡◌, ◌⊎◌, ◌++◌, drop, codes, string_bytes, Err, IfOk, IfErr, IsErrOf, OnErr};
 ghost use Rattle.std.specs.IoError.{error_kind};
-ghost use Rattle.dir_host.specs.Setup.{StandsFor, AreBehindFirst, words_error, named_path, is_absolute};
+ghost use Rattle.dir_host.specs.Setup.{IsSetupErrorOf, AreBehindFirst, words_error, named_path, is_absolute};
 ghost use Rattle.dir_host.specs.declared.setup.SetupError.TheVariants.{NoMemory};
 
 use host_files::join;
@@ -31,7 +31,7 @@ impl From<AllocError> for SetupError {
 }
 
 impl From<io::Error> for SetupError {
-    ghost from_gives = { StandsFor };
+    ghost from_gives = { IsSetupErrorOf };
 
     fn from(error: io::Error) -> SetupError {
         match error.kind() {

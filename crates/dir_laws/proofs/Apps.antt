@@ -1,9 +1,9 @@
 -- Where the roots of started apps are: what doesn't begin as their paths do is no app's own.
-use Rattle.std.proofs.Common.{arith, ◌≡◌, ℕ, Bool, true, false, not, ◌&&◌, ◌||◌, ◌==◌, cond, bytes_eq, nat_eq, slice_index, Option, Some, None, option_to_list, List, [], ◌∷◌, ◌++◌, length, drop, append-nil, refl, sym, ap, subst, ◌∙◌}
+use Rattle.std.proofs.Common.{◌≡◌, ℕ, Bool, true, false, not, ◌&&◌, ◌||◌, ◌==◌, cond, bytes_eq, nat_eq, slice_index, Option, Some, None, option_to_list, List, [], ◌∷◌, ◌++◌, length, drop, append-nil, refl, sym, ap, subst, ◌∙◌}
 use Rattle.std.specs.List.{AllByRecursion, starts_with}
-use Rattle.std.proofs.lemmas.Bool.Decides.{Decides-eqb, nat_tests}
-use Rattle.std.proofs.lemmas.Grind.{common_steps}
+use Rattle.std.proofs.lemmas.Bool.Decides.{Decides-eqb}
 use Rattle.std.proofs.lemmas.Slice.Eq.{bytes_eq-Decides, starts_is}
+use Rattle.plain_laws.proofs.Texts.{not_empty}
 use Rattle.dir_model.specs.declared.event.Event.{Event}
 use Rattle.dir_model.specs.declared.item.Inner.{Inner}
 use Rattle.dir_model.specs.declared.tree.StartedApp.{StartedApp}
@@ -13,7 +13,7 @@ use Rattle.dir_model.specs.declared.request.Reply.{Reply}
 use Rattle.dir_model.specs.declared.request.Reply.TheVariants.{Done}
 use Rattle.dir_model.specs.Areas.{is_run_or_later}
 use Rattle.dir_model.specs.Paths.{lies_below}
-use Rattle.dir_model.specs.Replies.{is_own_at, is_own_of}
+use Rattle.dir_model.specs.Replies.{is_own_at, is_apps_inner}
 use Rattle.dir_model.specs.State.{Namespace, DirState, empty_state, folder_at}
 use Rattle.dir_model.specs.Trace.{is_mark, marked_app, app_started, state_next, states_next, state_after}
 use Rattle.dir_model.specs.Trees.{is_within, mark_prefix, app_root, is_apps_own}
@@ -46,10 +46,6 @@ all_rooted s (e ∷ es) a = all_rooted (state_next s e) es (all_both IsRooted s.
 -- each app that was ever started
 pub apps_rooted : (h : List Event) → AllByRecursion IsRooted (state_after h).apps
 apps_rooted h = all_rooted empty_state h tt
-
--- what lies below a path begins with it
-pub not_empty : (x : ℕ) (xs : List ℕ) → (length (x ∷ xs) == 0) ≡ false
-not_empty x xs = grind (arith, nat_tests, common_steps)
 
 pub below_front : (path q : List ℕ) → (length q == 0) ≡ false → lies_below path q ≡ true → path ≡ q ++ drop (length q) path
 unfolding lies_below
@@ -91,7 +87,7 @@ module _ (front : List ℕ) (fronts : (app rest : List ℕ) → starts_with nat_
   no_app_owns h folder path away = none_own (state_after h).apps folder path (apps_rooted h) away
 
   -- so the directory answers there as it stands
-  pub not_apps_own : (h : List Event) (inner : Inner) → starts_with nat_eq inner.path front ≡ false → is_own_of (state_after h) (Some inner) ≡ false
+  pub not_apps_own : (h : List Event) (inner : Inner) → starts_with nat_eq inner.path front ≡ false → is_apps_inner (state_after h) (Some inner) ≡ false
   not_apps_own h inner away = by (folder_at (state_after h).namespace inner.spot)
     where
       by : (o : Option ℕ) → is_own_at (state_after h) inner.path o ≡ false

@@ -8,12 +8,12 @@ use Rattle.dir_model.specs.declared.request.Request.TheVariants.{ListArea}
 use Rattle.dir_model.specs.declared.request.Reply.TheVariants.{Begun}
 use Rattle.dir_model.specs.State.{DirState}
 use Rattle.dir_model.specs.Trace.{listings_replied, states_next}
-use Rattle.dir_model.specs.Listings.{is_of, is_listing, listing_of, has_name, shows_names, shows_area, ascend}
-use Rattle.dir_model.proofs.Lists.{and_left, and_right}
+use Rattle.dir_model.specs.Listings.{is_listing_of, is_listing, listing_of, has_name, shows_names, shows_area, ascend}
+use Rattle.dir_model.proofs.Lists.{and_left, and_right, same_self}
 use Rattle.dir_model.specs.Trees.{names_in}
 use Rattle.dir_laws.specs.Stretches.{Throughout, Sometime, StandsInArea}
 use Rattle.dir_laws.proofs.Ends.{all_called, noted_along, end_holds, end_only}
-use Rattle.dir_laws.proofs.Open.{is_change, open_along, find_own, is_self}
+use Rattle.dir_laws.proofs.Open.{is_change, open_along, find_own}
 
 abbrev itself : List ℕ → List ℕ
 itself name = name
@@ -22,11 +22,11 @@ abbrev area_now : Area → DirState → List (List ℕ)
 area_now area s = names_in area s.namespace.folders
 
 -- a listing begins with the names that stand, and knows no other
-pub area_begins : (s : DirState) (me : ℕ) (area : Area) → is_listing s me ≡ false → find (is_of me) (listings_replied s me (ListArea area) Begun) ≡ Some (record { process = me; listed = listed.Area area (names_in area s.namespace.folders) [] })
-area_begins s me area none = find_own me s.listings _ none (is_self me)
+pub area_begins : (s : DirState) (me : ℕ) (area : Area) → is_listing s me ≡ false → find (is_listing_of me) (listings_replied s me (ListArea area) Begun) ≡ Some (record { process = me; listed = listed.Area area (names_in area s.namespace.folders) [] })
+area_begins s me area none = find_own me s.listings _ none (same_self me)
 
 -- what the names of an end say of an area, where the listing began with these
-module _ (s : DirState) (es : List Event) (me q : ℕ) (area : Area) (l : List (List ℕ) × List (List ℕ)) (names : List (List ℕ)) (others : AllByRecursion (λ e. (e.process == me) ≡ false) es) (open_now : find (is_of me) s.listings ≡ Some (record { process = q; listed = listed.Area area l.0 l.1 })) (shown : shows_area area names (listing_of (states_next s es) me) ≡ true) where
+module _ (s : DirState) (es : List Event) (me q : ℕ) (area : Area) (l : List (List ℕ) × List (List ℕ)) (names : List (List ℕ)) (others : AllByRecursion (λ e. (e.process == me) ≡ false) es) (open_now : find (is_listing_of me) s.listings ≡ Some (record { process = q; listed = listed.Area area l.0 l.1 })) (shown : shows_area area names (listing_of (states_next s es) me) ≡ true) where
   abbrev last : List (List ℕ) × List (List ℕ)
   last = noted_along itself (area_now area) s es is_change l
 

@@ -1,7 +1,6 @@
 -- What the items tell that end the listing of a directory.
-use Rattle.std.proofs.Common.{arith, ◌≡◌, ◌⊎◌, ℕ, Bool, true, false, ◌&&◌, ◌||◌, ◌==◌, cond, bytes_eq, Some, List, [], ◌∷◌, ◌++◌, find, refl, sym, ap, ◌∙◌}
+use Rattle.std.proofs.Common.{◌≡◌, ◌⊎◌, ℕ, Bool, true, false, ◌&&◌, ◌||◌, ◌==◌, cond, bytes_eq, Some, List, [], ◌∷◌, ◌++◌, find, refl, sym, ap, ◌∙◌}
 use Rattle.std.specs.List.{list_all, list_any, AllByRecursion}
-use Rattle.std.proofs.lemmas.Bool.Decides.{nat_tests}
 use Rattle.std.proofs.lemmas.Slice.Eq.{bytes_eq-Decides}
 use Rattle.dir_model.specs.declared.event.Event.{Event}
 use Rattle.dir_model.specs.declared.tree.Listed.TheVariants as listed
@@ -9,17 +8,14 @@ use Rattle.dir_model.specs.declared.request.Request.TheVariants.{ListIn}
 use Rattle.dir_model.specs.declared.request.Reply.TheVariants.{Begun}
 use Rattle.dir_model.specs.State.{DirState, folder_at}
 use Rattle.dir_model.specs.Trace.{listings_replied, states_next}
-use Rattle.dir_model.proofs.Lists.{and_left, and_right}
+use Rattle.dir_model.proofs.Lists.{and_left, and_right, same_self, same_number}
 use Rattle.dir_model.specs.declared.item.Inner.{Inner}
 use Rattle.dir_model.specs.declared.item.Item.{Item}
 use Rattle.dir_model.specs.Trees.{has_dir, items_in}
-use Rattle.dir_model.specs.Listings.{is_of, is_listing, begun_at, listing_of, ascend, has_named, has_item, is_item, is_named, item_names, kind_number, shows_items, shows_inside}
+use Rattle.dir_model.specs.Listings.{is_listing_of, is_listing, begun_at, listing_of, ascend, has_named, has_item, is_item, is_named, item_names, kind_number, shows_items, shows_inside}
 use Rattle.dir_laws.specs.Stretches.{Throughout, Sometime, StandsNamed, StandsInside}
 use Rattle.dir_laws.proofs.Ends.{all_called, noted_along, end_holds, end_only}
-use Rattle.dir_laws.proofs.Open.{is_change, open_along, find_own, is_self}
-
-same_number : (a b : ℕ) → (a == b) ≡ true → a ≡ b
-same_number a b same = grind (arith, nat_tests)
+use Rattle.dir_laws.proofs.Open.{is_change, open_along, find_own}
 
 has_same : (xs : List Item) (x item : Item) → is_item item x ≡ true → has_item xs x ≡ has_item xs item
 has_same xs x item same = ap (λ n. list_any (λ (y : Item). bytes_eq y.name n && (kind_number y.kind == kind_number x.kind)) xs) ((bytes_eq-Decides x.name item.name).0 (and_left (bytes_eq x.name item.name) (kind_number x.kind == kind_number item.kind) same)) ∙ ap (λ k. list_any (λ (y : Item). bytes_eq y.name item.name && (kind_number y.kind == k)) xs) (same_number (kind_number x.kind) (kind_number item.kind) (and_right (bytes_eq x.name item.name) (kind_number x.kind == kind_number item.kind) same))
@@ -39,11 +35,11 @@ abbrev pub inside_now : ℕ → List ℕ → DirState → List Item
 inside_now folder path s = items_in folder path s.entries
 
 -- a listing of a directory begins with the items that stand in it, and knows no other
-pub inside_begins : (s : DirState) (me folder : ℕ) (inner : Inner) → is_listing s me ≡ false → folder_at s.namespace inner.spot ≡ Some folder → has_dir s.entries folder inner.path ≡ true → find (is_of me) (listings_replied s me (ListIn inner) Begun) ≡ Some (record { process = me; listed = listed.Inside inner folder (items_in folder inner.path s.entries) [] })
-inside_begins s me folder inner none here there = find_own me s.listings _ none (is_self me) ∙ (ap (λ o. Some (record { process = me; listed = begun_at s inner o })) here ∙ ap (λ b. Some (record { process = me; listed = cond b (listed.Inside inner folder (items_in folder inner.path s.entries) []) (listed.Missing inner) })) there)
+pub inside_begins : (s : DirState) (me folder : ℕ) (inner : Inner) → is_listing s me ≡ false → folder_at s.namespace inner.spot ≡ Some folder → has_dir s.entries folder inner.path ≡ true → find (is_listing_of me) (listings_replied s me (ListIn inner) Begun) ≡ Some (record { process = me; listed = listed.Inside inner folder (items_in folder inner.path s.entries) [] })
+inside_begins s me folder inner none here there = find_own me s.listings _ none (same_self me) ∙ (ap (λ o. Some (record { process = me; listed = begun_at s inner o })) here ∙ ap (λ b. Some (record { process = me; listed = cond b (listed.Inside inner folder (items_in folder inner.path s.entries) []) (listed.Missing inner) })) there)
 
 -- what the items of an end say of a directory, where the listing began with these
-module _ (s : DirState) (es : List Event) (me q folder : ℕ) (inner : Inner) (l : List Item × List Item) (items : List Item) (others : AllByRecursion (λ e. (e.process == me) ≡ false) es) (open_now : find (is_of me) s.listings ≡ Some (record { process = q; listed = listed.Inside inner folder l.0 l.1 })) (shown : shows_inside inner items (listing_of (states_next s es) me) ≡ true) where
+module _ (s : DirState) (es : List Event) (me q folder : ℕ) (inner : Inner) (l : List Item × List Item) (items : List Item) (others : AllByRecursion (λ e. (e.process == me) ≡ false) es) (open_now : find (is_listing_of me) s.listings ≡ Some (record { process = q; listed = listed.Inside inner folder l.0 l.1 })) (shown : shows_inside inner items (listing_of (states_next s es) me) ≡ true) where
   abbrev last : List Item × List Item
   last = noted_along item_name (inside_now folder inner.path) s es is_change l
 

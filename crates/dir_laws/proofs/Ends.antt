@@ -2,27 +2,12 @@
 use Rattle.std.proofs.Common.{◌≡◌, ◌⊎◌, inl, inr, ℕ, Bool, true, false, ◌||◌, cond, bytes_eq, List, [], ◌∷◌, ◌++◌, filter, refl, sym, ap, subst, ◌∙◌}
 use Rattle.std.specs.List.{list_any, list_all}
 use Rattle.std.proofs.lemmas.Slice.Eq.{bytes_eq-Decides}
+use Rattle.plain_laws.proofs.Lists.{any_left, any_parts, any_right}
 use Rattle.dir_model.specs.declared.event.Event.{Event}
 use Rattle.dir_model.specs.State.{DirState}
 use Rattle.dir_model.specs.Trace.{state_next}
 use Rattle.dir_model.proofs.Lists.{and_left, and_right, or_map, or_true}
 use Rattle.dir_laws.specs.Stretches.{Throughout, Sometime}
-
-any_front : {X : Type 0} (t : X → Bool) (xs ys : List X) → list_any t xs ≡ true → list_any t (xs ++ ys) ≡ true
-any_front t [] ys h = cc
-any_front t (x ∷ xs) ys h = or_map (t x) (list_any t xs) (list_any t (xs ++ ys)) (λ later. any_front t xs ys later) h
-
-any_parts : {X : Type 0} (t : X → Bool) (xs ys : List X) → list_any t (xs ++ ys) ≡ true → (list_any t xs ≡ true) ⊎ (list_any t ys ≡ true)
-any_parts t [] ys h = inr h
-any_parts t (x ∷ xs) ys h = by (t x) (λ later. any_parts t xs ys later) h
-  where
-    by : (b : Bool) → (list_any t (xs ++ ys) ≡ true → (list_any t xs ≡ true) ⊎ (list_any t ys ≡ true)) → (b || list_any t (xs ++ ys)) ≡ true → ((b || list_any t xs) ≡ true) ⊎ (list_any t ys ≡ true)
-    by true later h = inl refl
-    by false later h = later h
-
-any_back : {X : Type 0} (t : X → Bool) (xs ys : List X) → list_any t ys ≡ true → list_any t (xs ++ ys) ≡ true
-any_back t [] ys h = h
-any_back t (x ∷ xs) ys h = rw (any_back t xs ys h) (or_true (t x))
 
 fewer : {X : Type 0} (keep t : X → Bool) (xs : List X) → list_any t (filter keep xs) ≡ true → list_any t xs ≡ true
 fewer keep t [] h = h
@@ -99,11 +84,11 @@ module _ {X : Type 0} (name_of : X → List ℕ) (now : DirState → List X) whe
     note_only s l h = by (any_parts t (note s l).0 (note s l).1 h)
       where
         parts : (list_any t l.1 ≡ true) ⊎ (list_any t (now s) ≡ true) → Known l ⊎ IsThere s
-        parts (inl before) = inl (any_back t l.0 l.1 before)
+        parts (inl before) = inl (any_right t l.0 l.1 before)
         parts (inr here) = inr here
 
         by : (list_any t (note s l).0 ≡ true) ⊎ (list_any t (note s l).1 ≡ true) → Known l ⊎ IsThere s
-        by (inl through) = inl (any_front t l.0 l.1 (fewer (λ x. has_called (now s) (name_of x)) t l.0 through))
+        by (inl through) = inl (any_left t l.0 l.1 (fewer (λ x. has_called (now s) (name_of x)) t l.0 through))
         by (inr ever) = parts (any_parts t l.1 (now s) ever)
 
     cond_only : (b : Bool) (s : DirState) (l : Noted) → Known (cond b (note s l) l) → Known l ⊎ IsThere s

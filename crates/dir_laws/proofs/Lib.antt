@@ -4,3 +4,11 @@ pub mod Contents
 pub mod Directories
 pub mod Ends
 pub mod Open
+pub mod Rose
+pub mod Handles
+pub mod Spots
+pub mod Paths
+pub mod Names
+pub mod Living
+pub mod Later
+pub mod Refusals

@@ -17,22 +17,22 @@ use Rattle.dir_trait.specs.declared.bundle.BundleKind.{BundleKind}
 use Rattle.dir_trait.specs.declared.bundle.BundleKind.TheVariants as kinds
 use Rattle.dir_trait.specs.declared.node.Node.TheVariants.{Directory}
 use Rattle.dir_memory.specs.declared.entry.Entry.{Entry}
-use Rattle.dir_trait.specs.Bundles.{Tree, kind_at, child_path, item_of, IsListing, Lists}
+use Rattle.dir_trait.specs.Bundles.{BundleTree, kind_at, child_path, bundle_item_of, IsBundleListing, Lists}
 use Rattle.dir_model.specs.Paths.{lies_below}
-use Rattle.dir_memory.specs.MemoryBundles.{is_directory, empty_tree, tree_of, leads_through, Found, AreKinds, AreFound, kind_with}
+use Rattle.dir_memory.specs.MemoryBundles.{is_bundle_directory, empty_bundle, bundle_tree_of, leads_through, Found, AreKinds, AreFound, kind_with}
 use Rattle.dir_trait.proofs.Listings.{names_keys}
 use Rattle.dir_memory.proofs.BundlePaths.{child_other}
 
 -- some path leads through all that stands but the root
-standing_led : (entries : List Entry) (q : List ℕ) → (length q == 0) ≡ false → IsSome (tree_of entries q) → list_any (λ entry. leads_through entry.path q) entries ≡ true
+standing_led : (entries : List Entry) (q : List ℕ) → (length q == 0) ≡ false → IsSome (bundle_tree_of entries q) → list_any (λ entry. leads_through entry.path q) entries ≡ true
 standing_led [] q other some =
-    let none : is_some (empty_tree q) ≡ false = ap (λ b. is_some (cond b (Some Directory) None)) other in
+    let none : is_some (empty_bundle q) ≡ false = ap (λ b. is_some (cond b (Some Directory) None)) other in
     cc
 standing_led (entry ∷ older) q other some =
-    by (same_bytes entry.path q) (lies_below entry.path q) (not (is_directory entry.node) && lies_below q entry.path) some (standing_led older q other)
+    by (same_bytes entry.path q) (lies_below entry.path q) (not (is_bundle_directory entry.node) && lies_below q entry.path) some (standing_led older q other)
   where
-    by : (a b c : Bool) → is_some (cond a (Some entry.node) (cond b (Some Directory) (cond c None (tree_of older q)))) ≡ true
-        → (IsSome (tree_of older q) → list_any (λ e. leads_through e.path q) older ≡ true)
+    by : (a b c : Bool) → is_some (cond a (Some entry.node) (cond b (Some Directory) (cond c None (bundle_tree_of older q)))) ≡ true
+        → (IsSome (bundle_tree_of older q) → list_any (λ e. leads_through e.path q) older ≡ true)
         → ((a || b) || list_any (λ e. leads_through e.path q) older) ≡ true
     by true b c some more = refl
     by false true c some more = refl
@@ -43,7 +43,7 @@ abbrev pub found_at : Found → List ℕ → Option BundleKind
 found_at found name = get (slice_cmp nat_cmp) found name
 
 -- one more item
-pub kinds_more : (tree : Tree) (d : List ℕ) (old new : Found) (item : Option BundleItem) → AreKinds tree d old
+pub kinds_more : (tree : BundleTree) (d : List ℕ) (old new : Found) (item : Option BundleItem) → AreKinds tree d old
     → IfSome item (λ i. kind_at (tree (child_path d i.name)) ≡ Some i.kind)
     → ((name : List ℕ) → found_at new name ≡ kind_with item name (found_at old name)) → AreKinds tree d new
 kinds_more tree d old new None before ok gets = λ name kind is. before name kind (sym (gets name) ∙ is)
@@ -67,7 +67,7 @@ now_found (Some item) name kind is =
     let same : item.name ≡ name = cc in
     ap (λ b. is_some (cond b (Some item.kind) kind)) ((bytes_eq-Decides item.name name).1 same)
 
-pub found_more : (tree : Tree) (d : List ℕ) (seen : List Entry) (entry : Entry) (path : List ℕ) (old new : Found) (item : Option BundleItem) → AreFound tree d seen old
+pub found_more : (tree : BundleTree) (d : List ℕ) (seen : List Entry) (entry : Entry) (path : List ℕ) (old new : Found) (item : Option BundleItem) → AreFound tree d seen old
     → path ≡ entry.path
     → ((name : List ℕ) → IsFileName name → IsSome (tree (child_path d name)) → leads_through path (child_path d name) ≡ true → option_map (λ i. i.name) item ≡ Some name)
     → ((name : List ℕ) → found_at new name ≡ kind_with item name (found_at old name)) → AreFound tree d (seen ++ entry ∷ []) new
@@ -81,25 +81,25 @@ found_more tree d seen entry path old new item before is_path ok gets = λ name 
     by name named some false a true leads any = subst IsSome (sym (gets name)) (now_found item name (found_at old name) (ok name named some (ap (λ q. leads_through q (child_path d name)) is_path ∙ leads)))
     by name named some false a false leads any = cc
 
-whole : (entries : List Entry) (d : List ℕ) (found : Found) → AreFound (tree_of entries) d entries found
-    → (name : List ℕ) → IsFileName name → IsSome (tree_of entries (child_path d name)) → Contains (map (λ (i : BundleItem). i.name) (map item_of found.entries)) name
+whole : (entries : List Entry) (d : List ℕ) (found : Found) → AreFound (bundle_tree_of entries) d entries found
+    → (name : List ℕ) → IsFileName name → IsSome (bundle_tree_of entries (child_path d name)) → Contains (map (λ (i : BundleItem). i.name) (map bundle_item_of found.entries)) name
 whole entries d found are name named some =
     let led = standing_led entries (child_path d name) (child_other d name named) some in
     subst (λ ns. Contains ns name) (sym (names_keys found.entries)) ((btree_map_contains_key_iff nat_list_cmp_total exact_bytes found name).0 (are name named some led))
 
-lists : (entries : List Entry) (d : List ℕ) (found : Found) → kind_at (tree_of entries d) ≡ Some kinds.Dir → AreKinds (tree_of entries) d found
-    → AreFound (tree_of entries) d entries found → IsOrdered (slice_cmp nat_cmp) found → Lists (tree_of entries) d (map item_of found.entries)
+lists : (entries : List Entry) (d : List ℕ) (found : Found) → kind_at (bundle_tree_of entries d) ≡ Some kinds.Dir → AreKinds (bundle_tree_of entries) d found
+    → AreFound (bundle_tree_of entries) d entries found → IsOrdered (slice_cmp nat_cmp) found → Lists (bundle_tree_of entries) d (map bundle_item_of found.entries)
 lists entries d found directory kinds are ordered = record {
   directory = directory;
-  each = All-map (λ (i : BundleItem). kind_at (tree_of entries (child_path d i.name)) ≡ Some i.kind) item_of found.entries
+  each = All-map (λ (i : BundleItem). kind_at (bundle_tree_of entries (child_path d i.name)) ≡ Some i.kind) bundle_item_of found.entries
       (λ k e l. kinds (slice_index_or found.entries k e).0 (slice_index_or found.entries k e).1 (All-found nat_list_cmp_total found ordered k e l));
   whole = whole entries d found are;
 }
 
-pub all_listed : {E : Type 0} (entries : List Entry) (d : List ℕ) (found : Found) (r : Result (List BundleItem) E) → kind_at (tree_of entries d) ≡ Some kinds.Dir → AreKinds (tree_of entries) d found
-    → AreFound (tree_of entries) d entries found → IfOk r (λ items. items ≡ map item_of found.entries) → IfOk r IsListing → IfOk r (Lists (tree_of entries) d)
+pub all_listed : {E : Type 0} (entries : List Entry) (d : List ℕ) (found : Found) (r : Result (List BundleItem) E) → kind_at (bundle_tree_of entries d) ≡ Some kinds.Dir → AreKinds (bundle_tree_of entries) d found
+    → AreFound (bundle_tree_of entries) d entries found → IfOk r (λ items. items ≡ map bundle_item_of found.entries) → IfOk r IsBundleListing → IfOk r (Lists (bundle_tree_of entries) d)
 all_listed entries d found (Ok items) directory kinds are e ordered =
     let sorted : IsOrdered (slice_cmp nat_cmp) found =
     subst (λ ns. IsStrictlySortedBy (slice_cmp nat_cmp) ns) (ap (λ is. map (λ (i : BundleItem). i.name) is) e ∙ names_keys found.entries) ordered in
-    subst (Lists (tree_of entries) d) (sym e) (lists entries d found directory kinds are sorted)
+    subst (Lists (bundle_tree_of entries) d) (sym e) (lists entries d found directory kinds are sorted)
 all_listed entries d found (Err x) directory kinds are e ordered = tt

@@ -1,46 +1,24 @@
 -- Paths that lie below a directory, and the names through which they lead.
-use Rattle.std.proofs.Common.{◌≡◌, ℕ, ◌+◌, ◌<◌, ◌≤◌, ◌==◌, Bool, true, false, not, ◌&&◌, ◌||◌, cond, nat_eq, List, [], ◌∷◌, ◌++◌, length, get_or, take, drop, slice_index, refl, sym, ap, ◌∙◌, ⊎_elim, arith, append_assoc, length-append}
-use Rattle.std.specs.List.{starts_with, position_or_len, before_first, list_all}
+use Rattle.std.proofs.Common.{◌≡◌, ℕ, ◌+◌, ◌≤◌, ◌==◌, Bool, true, false, not, ◌||◌, cond, List, [], ◌∷◌, ◌++◌, length, take, refl, sym, ap, ◌∙◌, arith, append_assoc, length-append}
+use Rattle.std.specs.List.{position_or_len, before_first, list_all}
 use Rattle.std.proofs.Math.Seq.{take-append_seam}
-use Rattle.std.proofs.lemmas.Bool.{cases_lt, eqb-true, eq-eqb, and_parts, and_from}
-use Rattle.std.proofs.lemmas.Bool.Decides.{Decides-eqb, nat_tests}
-use Rattle.std.proofs.lemmas.List.{get_or_past, get_or_at, drop_more, append-nil}
+use Rattle.std.proofs.lemmas.Bool.{and_parts}
+use Rattle.std.proofs.lemmas.Bool.Decides.{nat_tests}
+use Rattle.std.proofs.lemmas.List.{append-nil}
 use Rattle.std.proofs.lemmas.List.Sums.{list_all-from_AllPass}
-use Rattle.std.proofs.lemmas.Slice.Eq.{starts_is, bytes_eq-Decides}
+use Rattle.std.proofs.lemmas.Slice.Eq.{bytes_eq-Decides}
 use Rattle.dir_model.specs.Names.{same_bytes, is_file_byte, IsFileName}
 use Rattle.dir_trait.specs.Bundles.{directory_prefix, child_path}
 use Rattle.dir_model.specs.Paths.{lies_below}
+use Rattle.dir_laws.proofs.Paths.{below_rest, below_from}
 use Rattle.dir_memory.specs.MemoryBundles.{leads_through}
 
 prefix_other : (d rest : List ℕ) → (length d == 0) ≡ false → directory_prefix d ++ rest ≡ d ++ 47 ∷ rest
 prefix_other d rest other = ap (λ b. cond b [] (d ++ 47 ∷ []) ++ rest) other ∙ append_assoc d (47 ∷ []) rest
 
-below_from : (d rest : List ℕ) → (length d == 0) ≡ false → lies_below (d ++ 47 ∷ rest) d ≡ true
-unfolding lies_below
-below_from d rest other =
-    ap (λ b. cond b (not (length (d ++ 47 ∷ rest) == 0)) (starts_with nat_eq (d ++ 47 ∷ rest) d && (slice_index (d ++ 47 ∷ rest) (length d) == 47))) other
-    ∙ and_from _ _
-    ((starts_is Decides-eqb (d ++ 47 ∷ rest) d _ refl).1 (47 ∷ rest) refl)
-    (eq-eqb _ _ (get_or_at d 47 rest 0 (length d) refl))
-
 -- what begins as the paths in a directory lies below it
 pub below_prefix : (path d rest : List ℕ) → (length d == 0) ≡ false → path ≡ directory_prefix d ++ rest → lies_below path d ≡ true
 below_prefix path d rest other e = ap (λ p. lies_below p d) (e ∙ prefix_other d rest other) ∙ below_from d rest other
-
--- below another path than the root's it goes on with a slash
-below_rest : (path q : List ℕ) → (length q == 0) ≡ false → lies_below path q ≡ true → (rest : List ℕ) × (path ≡ q ++ 47 ∷ rest)
-unfolding lies_below
-below_rest path q other h =
-    let both : (starts_with nat_eq path q && (slice_index path (length q) == 47)) ≡ true =
-    sym (ap (λ b. cond b (not (length path == 0)) (starts_with nat_eq path q && (slice_index path (length q) == 47))) other) ∙ h in
-    let split = and_parts _ _ both in
-    let front : path ≡ q ++ drop (length q) path = (starts_is Decides-eqb path q _ refl).0 split.0 in
-    let slash : get_or path (length q) 0 ≡ 47 = eqb-true _ _ split.1 in
-    let inside : length q < length path =
-    ⊎_elim (λ i. i) (λ o. absurd (omega (arith, sym slash ∙ get_or_past path (length q) 0 o))) (cases_lt (length q) (length path)) in
-    let more : drop (length q) path ≡ 47 ∷ drop (length q + 1) path =
-    drop_more path (length q) 0 inside ∙ ap (λ b. b ∷ drop (length q + 1) path) slash in
-    (drop (length q + 1) path, front ∙ ap (λ t. q ++ t) more)
 
 abbrev pub is_slash : ℕ → Bool
 is_slash b = b == 47

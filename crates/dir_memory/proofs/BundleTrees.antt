@@ -5,9 +5,9 @@ use Rattle.dir_model.specs.Names.{same_bytes}
 use Rattle.dir_trait.specs.declared.node.Node.{Node}
 use Rattle.dir_trait.specs.declared.node.Node.TheVariants.{Directory}
 use Rattle.dir_memory.specs.declared.entry.Entry.{Entry}
-use Rattle.dir_trait.specs.Bundles.{file_bytes, link_target}
+use Rattle.dir_trait.specs.Bundles.{bytes_of_node, link_target}
 use Rattle.dir_model.specs.Paths.{lies_below}
-use Rattle.dir_memory.specs.MemoryBundles.{is_directory, tree_of, is_decisive, decided_node, own_node}
+use Rattle.dir_memory.specs.MemoryBundles.{is_bundle_directory, bundle_tree_of, is_decisive, decided_node, own_node}
 
 step : (a b c : Bool) (node folder : Node) (older : Option Node) (X : Option Entry → Option Node) (entry : Entry) (rest : Option Entry)
     → X (Some entry) ≡ cond a (Some node) (cond b (Some folder) None) → older ≡ X rest
@@ -17,10 +17,10 @@ step false true c node folder older X entry rest own more = sym own
 step false false true node folder older X entry rest own more = sym own
 step false false false node folder older X entry rest own more = more
 
-pub tree_decided : (entries : List Entry) (q : List ℕ) → tree_of entries q ≡ decided_node (find (is_decisive q) entries) q
+pub tree_decided : (entries : List Entry) (q : List ℕ) → bundle_tree_of entries q ≡ decided_node (find (is_decisive q) entries) q
 tree_decided [] q = refl
 tree_decided (entry ∷ older) q =
-    step (same_bytes entry.path q) (lies_below entry.path q) (not (is_directory entry.node) && lies_below q entry.path) entry.node Directory (tree_of older q)
+    step (same_bytes entry.path q) (lies_below entry.path q) (not (is_bundle_directory entry.node) && lies_below q entry.path) entry.node Directory (bundle_tree_of older q)
     (λ found. decided_node found q) entry (find (is_decisive q) older) refl (tree_decided older q)
 
 -- a file or a link stands only where it was put itself
@@ -37,8 +37,8 @@ own_only f none directory (Some entry) q = by (same_bytes entry.path q) (lies_be
     by false true = directory ∙ sym none
     by false false = refl
 
-pub file_own : (entries : List Entry) (q : List ℕ) → file_bytes (tree_of entries q) ≡ file_bytes (own_node (find (is_decisive q) entries) q)
-file_own entries q = ap file_bytes (tree_decided entries q) ∙ own_only file_bytes refl refl (find (is_decisive q) entries) q
+pub file_own : (entries : List Entry) (q : List ℕ) → bytes_of_node (bundle_tree_of entries q) ≡ bytes_of_node (own_node (find (is_decisive q) entries) q)
+file_own entries q = ap bytes_of_node (tree_decided entries q) ∙ own_only bytes_of_node refl refl (find (is_decisive q) entries) q
 
-pub link_own : (entries : List Entry) (q : List ℕ) → link_target (tree_of entries q) ≡ link_target (own_node (find (is_decisive q) entries) q)
+pub link_own : (entries : List Entry) (q : List ℕ) → link_target (bundle_tree_of entries q) ≡ link_target (own_node (find (is_decisive q) entries) q)
 link_own entries q = ap link_target (tree_decided entries q) ∙ own_only link_target refl refl (find (is_decisive q) entries) q

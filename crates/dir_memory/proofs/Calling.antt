@@ -2,8 +2,7 @@
 use Rattle.std.proofs.Common.{◌≡◌, ◌⊎◌, inl, inr, ℕ, ◌+◌, ◌≤◌, Result, Ok, Err, IfOk, IfErr, Option, Some, None, Bool, true, false, not, ◌&&◌, ◌==◌, cond, length, take, drop, List, [], ◌∷◌, ◌++◌, arith, refl, sym, ap, subst, ◌∙◌, append_assoc, append-nil}
 use Rattle.std.specs.List.{list_any, list_all, AllByRecursion}
 use Rattle.std.specs.List.Sorted.{IsStrictlySortedBy}
-use Rattle.std.specs.declared.cmp.Ordering.{Ordering}
-use Rattle.std.specs.declared.cmp.Ordering.TheVariants.{Less, Equal, Greater}
+use Rattle.std.specs.declared.cmp.Ordering.TheVariants.{Less}
 use Rattle.std.specs.Ordering.{nat_cmp, is_lt}
 use Rattle.std.specs.Cmp.Lexicographic.{slice_cmp}
 use Rattle.std.proofs.lemmas.Grind.{common_steps}
@@ -34,9 +33,10 @@ use Rattle.dir_trait.specs.DirCalls.{DirCall, ListCall}
 use Rattle.dir_state.specs.Parts.{kill_of}
 use Rattle.dir_state.specs.Answers.{free_handle, opened_or_refused, granted, answer_by, answer}
 use Rattle.dir_state.proofs.Answering.{refusal_named, free_unopened, fault_named}
+use Rattle.dir_state.proofs.Orders.{less}
 use Rattle.dir_memory.specs.Schedules.{due}
 use Rattle.dir_memory.specs.Interludes.{Interlude}
-use Rattle.dir_memory.specs.Memories.{Memory, raised, is_to_fail, before_call, still_pending, next_reply, answer_or_failure, Stopped, Follows, FollowsListing, once_begun, before_end, is_end_of, is_numbered, is_plain, is_opening, is_read, has_shape, shown_of, given_up}
+use Rattle.dir_memory.specs.Memories.{Memory, raised, is_to_fail, before_call, still_pending, next_reply, answer_or_failure, CallerWasKilled, MemoryFollows, FollowsListing, once_begun, before_end, is_end_of, is_numbered, is_plain_reply, is_opening, is_read_request, has_shape, dir_of_memory, memory_given_up}
 use Rattle.dir_memory.proofs.Meanwhile.{steps_come}
 use Rattle.dir_memory.proofs.Facts.{none_ended}
 
@@ -53,7 +53,7 @@ cond_all false true = refl
 cond_all false false = refl
 
 shape_refused : (request : Request) (error : DirError) → has_shape request (Refused error 0) ≡ true
-shape_refused request error = cond_all (asks_for_handle request) (is_read request)
+shape_refused request error = cond_all (asks_for_handle request) (is_read_request request)
 
 says_refused : (n : Namespace) (p : ℕ) (request : Request) (fails : Bool) (error : DirError) → may_refuse request error ≡ true → (error ≡ Failed → fails ≡ true) → Says n p request fails (Refused error 0)
 says_refused n p request fails error may fault = record {
@@ -148,7 +148,7 @@ refused_says old request reply new error is may rose = record {
 never_failed : (old new : Memory) → NoMemory ≡ Failed → Rose old.faults new.faults
 never_failed old new h = cc
 
-pub follows_says : (old : Memory) (request : Request) (reply : Reply) (new : Memory) → is_numbered request ≡ true → is_listing_request request ≡ false → Follows old request reply new → CallSays old request reply new
+pub follows_says : (old : Memory) (request : Request) (reply : Reply) (new : Memory) → is_numbered request ≡ true → is_listing_request request ≡ false → MemoryFollows old request reply new → CallSays old request reply new
 follows_says old request reply new numbered plain (inl a) =
     let s = said old request reply plain a.replied in
     record {
@@ -190,11 +190,11 @@ kill_foreign false me a h i = record { others = i.others; foreign = i.foreign; g
 come_to : (old : Memory) (request : Request) → Interference old.process old.trace (before_call old request)
 come_to old request = (steps_come old.process old.trace (due (old.numbered + 1) (is_listing_request request) old.pending)).meanwhile
 
-stopped_meanwhile : (old : Memory) (request : Request) (reply : Reply) (new : Memory) → Stopped old request reply new → Interference old.process old.trace new.trace
+stopped_meanwhile : (old : Memory) (request : Request) (reply : Reply) (new : Memory) → CallerWasKilled old request reply new → Interference old.process old.trace new.trace
 stopped_meanwhile old request reply new t = subst (λ (h : List Event). Interference old.process old.trace h) (sym (ap (λ (m : Memory). m.trace) t.after)) (kill_foreign (not old.killed) old.process old.trace (before_call old request) (come_to old request))
 
 -- the trace of a call
-pub follows_step : (old : Memory) (request : Request) (reply : Reply) (new : Memory) → is_numbered request ≡ true → is_listing_request request ≡ false → IsRun new.trace → Follows old request reply new → CallStep old.process old.trace request reply new.trace
+pub follows_step : (old : Memory) (request : Request) (reply : Reply) (new : Memory) → is_numbered request ≡ true → is_listing_request request ≡ false → IsRun new.trace → MemoryFollows old request reply new → CallStep old.process old.trace request reply new.trace
 follows_step old request reply new numbered plain run (inl a) =
     let e : Event = event old.process request reply in
     let grown : new.trace ≡ before_call old request ++ e ∷ [] = ap (λ (m : Memory). m.trace) a.after in
@@ -221,12 +221,12 @@ raised_most : (n : ℕ) → raised n ≤ n + 1
 raised_most n = omega arith
 
 -- as every directory is seen
-pub follows_called : (old : Memory) (request : Request) (reply : Reply) (new : Memory) → is_numbered request ≡ true → is_listing_request request ≡ false → IsRun new.trace → old.faults ≤ new.faults → Follows old request reply new → DirCall true (shown_of old) request reply (shown_of new)
+pub follows_called : (old : Memory) (request : Request) (reply : Reply) (new : Memory) → is_numbered request ≡ true → is_listing_request request ≡ false → IsRun new.trace → old.faults ≤ new.faults → MemoryFollows old request reply new → DirCall true (dir_of_memory old) request reply (dir_of_memory new)
 follows_called old request reply new numbered plain run faults f =
     let k = kept f in
     record { counted = k.0; same = k.1; faults = faults; local = k.2; step = λ observed. follows_step old request reply new numbered plain run f }
   where
-    kept : Follows old request reply new → (new.calls ≤ old.calls + 1) × (new.process ≡ old.process) × (new.local ≡ local_replied old.local request reply)
+    kept : MemoryFollows old request reply new → (new.calls ≤ old.calls + 1) × (new.process ≡ old.process) × (new.local ≡ local_replied old.local request reply)
     kept (inl a) = (omega (arith, raised_most old.calls, ap (λ (m : Memory). m.calls) a.after), ap (λ (m : Memory). m.process) a.after, ap (λ (m : Memory). m.local) a.after)
     kept (inr (inl r)) = (omega (arith, raised_most old.calls, ap (λ (m : Memory). m.calls) r.same), ap (λ (m : Memory). m.process) r.same, ap (λ (m : Memory). m.local) r.same)
     kept (inr (inr t)) = (omega (arith, raised_most old.calls, ap (λ (m : Memory). m.calls) t.after), ap (λ (m : Memory). m.process) t.after, ap (λ (m : Memory). m.local) t.after)
@@ -286,7 +286,7 @@ module _ (old : Memory) (request : Request) (reply : Reply) (new : Memory) (asks
     run = run;
   })
 
-  pub lists_called : old.faults ≤ new.faults → FollowsListing old request reply new → ListCall true (shown_of old) request reply (shown_of new)
+  pub lists_called : old.faults ≤ new.faults → FollowsListing old request reply new → ListCall true (dir_of_memory old) request reply (dir_of_memory new)
   lists_called faults f =
       let k = kept f in
       record { counted = k.0; same = k.1; faults = faults; local = k.2; step = λ observed. lists_step f }
@@ -342,7 +342,7 @@ opened_unopened m reply new (Ok handle) is = new handle (sym is)
 opened_unopened m reply new (Err e) is = tt
 
 -- the shape of a reply, by what was asked for
-pub shape_plain : (request : Request) (reply : Reply) → asks_for_nothing request ≡ true → is_listing_request request ≡ false → has_shape request reply ≡ true → is_plain reply ≡ true
+pub shape_plain : (request : Request) (reply : Reply) → asks_for_nothing request ≡ true → is_listing_request request ≡ false → has_shape request reply ≡ true → is_plain_reply reply ≡ true
 shape_plain (Open spot which) reply nothing plain shape = cc
 shape_plain (OpenArea area) reply nothing plain shape = cc
 shape_plain (ReadIn inner at room) reply nothing plain shape = cc
@@ -366,13 +366,13 @@ read_short s p inner at room false None bytes is =
     let same : bytes_at s.entries inner.path at room (folder_at s.namespace inner.spot) ≡ bytes = cc in
     subst (λ (l : List ℕ). length l ≤ room) same (short_at s.entries inner.path at room (folder_at s.namespace inner.spot))
 
-pub read_fits : (old : Memory) (inner : Inner) (at room : ℕ) (reply : Reply) (new : Memory) (bytes : List ℕ) → Follows old (ReadIn inner at room) reply new → reply ≡ Read bytes → length bytes ≤ room
+pub read_fits : (old : Memory) (inner : Inner) (at room : ℕ) (reply : Reply) (new : Memory) (bytes : List ℕ) → MemoryFollows old (ReadIn inner at room) reply new → reply ≡ Read bytes → length bytes ≤ room
 read_fits old inner at room reply new bytes (inl a) is = let s : DirState = state_after (before_call old (ReadIn inner at room)) in read_short s old.process inner at room (is_to_fail old (ReadIn inner at room)) (refusal s old.process (ReadIn inner at room)) bytes (sym a.replied ∙ is)
 read_fits old inner at room reply new bytes (inr (inl r)) is = let clash : Refused NoMemory 0 ≡ Read bytes = sym r.replied ∙ is in cc
 read_fits old inner at room reply new bytes (inr (inr t)) is = let clash : Refused Failed 0 ≡ Read bytes = sym t.replied ∙ is in cc
 
 -- an own event that gives something up
-pub given_called : (old : Memory) (request : Request) (new : Memory) → (request ≡ Finish) ⊎ ((h : Handle) × (request ≡ Close h)) → new ≡ given_up old request → IsRun new.trace → (old.killed ≡ true → lives (state_after old.trace).namespace old.process ≡ false) → DirCall true (shown_of old) request Done (shown_of new)
+pub given_called : (old : Memory) (request : Request) (new : Memory) → (request ≡ Finish) ⊎ ((h : Handle) × (request ≡ Close h)) → new ≡ memory_given_up old request → IsRun new.trace → (old.killed ≡ true → lives (state_after old.trace).namespace old.process ≡ false) → DirCall true (dir_of_memory old) request Done (dir_of_memory new)
 given_called old request new which is run over = record {
   counted = omega (arith, raised_most old.calls, ap (λ (m : Memory). m.calls) is);
   same = ap (λ (m : Memory). m.process) is;
@@ -402,11 +402,6 @@ given_called old request new which is run over = record {
         }
 
 -- the end of a listing as an answer
-
-less : (o : Ordering) → is_lt o ≡ true → o ≡ Less
-less Less h = refl
-less Equal h = cc
-less Greater h = cc
 
 all_less : (y : List ℕ) (ys : List (List ℕ)) → list_all (λ z. is_lt (slice_cmp nat_cmp y z)) ys ≡ true → AllByRecursion (λ z. slice_cmp nat_cmp y z ≡ Less) ys
 all_less y [] h = tt

@@ -1,7 +1,6 @@
 -- In a run only processes that began have ended.
-use Rattle.std.proofs.Common.{arith, ◌≡◌, ◌⊎◌, inl, inr, ℕ, Bool, true, false, not, ◌||◌, ◌==◌, List, [], ◌∷◌, ◌++◌, refl, sym, ap, subst, ◌∙◌, append-nil}
+use Rattle.std.proofs.Common.{◌≡◌, ◌⊎◌, inl, inr, ℕ, Bool, true, false, not, ◌||◌, ◌==◌, List, [], ◌∷◌, ◌++◌, refl, sym, ap, subst, ◌∙◌, append-nil}
 use Rattle.std.specs.List.{list_any}
-use Rattle.std.proofs.lemmas.Bool.Decides.{nat_tests}
 use Rattle.dir_model.specs.declared.event.Event.{Event}
 use Rattle.dir_model.specs.declared.request.Request.{Request}
 use Rattle.dir_model.specs.declared.request.Request.TheVariants.{Begin, Open, OpenArea, ListArea, ListIn, Finish, Kill}
@@ -10,11 +9,11 @@ use Rattle.dir_model.specs.declared.request.Reply.TheVariants.{Done, Opened}
 use Rattle.dir_model.specs.State.{Namespace, DirState, empty_state, has_begun, has_ended, lives}
 use Rattle.dir_model.specs.Trace.{state_after, state_next, states_next, namespace_replied}
 use Rattle.dir_model.specs.Calls.{IsRun, is_run_from, is_allowed, may_step, event}
-use Rattle.dir_model.proofs.Lists.{and_left, and_right, any_push}
+use Rattle.dir_model.proofs.Lists.{and_left, and_right, any_push, same_number}
 use Rattle.dir_model.proofs.Chains.{state_after-push}
 use Rattle.dir_model.proofs.Allowed.{allowed_step}
 use Rattle.dir_model.specs.Paths.{is_path}
-use Rattle.dir_model.specs.Listings.{is_listing_request, is_of, is_listing}
+use Rattle.dir_model.specs.Listings.{is_listing_request, is_listing_of, is_listing}
 use Rattle.dir_model.specs.Trace.{listings_replied}
 use Rattle.dir_memory.proofs.OpenListings.{others_alike, any_found, own_none}
 use Rattle.dir_state.specs.Parts.{kill_of}
@@ -30,9 +29,6 @@ any_last_cases t (x ∷ xs) y h = by (t x) (λ later. any_last_cases t xs y late
     by : (b : Bool) → (list_any t (xs ++ y ∷ []) ≡ true → (list_any t xs ≡ true) ⊎ (t y ≡ true)) → (b || list_any t (xs ++ y ∷ [])) ≡ true → ((b || list_any t xs) ≡ true) ⊎ (t y ≡ true)
     by true later h = inl refl
     by false later h = later h
-
-same_number : (p x : ℕ) → (p == x) ≡ true → p ≡ x
-same_number p x h = grind (arith, nat_tests)
 
 abbrev EndedBegan : ℕ → Namespace → Type 0
 EndedBegan x n = has_ended n x ≡ true → has_begun n x ≡ true
@@ -95,18 +91,18 @@ listing_lives s p (ListArea area) asks may = and_left (has_begun s.namespace p) 
 listing_lives s p (ListIn inner) asks may = and_left (has_begun s.namespace p) (not (has_ended s.namespace p)) (and_right (is_path inner.path) (lives s.namespace p) may)
 listing_lives s p _ asks may = cc
 
-own_lists : (x : ℕ) (s : DirState) (p : ℕ) (request : Request) (reply : Reply) (b : Bool) → is_listing_request request ≡ b → p ≡ x → may_step s p request ≡ true → is_listing s x ≡ false → has_begun s.namespace x ≡ false → list_any (is_of x) (listings_replied s p request reply) ≡ false
+own_lists : (x : ℕ) (s : DirState) (p : ℕ) (request : Request) (reply : Reply) (b : Bool) → is_listing_request request ≡ b → p ≡ x → may_step s p request ≡ true → is_listing s x ≡ false → has_begun s.namespace x ≡ false → list_any (is_listing_of x) (listings_replied s p request reply) ≡ false
 own_lists x s p request reply true asks same may none unborn =
     let clash : true ≡ false = sym (subst (λ (y : ℕ). has_begun s.namespace y ≡ true) same (listing_lives s p request asks may)) ∙ unborn in
     cc
 own_lists x s p request reply false plain same may none unborn =
-    subst (λ (y : ℕ). list_any (is_of y) (listings_replied s p request reply) ≡ false) same
+    subst (λ (y : ℕ). list_any (is_listing_of y) (listings_replied s p request reply) ≡ false) same
     (own_none s p request reply plain (subst (λ (y : ℕ). is_listing s y ≡ false) (sym same) none))
 
-step_lists : (x : ℕ) (s : DirState) (p : ℕ) (request : Request) (reply : Reply) → may_step s p request ≡ true → is_listing s x ≡ false → has_begun s.namespace x ≡ false → list_any (is_of x) (listings_replied s p request reply) ≡ false
+step_lists : (x : ℕ) (s : DirState) (p : ℕ) (request : Request) (reply : Reply) → may_step s p request ≡ true → is_listing s x ≡ false → has_begun s.namespace x ≡ false → list_any (is_listing_of x) (listings_replied s p request reply) ≡ false
 step_lists x s p request reply may none unborn = by (p == x) refl
   where
-    by : (b : Bool) → (p == x) ≡ b → list_any (is_of x) (listings_replied s p request reply) ≡ false
+    by : (b : Bool) → (p == x) ≡ b → list_any (is_listing_of x) (listings_replied s p request reply) ≡ false
     by true is = own_lists x s p request reply (is_listing_request request) refl (same_number p x is) may none unborn
     by false is = any_found x (listings_replied s p request reply) ∙ ((others_alike s p x is request reply).some ∙ (sym (any_found x s.listings) ∙ none))
 

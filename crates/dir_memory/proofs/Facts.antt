@@ -1,6 +1,7 @@
 -- What the trace and a process's own view agree on, kept by the events of others and by its own.
 use Rattle.std.proofs.Common.{◌≡◌, ℕ, ◌+◌, ◌≤◌, Bool, true, false, not, ◌&&◌, ◌||◌, ◌==◌, cond, is_some, List, [], ◌∷◌, ◌++◌, refl, sym, ap, ◌∙◌, append-nil}
 use Rattle.std.specs.List.{list_any}
+use Rattle.plain_laws.proofs.Booleans.{or_none}
 use Rattle.dir_model.specs.Reserved.{Reserved}
 use Rattle.dir_model.specs.declared.event.Event.{Event}
 use Rattle.dir_model.specs.declared.request.Request.{Request}
@@ -10,7 +11,7 @@ use Rattle.dir_model.specs.declared.request.Reply.TheVariants.{Done, Opened, Nam
 use Rattle.dir_model.specs.Paths.{is_well_formed}
 use Rattle.dir_model.specs.State.{Namespace, DirState, has_begun, has_ended, lives}
 use Rattle.dir_model.specs.Trace.{namespace_replied, listings_replied, state_after}
-use Rattle.dir_model.specs.Listings.{is_of, is_listing, is_listing_request}
+use Rattle.dir_model.specs.Listings.{is_listing_of, is_listing, is_listing_request}
 use Rattle.dir_model.specs.Calls.{IsRun, may_step, is_begin, is_kill, event}
 use Rattle.dir_model.specs.Local.{Local, IsActive, local_replied, holdings_in}
 use Rattle.dir_model.proofs.Lists.{and_right, and_false, or_true, any_last, same_self}
@@ -18,7 +19,7 @@ use Rattle.dir_model.proofs.Chains.{state_after-push}
 use Rattle.dir_model.proofs.Holdings.{replied_same}
 use Rattle.dir_state.specs.Parts.{kill_of}
 use Rattle.dir_memory.specs.Interludes.{Interlude}
-use Rattle.dir_memory.specs.Memories.{Memory, IsMemory, is_up_to, is_stopped, may_ask, is_active, is_numbered, is_end_of}
+use Rattle.dir_memory.specs.Memories.{Memory, IsMemory, is_up_to, is_stopped, may_be_called, is_active, is_numbered, is_end_of}
 use Rattle.dir_memory.proofs.OpenListings.{own_none, none_without}
 
 pub record Facts (h : List Event) (me : ℕ) (m : Local) : Type 0 where
@@ -26,14 +27,10 @@ pub record Facts (h : List Event) (me : ℕ) (m : Local) : Type 0 where
   pub ended : has_ended (state_after h).namespace me ≡ m.finished
   pub holds : holdings_in (state_after h).namespace me ≡ m.holdings
 
-or_false : (b : Bool) → (b || false) ≡ b
-or_false true = refl
-or_false false = refl
-
 pub facts_of : (past : Reserved Event) (me : ℕ) (m : Local) (held : ℕ) (killed : Bool) → IsMemory past me m held killed → killed ≡ false → Facts past.items me m
 facts_of past me m held killed i live = record {
   begun = i.begun;
-  ended = i.ended ∙ (ap (λ b. m.finished || b) live ∙ or_false m.finished);
+  ended = i.ended ∙ (ap (λ b. m.finished || b) live ∙ or_none m.finished);
   holds = i.holds live;
 }
 
@@ -99,7 +96,7 @@ pub none_after : (h grown : List Event) (me : ℕ) (request : Request) (reply : 
 none_after h grown me request reply plain none e =
     ap (λ (x : List Event). is_listing (state_after x) me) e ∙ (ap (λ (s : DirState). is_listing s me) (state_after-push h (event me request reply)) ∙ own_none (state_after h) me request reply plain none)
 
-end_by : (s : DirState) (me : ℕ) (request : Request) (reply : Reply) → is_listing_request request ≡ true → is_end_of request reply ≡ true → list_any (is_of me) (listings_replied s me request reply) ≡ false
+end_by : (s : DirState) (me : ℕ) (request : Request) (reply : Reply) → is_listing_request request ≡ true → is_end_of request reply ≡ true → list_any (is_listing_of me) (listings_replied s me request reply) ≡ false
 end_by s me request (Names names) asks ends = rw asks (none_without me s.listings)
 end_by s me request (Items items) asks ends = rw asks (none_without me s.listings)
 end_by s me request (Refused error left) asks ends = rw asks (none_without me s.listings)
@@ -116,7 +113,7 @@ pub memory_now : (past : Reserved Event) (me : ℕ) (m : Local) (held : ℕ) (ki
 memory_now past me m held killed live f none run room = record {
   run = run;
   begun = f.begun;
-  ended = f.ended ∙ sym (ap (λ b. m.finished || b) live ∙ or_false m.finished);
+  ended = f.ended ∙ sym (ap (λ b. m.finished || b) live ∙ or_none m.finished);
   holds = λ no_kill. f.holds;
   listing = none;
   was = λ is. let clash : true ≡ false = sym is ∙ live in cc;
@@ -124,7 +121,7 @@ memory_now past me m held killed live f none run room = record {
 }
 
 -- what isn't stopped wasn't killed
-pub not_killed : (m : Memory) (request : Request) → is_stopped m request ≡ false → may_ask m.local request ≡ true → (m.killed ≡ true → is_some m.local.intent ≡ true) → m.killed ≡ false
+pub not_killed : (m : Memory) (request : Request) → is_stopped m request ≡ false → may_be_called m.local request ≡ true → (m.killed ≡ true → is_some m.local.intent ≡ true) → m.killed ≡ false
 not_killed m request live may was = by (is_begin request) m.killed (is_up_to m.stop (m.numbered + 1)) (is_some m.local.intent) (not m.local.finished) live (and_right (is_well_formed request) (cond (is_begin request) (not (is_some m.local.intent)) (is_active m.local)) may) was
   where
     by : (b k u some unfinished : Bool) → (not b && (k || u)) ≡ false → cond b (not some) (some && unfinished) ≡ true → (k ≡ true → some ≡ true) → k ≡ false
@@ -137,7 +134,7 @@ not_killed m request live may was = by (is_begin request) m.killed (is_up_to m.s
 may_by : (good b begun ended : Bool) → (good && cond b (not begun) (begun && not ended)) ≡ true → (n_begun n_ended : Bool) → n_begun ≡ begun → n_ended ≡ ended → (good && cond b (not n_begun) (n_begun && not n_ended)) ≡ true
 may_by good b begun ended may n_begun n_ended p q = rw (p, q) may
 
-pub asks_may : (h : List Event) (me : ℕ) (m : Local) (request : Request) → may_ask m request ≡ true → Facts h me m → may_step (state_after h) me request ≡ true
+pub asks_may : (h : List Event) (me : ℕ) (m : Local) (request : Request) → may_be_called m request ≡ true → Facts h me m → may_step (state_after h) me request ≡ true
 asks_may h me m request may f = may_by (is_well_formed request) (is_begin request) (is_some m.intent) m.finished may (has_begun (state_after h).namespace me) (has_ended (state_after h).namespace me) f.begun f.ended
 
 -- a killed process's record
@@ -165,7 +162,7 @@ over_by new me m held i = by (has_begun (state_after new.items).namespace me) (h
     by : (b e : Bool) → e ≡ true → (b && not e) ≡ false
     by b e is = ap (λ x. b && not x) is ∙ and_false b
 
-pub memory_stopped : (past new : Reserved Event) (mid : List Event) (me : ℕ) (m : Memory) (held more : ℕ) (request : Request) → IsMemory past me m.local held m.killed → Interlude me past.items mid → new.items ≡ mid ++ kill_of (not m.killed) me → IsRun new.items → is_stopped m request ≡ true → may_ask m.local request ≡ true → IsMemory new me m.local more true
+pub memory_stopped : (past new : Reserved Event) (mid : List Event) (me : ℕ) (m : Memory) (held more : ℕ) (request : Request) → IsMemory past me m.local held m.killed → Interlude me past.items mid → new.items ≡ mid ++ kill_of (not m.killed) me → IsRun new.items → is_stopped m request ≡ true → may_be_called m.local request ≡ true → IsMemory new me m.local more true
 memory_stopped past new mid me m held more request i came grown run stopped may =
     let was_over : m.killed ≡ true → has_ended (state_after mid).namespace me ≡ true = λ is. came.ended ∙ (i.ended ∙ (ap (λ b. m.local.finished || b) is ∙ or_true m.local.finished)) in
     record {

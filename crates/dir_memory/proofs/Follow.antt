@@ -14,7 +14,7 @@ use Rattle.dir_state.specs.Parts.{kill_of}
 use Rattle.dir_state.specs.Answers.{listing_answer}
 use Rattle.dir_memory.specs.declared.planned.Planned.{Planned}
 use Rattle.dir_memory.specs.Schedules.{with_steps, due, not_due}
-use Rattle.dir_memory.specs.Memories.{Memory, Stopped, is_stopped, raised, is_to_fail, before_call, still_pending, answer_or_failure, Answered, RanOut, Listed, CutOff, once_begun, before_end, is_end_of}
+use Rattle.dir_memory.specs.Memories.{Memory, CallerWasKilled, is_stopped, raised, is_to_fail, before_call, still_pending, answer_or_failure, Answered, RanOut, Listed, CutOff, once_begun, before_end, is_end_of}
 use Rattle.dir_memory.proofs.Facts.{listing_local}
 
 pub answered_by : (old : Memory) (request : Request) (reply : Reply) (fails : Bool) (trace : List Event) (faults calls numbered : ℕ) (local : Local) (pending : List Planned) → is_listing_request request ≡ false → fails ≡ is_to_fail old request
@@ -44,7 +44,7 @@ same_memory m t t' f f' c c' n n' l l' p p' a b d e g h = rw (a, b, d, e, g, h) 
 pub stopped_by : (m : Memory) (request : Request) (listing : Bool) (mid trace : List Event) (pending : List Planned) (faults calls numbered : ℕ) → is_stopped m request ≡ true → listing ≡ is_listing_request request
     → mid ≡ with_steps m.process m.trace (due (m.numbered + 1) listing m.pending) → pending ≡ not_due (m.numbered + 1) listing m.pending → trace ≡ mid ++ kill_of (not m.killed) m.process → lives (state_after trace).namespace m.process ≡ false
     → faults ≡ raised m.faults → calls ≡ raised m.calls → numbered ≡ raised m.numbered
-    → Stopped m request (Refused Failed 0) (record { trace = trace; process = m.process; faults = faults; calls = calls; numbered = numbered; local = m.local; pending = pending; failing = m.failing; stop = m.stop; killed = true })
+    → CallerWasKilled m request (Refused Failed 0) (record { trace = trace; process = m.process; faults = faults; calls = calls; numbered = numbered; local = m.local; pending = pending; failing = m.failing; stop = m.stop; killed = true })
 stopped_by m request listing mid trace pending faults calls numbered stopped l came left t over fs cs ns = record {
   stopped = stopped;
   over = over;

@@ -17,7 +17,7 @@ use Rattle.dir_model.specs.Replies.{is_fallible}
 use Rattle.dir_model.specs.Calls.{may_step, is_allowed, event}
 use Rattle.dir_model.proofs.Chains.{state_after-push}
 use Rattle.dir_state.specs.Parts.{brings_nothing}
-use Rattle.dir_state.specs.Answers.{is_possible, step_of, shown, shown_of, listing_answer}
+use Rattle.dir_state.specs.Answers.{is_possible, step_of, shown, shown_or_refused, listing_answer}
 use Rattle.dir_state.proofs.Orders.{in_order_ascends}
 use Rattle.dir_state.proofs.Ending.{end_allowed, end_fails, items_ascend}
 use Rattle.dir_state.proofs.Answering.{plain_allowed, fault_allowed}
@@ -74,7 +74,7 @@ module _ (h : List Event) (me : ℕ) (request : Request) (may : may_step (state_
   shown_by (ListIn inner) (listed.Inside here folder through ever) is = refl
   shown_by r x is = cc
 
-  open_by : (o : Option OpenListing) → is_open_listing request o ≡ true → brings_nothing request (shown_of o) ≡ true
+  open_by : (o : Option OpenListing) → is_open_listing request o ≡ true → brings_nothing request (shown_or_refused o) ≡ true
   open_by None is = cc
   open_by (Some l) is = shown_by request l.listed is
 
@@ -91,7 +91,7 @@ module _ (h : List Event) (me : ℕ) (request : Request) (may : may_step (state_
   end_by (ListIn inner) (listed.Inside here folder through ever) is = items_ascend through
   end_by r x is = cc
 
-  ends_by : (o : Option OpenListing) → is_open_listing request o ≡ true → is_end_of request (shown_of o) ≡ true
+  ends_by : (o : Option OpenListing) → is_open_listing request o ≡ true → is_end_of request (shown_or_refused o) ≡ true
   ends_by None is = cc
   ends_by (Some l) is = end_by request l.listed is
 
@@ -117,7 +117,7 @@ module _ (h : List Event) (me : ℕ) (request : Request) (may : may_step (state_
   shown_fine (listed.Missing here) left is = cc
   shown_fine (listed.Inside here folder through ever) left is = cc
 
-  fine : (o : Option OpenListing) (left : ℕ) → shown_of o ≡ Refused Failed left → false ≡ true
+  fine : (o : Option OpenListing) (left : ℕ) → shown_or_refused o ≡ Refused Failed left → false ≡ true
   fine None left is = cc
   fine (Some l) left is = shown_fine l.listed left is
 

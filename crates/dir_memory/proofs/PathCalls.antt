@@ -14,7 +14,7 @@ use Rattle.dir_trait.specs.DirCalls.{DirAt, DirCall, AppendCall}
 use Rattle.dir_memory.specs.declared.path_call.PathCall.{PathCall}
 use Rattle.dir_memory.specs.declared.path_call.PathCall.TheVariants.{MakeDir, MakeFile, Sync, RemoveFile, RemoveDir}
 use Rattle.dir_memory.specs.PathCalls.{path_request}
-use Rattle.dir_memory.specs.Memories.{Memory, Follows, FollowsListing, RanOut, is_numbered, is_active, may_ask, short_of_memory, is_end_of, is_names_end, is_items_end}
+use Rattle.dir_memory.specs.Memories.{Memory, MemoryFollows, FollowsListing, RanOut, is_numbered, is_active, may_be_called, short_of_memory, is_end_of, is_names_end, is_items_end}
 use Rattle.dir_model.specs.declared.area.Area.{Area}
 use Rattle.dir_model.specs.declared.request.Request.TheVariants.{ListArea, ListIn}
 use Rattle.dir_model.proofs.Lists.{and_left}
@@ -51,7 +51,7 @@ good : (g some finished : Bool) → g ≡ true → some ≡ true → finished �
 good g some finished a b c = rw (a, b, c) refl
 
 -- an active process may ask about a path
-pub path_may : (m : Local) (kind : PathCall) (inner : Inner) → IsActive m → is_path inner.path ≡ true → may_ask m (path_request kind inner) ≡ true
+pub path_may : (m : Local) (kind : PathCall) (inner : Inner) → IsActive m → is_path inner.path ≡ true → may_be_called m (path_request kind inner) ≡ true
 path_may m MakeDir inner active path = good (is_path inner.path) (is_some m.intent) m.finished path active.begun active.unfinished
 path_may m MakeFile inner active path = good (is_path inner.path) (is_some m.intent) m.finished path active.begun active.unfinished
 path_may m Sync inner active path = good (is_path inner.path) (is_some m.intent) m.finished path active.begun active.unfinished
@@ -71,7 +71,7 @@ short_ran_out old request new is = rw is (record {
   same = refl;
 })
 
-pub short_follows : (old : Memory) (request : Request) (new : Memory) → new ≡ short_of_memory old → Follows old request (Refused NoMemory 0) new
+pub short_follows : (old : Memory) (request : Request) (new : Memory) → new ≡ short_of_memory old → MemoryFollows old request (Refused NoMemory 0) new
 short_follows old request new is = inr (inl (short_ran_out old request new is))
 
 pub short_lists : (old : Memory) (request : Request) (new : Memory) → new ≡ short_of_memory old → FollowsListing old request (Refused NoMemory 0) new

@@ -49,11 +49,3 @@ none_due p (x ∷ xs) none = by (p x) none (λ rest. none_due p xs rest)
     by : (b : Bool) → (b || list_any p xs) ≡ false → (list_any p xs ≡ false → filter p xs ≡ []) → cond b (x ∷ filter p xs) (filter p xs) ≡ []
     by true none rest = cc
     by false none rest = rest none
-
-pub none_later : {X : Type 0} (p : X → Bool) (xs : List X) → list_any p xs ≡ false → filter (λ x. not (p x)) xs ≡ xs
-none_later p [] none = refl
-none_later p (x ∷ xs) none = by (p x) none (λ rest. none_later p xs rest)
-  where
-    by : (b : Bool) → (b || list_any p xs) ≡ false → (list_any p xs ≡ false → filter (λ y. not (p y)) xs ≡ xs) → cond (not b) (x ∷ filter (λ y. not (p y)) xs) (filter (λ y. not (p y)) xs) ≡ x ∷ xs
-    by true none rest = cc
-    by false none rest = ap (λ l. x ∷ l) (rest none)

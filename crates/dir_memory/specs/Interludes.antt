@@ -4,7 +4,7 @@ use Rattle.dir_model.specs.declared.event.Event.{Event}
 use Rattle.dir_model.specs.declared.request.Request.{Request}
 use Rattle.dir_model.specs.State.{DirState, has_begun, has_ended}
 use Rattle.dir_model.specs.Trace.{state_after}
-use Rattle.dir_model.specs.Listings.{is_of, is_listing, is_open_listing}
+use Rattle.dir_model.specs.Listings.{is_listing_of, is_listing, is_open_listing}
 use Rattle.dir_model.specs.Calls.{Interference, IsRun}
 use Rattle.dir_model.specs.Local.{holdings_in}
 use Rattle.dir_memory.specs.declared.planned.Planned.{Planned}
@@ -12,7 +12,7 @@ use Rattle.dir_memory.specs.Schedules.{step_events, due, not_due}
 
 -- the listing that the process has open is about what is asked for
 abbrev pub is_about_open : DirState → ℕ → Request → Bool
-is_about_open s p request = is_open_listing request (find (is_of p) s.listings)
+is_about_open s p request = is_open_listing request (find (is_listing_of p) s.listings)
 
 -- only others took steps, and this process wasn't killed. A run stays one
 pub record Interlude (me : ℕ) (old new : List Event) : Type 0 where

@@ -41,8 +41,8 @@ abbrev pub local_of : LocalView → Local
 local_of v = record { intent = v.intent; finished = v.finished; holdings = v.held.items }
 
 -- as every directory is seen
-abbrev pub shown_of : Memory → DirAt
-shown_of m = record { process = m.process; faults = m.faults; calls = m.calls; local = m.local; trace = m.trace }
+abbrev pub dir_of_memory : Memory → DirAt
+dir_of_memory m = record { process = m.process; faults = m.faults; calls = m.calls; local = m.local; trace = m.trace }
 
 -- one more, up to the greatest number of a u64
 abbrev pub raised : ℕ → ℕ
@@ -102,15 +102,15 @@ pub record RanOut (old : Memory) (request : Request) (reply : Reply) (new : Memo
   pub same : new ≡ after_call old new.trace false request reply new.pending
 
 -- the process was killed before this call or an earlier one. The steps that were due came before
-pub record Stopped (old : Memory) (request : Request) (reply : Reply) (new : Memory) : Type 0 where
+pub record CallerWasKilled (old : Memory) (request : Request) (reply : Reply) (new : Memory) : Type 0 where
   pub stopped : is_stopped old request ≡ true
   pub over : lives (state_after new.trace).namespace old.process ≡ false
   pub replied : reply ≡ Refused Failed 0
   pub after : new ≡ record (after_call old (before_call old request ++ kill_of (not old.killed) old.process) true request reply (still_pending old request)) { killed = true }
 
 -- a call with a number that is no listing: it was answered in full, memory ran out, or the process was killed
-abbrev pub Follows : Memory → Request → Reply → Memory → Type 0
-Follows old request reply new = Answered old request reply new ⊎ (RanOut old request reply new ⊎ Stopped old request reply new)
+abbrev pub MemoryFollows : Memory → Request → Reply → Memory → Type 0
+MemoryFollows old request reply new = Answered old request reply new ⊎ (RanOut old request reply new ⊎ CallerWasKilled old request reply new)
 
 -- the trace once a listing has begun
 abbrev pub once_begun : Memory → Request → List Event
@@ -148,18 +148,18 @@ pub record CutOff (old : Memory) (request : Request) (reply : Reply) (new : Memo
   pub after : new ≡ after_call old (trace ++ event old.process request reply ∷ []) false request reply new.pending
 
 abbrev pub FollowsListing : Memory → Request → Reply → Memory → Type 0
-FollowsListing old request reply new = Listed old request reply new ⊎ (CutOff old request reply new ⊎ (RanOut old request reply new ⊎ Stopped old request reply new))
+FollowsListing old request reply new = Listed old request reply new ⊎ (CutOff old request reply new ⊎ (RanOut old request reply new ⊎ CallerWasKilled old request reply new))
 
 -- a handle or the process was given up, and nothing else has happened. After its kill that is no event
-abbrev pub given_up : Memory → Request → Memory
-given_up m request = record m { trace = m.trace ++ cond m.killed [] (event m.process request Done ∷ []); calls = raised m.calls; local = local_replied m.local request Done }
+abbrev pub memory_given_up : Memory → Request → Memory
+memory_given_up m request = record m { trace = m.trace ++ cond m.killed [] (event m.process request Done ∷ []); calls = raised m.calls; local = local_replied m.local request Done }
 
 -- a begin comes first, and every other request from an active process
 abbrev pub is_active : Local → Bool
 is_active m = is_some m.intent && not m.finished
 
-abbrev pub may_ask : Local → Request → Bool
-may_ask m request = is_well_formed request && cond (is_begin request) (not (is_some m.intent)) (is_active m)
+abbrev pub may_be_called : Local → Request → Bool
+may_be_called m request = is_well_formed request && cond (is_begin request) (not (is_some m.intent)) (is_active m)
 
 -- a step before a call that has passed never comes
 abbrev pub scheduled : Memory → Planned → Memory
@@ -185,10 +185,10 @@ abbrev pub is_numbered : Request → Bool
 is_numbered request = is_begin request || is_fallible request
 
 -- the replies that stand for an answer that carries nothing, a handle, or bytes
-abbrev pub is_plain : Reply → Bool
-is_plain Done = true
-is_plain (Refused error left) = left == 0
-is_plain _ = false
+abbrev pub is_plain_reply : Reply → Bool
+is_plain_reply Done = true
+is_plain_reply (Refused error left) = left == 0
+is_plain_reply _ = false
 
 abbrev pub is_opening : Reply → Bool
 is_opening (Opened handle) = true
@@ -200,13 +200,13 @@ is_reading (Read bytes) = true
 is_reading (Refused error left) = left == 0
 is_reading _ = false
 
-abbrev pub is_read : Request → Bool
-is_read (ReadIn inner at room) = true
-is_read _ = false
+abbrev pub is_read_request : Request → Bool
+is_read_request (ReadIn inner at room) = true
+is_read_request _ = false
 
 -- the reply is of the call's kind
 abbrev pub has_shape : Request → Reply → Bool
-has_shape request reply = cond (asks_for_handle request) (is_opening reply) (cond (is_read request) (is_reading reply) (is_plain reply))
+has_shape request reply = cond (asks_for_handle request) (is_opening reply) (cond (is_read_request request) (is_reading reply) (is_plain_reply reply))
 
 abbrev pub is_names_end : Reply → Bool
 is_names_end (Names names) = true

@@ -16,8 +16,8 @@ pub record SinkMemory : Type 0 where
   pub failing : List ℕ
 
 -- as every sink is seen
-abbrev pub shown_of : SinkMemory → SinkAt
-shown_of m = record { bytes = m.bytes; faults = m.faults; shortages = m.shortages }
+abbrev pub sink_of_memory : SinkMemory → SinkAt
+sink_of_memory m = record { bytes = m.bytes; faults = m.faults; shortages = m.shortages }
 
 abbrev pub is_write_to_fail : SinkMemory → Bool
 is_write_to_fail m = list_any (λ number. number == m.writes + 1) m.failing
@@ -34,6 +34,6 @@ IsWriteAnswer m piece (Ok n) = (n ≡ length piece) × (is_write_to_fail m ≡ f
 IsWriteAnswer m piece (Err Failed) = is_write_to_fail m ≡ true
 IsWriteAnswer m piece (Err NoMemory) = is_write_to_fail m ≡ false
 
-pub record Writes (old : SinkMemory) (piece : List ℕ) (answer : Result ℕ SinkError) (new : SinkMemory) : Type 0 where
+pub record SinkMemoryWrites (old : SinkMemory) (piece : List ℕ) (answer : Result ℕ SinkError) (new : SinkMemory) : Type 0 where
   pub answered : IsWriteAnswer old piece answer
   pub after : new ≡ after_write old piece answer

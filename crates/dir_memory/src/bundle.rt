@@ -34,7 +34,7 @@ impl Model for MemoryBundle {
 impl MemoryBundle {
     ghost use Rattle.std.specs.Prelude.{◌≡◌, ◌≤◌, ◌++◌, ◌∷◌, [], IfOk, OnOk, OnErr};
     ghost use Rattle.dir_trait.specs.Bundles.{request_at};
-    ghost use Rattle.dir_memory.specs.MemoryBundles.{with_entry, is_call_to_fail, after_call, Entered, with_given};
+    ghost use Rattle.dir_memory.specs.MemoryBundles.{bundle_with_entry, is_bundle_failure_due, bundle_after_call, Entered, with_given};
 
     /// A root without entries, and no call is to fail. Takes no memory.
     pub fn new(alloc: Global) -> MemoryBundle
@@ -64,7 +64,7 @@ impl MemoryBundle {
     /// Puts a file at a path, in place of what stands there, with the directories above it. Refused only
     /// where memory ran out.
     pub fn file(self, alloc: Global, path: &str, bytes: &[u8]) -> Result<MemoryBundle, NoMemory>
-        ensures { IfOk result (λ bundle. bundle ≡ with_entry self path.now (Node.File bytes.now)) }
+        ensures { IfOk result (λ bundle. bundle ≡ bundle_with_entry self path.now (Node.File bytes.now)) }
     {
         let bytes = Bytes::of(alloc, bytes)?;
         self.put(alloc, path, Node::File(bytes))
@@ -73,7 +73,7 @@ impl MemoryBundle {
     /// Puts a symbolic link at a path, in place of what stands there, with the directories above it.
     /// Refused only where memory ran out.
     pub fn link(self, alloc: Global, path: &str, target: &str) -> Result<MemoryBundle, NoMemory>
-        ensures { IfOk result (λ bundle. bundle ≡ with_entry self path.now (Node.Link target.now)) }
+        ensures { IfOk result (λ bundle. bundle ≡ bundle_with_entry self path.now (Node.Link target.now)) }
     {
         let target = Bytes::of(alloc, target.as_bytes())?;
         self.put(alloc, path, Node::Link(target))
@@ -82,7 +82,7 @@ impl MemoryBundle {
     /// Puts a directory at a path, with the directories above it. One that stands there keeps what it
     /// holds. Refused only where memory ran out.
     pub fn dir(self, alloc: Global, path: &str) -> Result<MemoryBundle, NoMemory>
-        ensures { IfOk result (λ bundle. bundle ≡ with_entry self path.now Node.Directory) }
+        ensures { IfOk result (λ bundle. bundle ≡ bundle_with_entry self path.now Node.Directory) }
     {
         self.put(alloc, path, Node::Directory)
     }
@@ -90,13 +90,13 @@ impl MemoryBundle {
     /// Puts a thing of another kind at a path, in place of what stands there, with the directories above
     /// it. Refused only where memory ran out.
     pub fn other(self, alloc: Global, path: &str) -> Result<MemoryBundle, NoMemory>
-        ensures { IfOk result (λ bundle. bundle ≡ with_entry self path.now Node.Other) }
+        ensures { IfOk result (λ bundle. bundle ≡ bundle_with_entry self path.now Node.Other) }
     {
         self.put(alloc, path, Node::Other)
     }
 
     fn put(self, alloc: Global, path: &str, node: Node) -> Result<MemoryBundle, NoMemory>
-        ensures { IfOk result (λ bundle. bundle ≡ with_entry self path.now node) }
+        ensures { IfOk result (λ bundle. bundle ≡ bundle_with_entry self path.now node) }
     {
         let path = Bytes::of(alloc, path.as_bytes())?;
         let mut bundle = self;
@@ -106,8 +106,8 @@ impl MemoryBundle {
 
     /// Counts a call, and a fault where it is listed to fail.
     fn count_call(&mut self) -> bool
-        ensures fails { result ≡ is_call_to_fail self.old }
-        ensures after { self.new ≡ after_call self.old [] }
+        ensures fails { result ≡ is_bundle_failure_due self.old }
+        ensures after { self.new ≡ bundle_after_call self.old [] }
         ensures faults { self.old.faults ≤ self.new.faults }
     {
         let fails = is_listed(&self.failing, self.calls);
@@ -169,12 +169,12 @@ fn fill_from(room: &mut [u8], bytes: &[u8], at: u64) -> usize
 impl Bundle for MemoryBundle {
     ghost use Rattle.std.specs.Prelude.{◌≡◌, ◌≢◌, ◌≤◌, true, length, None, Some, IfOk, IsErrOf, IsSomeAnd};
     ghost use Rattle.dir_model.specs.Causes.{Rose};
-    ghost use Rattle.dir_trait.specs.Bundles.{kind_at, file_bytes, link_target, bytes_given, Fills, IsListing, Lists, BundleCall, request_at};
-    ghost use Rattle.dir_memory.specs.MemoryBundles.{tree_of, shown_of, AnswersCall, AnswersListing};
+    ghost use Rattle.dir_trait.specs.Bundles.{kind_at, bytes_of_node, link_target, bytes_given, Fills, IsBundleListing, Lists, BundleCall, request_at};
+    ghost use Rattle.dir_memory.specs.MemoryBundles.{bundle_tree_of, bundle_of_memory, AnswersCall, AnswersListing};
 
     ghost observed = { true };
 
-    ghost shown = { λ b. shown_of b };
+    ghost shown = { λ b. bundle_of_memory b };
 
     fn faults(&self) -> u64 {
         self.faults
@@ -190,9 +190,9 @@ impl Bundle for MemoryBundle {
         ensures cause { IsErrOf result BundleError.Failed → Rose self.old.faults self.new.faults }
         ensures most { IfOk result (λ n. n ≤ length room.old) }
         ensures read { IfOk result (λ n. true ≡ true
-            → IsSomeAnd (file_bytes (tree_of self.old.entries path.now)) (λ bytes. Fills bytes at room.old n room.new)) }
-        ensures missing { IsErrOf result BundleError.Missing → true ≡ true → file_bytes (tree_of self.old.entries path.now) ≡ None }
-        ensures called { BundleCall true (shown_of self.old) (request_at BundleAction.Read path.now) (bytes_given result) (shown_of self.new) }
+            → IsSomeAnd (bytes_of_node (bundle_tree_of self.old.entries path.now)) (λ bytes. Fills bytes at room.old n room.new)) }
+        ensures missing { IsErrOf result BundleError.Missing → true ≡ true → bytes_of_node (bundle_tree_of self.old.entries path.now) ≡ None }
+        ensures called { BundleCall true (bundle_of_memory self.old) (request_at BundleAction.Read path.now) (bytes_given result) (bundle_of_memory self.new) }
         ensures answers { AnswersCall self.old (request_at BundleAction.Read path.now) result self.new }
     {
         self.enter(alloc, BundleAction::Read, path)?;
@@ -213,9 +213,9 @@ impl Bundle for MemoryBundle {
         ensures cause { IsErrOf result BundleError.Failed → Rose self.old.faults self.new.faults }
         ensures most { IfOk result (λ n. n ≤ length room.old) }
         ensures read { IfOk result (λ n. true ≡ true
-            → IsSomeAnd (link_target (tree_of self.old.entries path.now)) (λ target. Fills target 0 room.old n room.new)) }
-        ensures missing { IsErrOf result BundleError.Missing → true ≡ true → link_target (tree_of self.old.entries path.now) ≡ None }
-        ensures called { BundleCall true (shown_of self.old) (request_at BundleAction.ReadLink path.now) (bytes_given result) (shown_of self.new) }
+            → IsSomeAnd (link_target (bundle_tree_of self.old.entries path.now)) (λ target. Fills target 0 room.old n room.new)) }
+        ensures missing { IsErrOf result BundleError.Missing → true ≡ true → link_target (bundle_tree_of self.old.entries path.now) ≡ None }
+        ensures called { BundleCall true (bundle_of_memory self.old) (request_at BundleAction.ReadLink path.now) (bytes_given result) (bundle_of_memory self.new) }
         ensures answers { AnswersCall self.old (request_at BundleAction.ReadLink path.now) result self.new }
     {
         self.enter(alloc, BundleAction::ReadLink, path)?;
@@ -229,11 +229,11 @@ impl Bundle for MemoryBundle {
 
     fn list(&mut self, alloc: Global, path: &str) -> Result<BundleItems, BundleError>
         ensures cause { IsErrOf result BundleError.Failed → Rose self.old.faults self.new.faults }
-        ensures ordered { IfOk result IsListing }
-        ensures listed { IfOk result (λ items. true ≡ true → Lists (tree_of self.old.entries) path.now items) }
+        ensures ordered { IfOk result IsBundleListing }
+        ensures listed { IfOk result (λ items. true ≡ true → Lists (bundle_tree_of self.old.entries) path.now items) }
         ensures missing { IsErrOf result BundleError.Missing → true ≡ true
-            → kind_at (tree_of self.old.entries path.now) ≢ Some BundleKind.Dir }
-        ensures called { BundleCall true (shown_of self.old) (request_at BundleAction.List path.now) 0 (shown_of self.new) }
+            → kind_at (bundle_tree_of self.old.entries path.now) ≢ Some BundleKind.Dir }
+        ensures called { BundleCall true (bundle_of_memory self.old) (request_at BundleAction.List path.now) 0 (bundle_of_memory self.new) }
         ensures answers { AnswersListing self.old (request_at BundleAction.List path.now) result self.new }
     {
         self.enter(alloc, BundleAction::List, path)?;

@@ -1,8 +1,8 @@
 // A data folder in memory, as every directory.
 ghost use Rattle.std.specs.Prelude.{◌≡◌, ◌≤◌, ℕ, List, length, take, drop, true, IfOk};
 ghost use Rattle.dir_model.specs.Replies.{done_reply, opened_reply, names_reply, items_reply, read_reply};
-ghost use Rattle.dir_trait.specs.DirCalls.{IsFilled};
-ghost use Rattle.dir_memory.specs.Memories.{is_plain, is_opening, is_reading, is_names_end, is_items_end};
+ghost use Rattle.dir_trait.specs.DirCalls.{KeepsUnreadRoom};
+ghost use Rattle.dir_memory.specs.Memories.{is_plain_reply, is_opening, is_reading, is_names_end, is_items_end};
 
 use crate::memory::MemoryDir;
 use crate::path_call::PathCall;
@@ -15,7 +15,7 @@ use std::alloc::Global;
 
 // The answers that replies stand for.
 fn done_of(reply: Reply) -> Result<(), DirError>
-    requires { is_plain reply ≡ true }
+    requires { is_plain_reply reply ≡ true }
     ensures { done_reply result ≡ reply }
 {
     match reply {
@@ -70,7 +70,7 @@ fn filled(reply: Reply, room: &mut [u8]) -> Result<usize, DirError>
     requires shape { is_reading reply ≡ true }
     requires fits { (bytes : List ℕ) → reply ≡ Reply.Read bytes → length bytes ≤ length room.old }
     ensures reply { read_reply room.new result ≡ reply }
-    ensures filled { IsFilled room.old result room.new }
+    ensures filled { KeepsUnreadRoom room.old result room.new }
 {
     match reply {
         Reply::Read(bytes) => {
@@ -90,7 +90,7 @@ impl MemoryDir {
     ghost use Rattle.dir_model.specs.Replies.{asks_for_handle, asks_for_nothing, done_reply, opened_reply, may_refuse};
     ghost use Rattle.dir_model.specs.Local.{IsActive, IsUnopened};
     ghost use Rattle.dir_trait.specs.DirCalls.{DirCall};
-    ghost use Rattle.dir_memory.specs.Memories.{Follows, may_ask, is_numbered, shown_of, short_of_memory};
+    ghost use Rattle.dir_memory.specs.Memories.{MemoryFollows, may_be_called, is_numbered, dir_of_memory, short_of_memory};
     ghost use Rattle.dir_memory.specs.PathCalls.{path_request};
 
     // A call with a number whose Ok carries nothing.
@@ -98,11 +98,11 @@ impl MemoryDir {
         requires numbered { is_numbered request ≡ true }
         requires nothing { asks_for_nothing request ≡ true }
         requires plain { is_listing_request request ≡ false }
-        requires may { may_ask self.old.local request ≡ true }
+        requires may { may_be_called self.old.local request ≡ true }
         ensures cause { IsErrOf result DirError.Failed → Rose self.old.faults self.new.faults }
         ensures refusals { IfErr result (λ e. may_refuse request e ≡ true) }
-        ensures called { DirCall true (shown_of self.old) request (done_reply result) (shown_of self.new) }
-        ensures follows { Follows self.old request (done_reply result) self.new }
+        ensures called { DirCall true (dir_of_memory self.old) request (done_reply result) (dir_of_memory self.new) }
+        ensures follows { MemoryFollows self.old request (done_reply result) self.new }
     {
         done_of(self.call(request))
     }
@@ -112,12 +112,12 @@ impl MemoryDir {
         requires numbered { is_numbered request ≡ true }
         requires handle { asks_for_handle request ≡ true }
         requires plain { is_listing_request request ≡ false }
-        requires may { may_ask self.old.local request ≡ true }
+        requires may { may_be_called self.old.local request ≡ true }
         ensures cause { IsErrOf result DirError.Failed → Rose self.old.faults self.new.faults }
         ensures refusals { IfErr result (λ e. may_refuse request e ≡ true) }
         ensures unopened { IfOk result (λ handle. IsUnopened self.old.local handle) }
-        ensures called { DirCall true (shown_of self.old) request (opened_reply result) (shown_of self.new) }
-        ensures follows { Follows self.old request (opened_reply result) self.new }
+        ensures called { DirCall true (dir_of_memory self.old) request (opened_reply result) (dir_of_memory self.new) }
+        ensures follows { MemoryFollows self.old request (opened_reply result) self.new }
     {
         opened_of(self.call(request))
     }
@@ -140,8 +140,8 @@ impl MemoryDir {
     ghost use Rattle.dir_model.specs.Listings.{item_names};
     ghost use Rattle.dir_model.specs.Replies.{done_reply, names_reply, items_reply, read_reply, may_refuse};
     ghost use Rattle.dir_model.specs.Local.{IsActive};
-    ghost use Rattle.dir_trait.specs.DirCalls.{DirCall, AppendCall, ListCall, IsFilled};
-    ghost use Rattle.dir_memory.specs.Memories.{Follows, FollowsListing, shown_of};
+    ghost use Rattle.dir_trait.specs.DirCalls.{DirCall, AppendCall, ListCall, KeepsUnreadRoom};
+    ghost use Rattle.dir_memory.specs.Memories.{MemoryFollows, FollowsListing, dir_of_memory};
     ghost use Rattle.dir_memory.specs.PathCalls.{path_request};
 
     fn path_call(
@@ -155,8 +155,8 @@ impl MemoryDir {
         requires path { is_path path.now ≡ true }
         ensures cause { IsErrOf result DirError.Failed → Rose self.old.faults self.new.faults }
         ensures refusals { IfErr result (λ e. may_refuse (path_request kind (record { spot = spot; path = path.now })) e ≡ true) }
-        ensures called { DirCall true (shown_of self.old) (path_request kind (record { spot = spot; path = path.now })) (done_reply result) (shown_of self.new) }
-        ensures follows { Follows self.old (path_request kind (record { spot = spot; path = path.now })) (done_reply result) self.new }
+        ensures called { DirCall true (dir_of_memory self.old) (path_request kind (record { spot = spot; path = path.now })) (done_reply result) (dir_of_memory self.new) }
+        ensures follows { MemoryFollows self.old (path_request kind (record { spot = spot; path = path.now })) (done_reply result) self.new }
     {
         match inner_at(alloc, spot, path) {
             Ok(inner) => self.plain_call(kind.request(inner)),
@@ -178,8 +178,8 @@ impl MemoryDir {
         requires path { is_path path.now ≡ true }
         ensures cause { IsErrOf result DirError.Failed → Rose self.old.faults self.new.faults }
         ensures refusals { IfErr result (λ e. may_refuse (Request.AppendIn (record { spot = spot; path = path.now }) piece.now) e ≡ true) }
-        ensures called { DirCall true (shown_of self.old) (Request.AppendIn (record { spot = spot; path = path.now }) piece.now) (done_reply result) (shown_of self.new) }
-        ensures follows { Follows self.old (Request.AppendIn (record { spot = spot; path = path.now }) piece.now) (done_reply result) self.new }
+        ensures called { DirCall true (dir_of_memory self.old) (Request.AppendIn (record { spot = spot; path = path.now }) piece.now) (done_reply result) (dir_of_memory self.new) }
+        ensures follows { MemoryFollows self.old (Request.AppendIn (record { spot = spot; path = path.now }) piece.now) (done_reply result) self.new }
     {
         match append_at(alloc, spot, path, piece) {
             Ok(request) => self.plain_call(request),
@@ -202,9 +202,9 @@ impl MemoryDir {
         requires path { is_path path.now ≡ true }
         ensures cause { IsErrOf result DirError.Failed → Rose self.old.faults self.new.faults }
         ensures refusals { IfErr result (λ e. may_refuse (Request.ReadIn (record { spot = spot; path = path.now }) at (length room.old)) e ≡ true) }
-        ensures filled { IsFilled room.old result room.new }
-        ensures called { DirCall true (shown_of self.old) (Request.ReadIn (record { spot = spot; path = path.now }) at (length room.old)) (read_reply room.new result) (shown_of self.new) }
-        ensures follows { Follows self.old (Request.ReadIn (record { spot = spot; path = path.now }) at (length room.old)) (read_reply room.new result) self.new }
+        ensures filled { KeepsUnreadRoom room.old result room.new }
+        ensures called { DirCall true (dir_of_memory self.old) (Request.ReadIn (record { spot = spot; path = path.now }) at (length room.old)) (read_reply room.new result) (dir_of_memory self.new) }
+        ensures follows { MemoryFollows self.old (Request.ReadIn (record { spot = spot; path = path.now }) at (length room.old)) (read_reply room.new result) self.new }
     {
         match read_at(alloc, spot, path, at, room) {
             Ok(request) => filled(self.call(request), room),
@@ -221,7 +221,7 @@ impl MemoryDir {
         ensures cause { IsErrOf result DirError.Failed → Rose self.old.faults self.new.faults }
         ensures refusals { IfErr result (λ e. may_refuse (Request.ListIn (record { spot = spot; path = path.now })) e ≡ true) }
         ensures ordered { IfOk result (λ items. IsStrictlySortedBy (slice_cmp nat_cmp) (item_names items)) }
-        ensures called { ListCall true (shown_of self.old) (Request.ListIn (record { spot = spot; path = path.now })) (items_reply result) (shown_of self.new) }
+        ensures called { ListCall true (dir_of_memory self.old) (Request.ListIn (record { spot = spot; path = path.now })) (items_reply result) (dir_of_memory self.new) }
         ensures follows { FollowsListing self.old (Request.ListIn (record { spot = spot; path = path.now })) (items_reply result) self.new }
     {
         match inner_at(alloc, spot, path) {
@@ -238,7 +238,7 @@ impl MemoryDir {
         ensures cause { IsErrOf result DirError.Failed → Rose self.old.faults self.new.faults }
         ensures refusals { IfErr result (λ e. may_refuse (Request.ListArea area) e ≡ true) }
         ensures ordered { IfOk result (λ names. IsStrictlySortedBy (slice_cmp nat_cmp) names) }
-        ensures called { ListCall true (shown_of self.old) (Request.ListArea area) (names_reply result) (shown_of self.new) }
+        ensures called { ListCall true (dir_of_memory self.old) (Request.ListArea area) (names_reply result) (dir_of_memory self.new) }
         ensures follows { FollowsListing self.old (Request.ListArea area) (names_reply result) self.new }
     {
         names_of(self.list(Request::ListArea(area)))
@@ -274,12 +274,12 @@ impl Dir for MemoryDir {
     ghost use Rattle.dir_model.specs.Listings.{item_names};
     ghost use Rattle.dir_model.specs.Replies.{done_reply, opened_reply, names_reply, items_reply, read_reply, may_refuse};
     ghost use Rattle.dir_model.specs.Local.{nothing_local, IsActive, IsUnopened, IsOpen, IsUnlocked};
-    ghost use Rattle.dir_trait.specs.DirCalls.{DirCall, AppendCall, ListCall, IsFilled};
-    ghost use Rattle.dir_memory.specs.Memories.{Follows, FollowsListing, given_up, shown_of};
+    ghost use Rattle.dir_trait.specs.DirCalls.{DirCall, AppendCall, ListCall, KeepsUnreadRoom};
+    ghost use Rattle.dir_memory.specs.Memories.{MemoryFollows, FollowsListing, memory_given_up, dir_of_memory};
 
     ghost observed = { true };
 
-    ghost shown = { λ d. shown_of d };
+    ghost shown = { λ d. dir_of_memory d };
 
     fn faults(&self) -> u64 {
         self.fault_count()
@@ -293,8 +293,8 @@ impl Dir for MemoryDir {
         requires fresh { self.old.local ≡ nothing_local }
         ensures cause { IsErrOf result DirError.Failed → Rose self.old.faults self.new.faults }
         ensures refusals { IfErr result (λ e. may_refuse (Request.Begin intent) e ≡ true) }
-        ensures called { DirCall true (shown_of self.old) (Request.Begin intent) (done_reply result) (shown_of self.new) }
-        ensures follows { Follows self.old (Request.Begin intent) (done_reply result) self.new }
+        ensures called { DirCall true (dir_of_memory self.old) (Request.Begin intent) (done_reply result) (dir_of_memory self.new) }
+        ensures follows { MemoryFollows self.old (Request.Begin intent) (done_reply result) self.new }
     {
         self.plain_call(Request::Begin(intent))
     }
@@ -303,8 +303,8 @@ impl Dir for MemoryDir {
         requires active { IsActive self.old.local }
         ensures cause { IsErrOf result DirError.Failed → Rose self.old.faults self.new.faults }
         ensures refusals { IfErr result (λ e. may_refuse (Request.MakeFolder spot) e ≡ true) }
-        ensures called { DirCall true (shown_of self.old) (Request.MakeFolder spot) (done_reply result) (shown_of self.new) }
-        ensures follows { Follows self.old (Request.MakeFolder spot) (done_reply result) self.new }
+        ensures called { DirCall true (dir_of_memory self.old) (Request.MakeFolder spot) (done_reply result) (dir_of_memory self.new) }
+        ensures follows { MemoryFollows self.old (Request.MakeFolder spot) (done_reply result) self.new }
     {
         self.plain_call(Request::MakeFolder(spot))
     }
@@ -313,8 +313,8 @@ impl Dir for MemoryDir {
         requires active { IsActive self.old.local }
         ensures cause { IsErrOf result DirError.Failed → Rose self.old.faults self.new.faults }
         ensures refusals { IfErr result (λ e. may_refuse (Request.MoveFolder from to) e ≡ true) }
-        ensures called { DirCall true (shown_of self.old) (Request.MoveFolder from to) (done_reply result) (shown_of self.new) }
-        ensures follows { Follows self.old (Request.MoveFolder from to) (done_reply result) self.new }
+        ensures called { DirCall true (dir_of_memory self.old) (Request.MoveFolder from to) (done_reply result) (dir_of_memory self.new) }
+        ensures follows { MemoryFollows self.old (Request.MoveFolder from to) (done_reply result) self.new }
     {
         self.plain_call(Request::MoveFolder { from, to })
     }
@@ -323,8 +323,8 @@ impl Dir for MemoryDir {
         requires active { IsActive self.old.local }
         ensures cause { IsErrOf result DirError.Failed → Rose self.old.faults self.new.faults }
         ensures refusals { IfErr result (λ e. may_refuse (Request.SyncArea area) e ≡ true) }
-        ensures called { DirCall true (shown_of self.old) (Request.SyncArea area) (done_reply result) (shown_of self.new) }
-        ensures follows { Follows self.old (Request.SyncArea area) (done_reply result) self.new }
+        ensures called { DirCall true (dir_of_memory self.old) (Request.SyncArea area) (done_reply result) (dir_of_memory self.new) }
+        ensures follows { MemoryFollows self.old (Request.SyncArea area) (done_reply result) self.new }
     {
         self.plain_call(Request::SyncArea(area))
     }
@@ -333,8 +333,8 @@ impl Dir for MemoryDir {
         requires active { IsActive self.old.local }
         ensures cause { IsErrOf result DirError.Failed → Rose self.old.faults self.new.faults }
         ensures refusals { IfErr result (λ e. may_refuse (Request.RemoveFolder spot) e ≡ true) }
-        ensures called { DirCall true (shown_of self.old) (Request.RemoveFolder spot) (done_reply result) (shown_of self.new) }
-        ensures follows { Follows self.old (Request.RemoveFolder spot) (done_reply result) self.new }
+        ensures called { DirCall true (dir_of_memory self.old) (Request.RemoveFolder spot) (done_reply result) (dir_of_memory self.new) }
+        ensures follows { MemoryFollows self.old (Request.RemoveFolder spot) (done_reply result) self.new }
     {
         self.plain_call(Request::RemoveFolder(spot))
     }
@@ -345,8 +345,8 @@ impl Dir for MemoryDir {
         requires unlocked { IsUnlocked self.old.local handle }
         ensures cause { IsErrOf result DirError.Failed → Rose self.old.faults self.new.faults }
         ensures refusals { IfErr result (λ e. may_refuse (Request.TryLock handle mode) e ≡ true) }
-        ensures called { DirCall true (shown_of self.old) (Request.TryLock handle mode) (done_reply result) (shown_of self.new) }
-        ensures follows { Follows self.old (Request.TryLock handle mode) (done_reply result) self.new }
+        ensures called { DirCall true (dir_of_memory self.old) (Request.TryLock handle mode) (done_reply result) (dir_of_memory self.new) }
+        ensures follows { MemoryFollows self.old (Request.TryLock handle mode) (done_reply result) self.new }
     {
         self.plain_call(Request::TryLock { handle, mode })
     }
@@ -356,8 +356,8 @@ impl Dir for MemoryDir {
         ensures cause { IsErrOf result DirError.Failed → Rose self.old.faults self.new.faults }
         ensures refusals { IfErr result (λ e. may_refuse (Request.Open spot which) e ≡ true) }
         ensures unopened { IfOk result (λ handle. IsUnopened self.old.local handle) }
-        ensures called { DirCall true (shown_of self.old) (Request.Open spot which) (opened_reply result) (shown_of self.new) }
-        ensures follows { Follows self.old (Request.Open spot which) (opened_reply result) self.new }
+        ensures called { DirCall true (dir_of_memory self.old) (Request.Open spot which) (opened_reply result) (dir_of_memory self.new) }
+        ensures follows { MemoryFollows self.old (Request.Open spot which) (opened_reply result) self.new }
     {
         self.open_call(Request::Open { spot, which })
     }
@@ -367,8 +367,8 @@ impl Dir for MemoryDir {
         ensures cause { IsErrOf result DirError.Failed → Rose self.old.faults self.new.faults }
         ensures refusals { IfErr result (λ e. may_refuse (Request.OpenArea area) e ≡ true) }
         ensures unopened { IfOk result (λ handle. IsUnopened self.old.local handle) }
-        ensures called { DirCall true (shown_of self.old) (Request.OpenArea area) (opened_reply result) (shown_of self.new) }
-        ensures follows { Follows self.old (Request.OpenArea area) (opened_reply result) self.new }
+        ensures called { DirCall true (dir_of_memory self.old) (Request.OpenArea area) (opened_reply result) (dir_of_memory self.new) }
+        ensures follows { MemoryFollows self.old (Request.OpenArea area) (opened_reply result) self.new }
     {
         self.open_call(Request::OpenArea(area))
     }
@@ -378,8 +378,8 @@ impl Dir for MemoryDir {
         requires path { is_path path.now ≡ true }
         ensures cause { IsErrOf result DirError.Failed → Rose self.old.faults self.new.faults }
         ensures refusals { IfErr result (λ e. may_refuse (Request.MakeDirIn (record { spot = spot; path = path.now })) e ≡ true) }
-        ensures called { DirCall true (shown_of self.old) (Request.MakeDirIn (record { spot = spot; path = path.now })) (done_reply result) (shown_of self.new) }
-        ensures follows { Follows self.old (Request.MakeDirIn (record { spot = spot; path = path.now })) (done_reply result) self.new }
+        ensures called { DirCall true (dir_of_memory self.old) (Request.MakeDirIn (record { spot = spot; path = path.now })) (done_reply result) (dir_of_memory self.new) }
+        ensures follows { MemoryFollows self.old (Request.MakeDirIn (record { spot = spot; path = path.now })) (done_reply result) self.new }
     {
         self.path_call(alloc, PathCall::MakeDir, spot, path)
     }
@@ -389,8 +389,8 @@ impl Dir for MemoryDir {
         requires path { is_path path.now ≡ true }
         ensures cause { IsErrOf result DirError.Failed → Rose self.old.faults self.new.faults }
         ensures refusals { IfErr result (λ e. may_refuse (Request.MakeFileIn (record { spot = spot; path = path.now })) e ≡ true) }
-        ensures called { DirCall true (shown_of self.old) (Request.MakeFileIn (record { spot = spot; path = path.now })) (done_reply result) (shown_of self.new) }
-        ensures follows { Follows self.old (Request.MakeFileIn (record { spot = spot; path = path.now })) (done_reply result) self.new }
+        ensures called { DirCall true (dir_of_memory self.old) (Request.MakeFileIn (record { spot = spot; path = path.now })) (done_reply result) (dir_of_memory self.new) }
+        ensures follows { MemoryFollows self.old (Request.MakeFileIn (record { spot = spot; path = path.now })) (done_reply result) self.new }
     {
         self.path_call(alloc, PathCall::MakeFile, spot, path)
     }
@@ -400,8 +400,8 @@ impl Dir for MemoryDir {
         requires path { is_path path.now ≡ true }
         ensures cause { IsErrOf result DirError.Failed → Rose self.old.faults self.new.faults }
         ensures refusals { IfErr result (λ e. may_refuse (Request.SyncIn (record { spot = spot; path = path.now })) e ≡ true) }
-        ensures called { DirCall true (shown_of self.old) (Request.SyncIn (record { spot = spot; path = path.now })) (done_reply result) (shown_of self.new) }
-        ensures follows { Follows self.old (Request.SyncIn (record { spot = spot; path = path.now })) (done_reply result) self.new }
+        ensures called { DirCall true (dir_of_memory self.old) (Request.SyncIn (record { spot = spot; path = path.now })) (done_reply result) (dir_of_memory self.new) }
+        ensures follows { MemoryFollows self.old (Request.SyncIn (record { spot = spot; path = path.now })) (done_reply result) self.new }
     {
         self.path_call(alloc, PathCall::Sync, spot, path)
     }
@@ -411,8 +411,8 @@ impl Dir for MemoryDir {
         requires path { is_path path.now ≡ true }
         ensures cause { IsErrOf result DirError.Failed → Rose self.old.faults self.new.faults }
         ensures refusals { IfErr result (λ e. may_refuse (Request.RemoveFileIn (record { spot = spot; path = path.now })) e ≡ true) }
-        ensures called { DirCall true (shown_of self.old) (Request.RemoveFileIn (record { spot = spot; path = path.now })) (done_reply result) (shown_of self.new) }
-        ensures follows { Follows self.old (Request.RemoveFileIn (record { spot = spot; path = path.now })) (done_reply result) self.new }
+        ensures called { DirCall true (dir_of_memory self.old) (Request.RemoveFileIn (record { spot = spot; path = path.now })) (done_reply result) (dir_of_memory self.new) }
+        ensures follows { MemoryFollows self.old (Request.RemoveFileIn (record { spot = spot; path = path.now })) (done_reply result) self.new }
     {
         self.path_call(alloc, PathCall::RemoveFile, spot, path)
     }
@@ -422,8 +422,8 @@ impl Dir for MemoryDir {
         requires path { is_path path.now ≡ true }
         ensures cause { IsErrOf result DirError.Failed → Rose self.old.faults self.new.faults }
         ensures refusals { IfErr result (λ e. may_refuse (Request.RemoveDirIn (record { spot = spot; path = path.now })) e ≡ true) }
-        ensures called { DirCall true (shown_of self.old) (Request.RemoveDirIn (record { spot = spot; path = path.now })) (done_reply result) (shown_of self.new) }
-        ensures follows { Follows self.old (Request.RemoveDirIn (record { spot = spot; path = path.now })) (done_reply result) self.new }
+        ensures called { DirCall true (dir_of_memory self.old) (Request.RemoveDirIn (record { spot = spot; path = path.now })) (done_reply result) (dir_of_memory self.new) }
+        ensures follows { MemoryFollows self.old (Request.RemoveDirIn (record { spot = spot; path = path.now })) (done_reply result) self.new }
     {
         self.path_call(alloc, PathCall::RemoveDir, spot, path)
     }
@@ -439,8 +439,8 @@ impl Dir for MemoryDir {
         requires path { is_path path.now ≡ true }
         ensures cause { IsErrOf result DirError.Failed → Rose self.old.faults self.new.faults }
         ensures refusals { IfErr result (λ e. may_refuse (Request.AppendIn (record { spot = spot; path = path.now }) piece.now) e ≡ true) }
-        ensures called { AppendCall true (shown_of self.old) (Request.AppendIn (record { spot = spot; path = path.now }) piece.now) result (shown_of self.new) }
-        ensures follows { Follows self.old (Request.AppendIn (record { spot = spot; path = path.now }) piece.now) (done_reply result) self.new }
+        ensures called { AppendCall true (dir_of_memory self.old) (Request.AppendIn (record { spot = spot; path = path.now }) piece.now) result (dir_of_memory self.new) }
+        ensures follows { MemoryFollows self.old (Request.AppendIn (record { spot = spot; path = path.now }) piece.now) (done_reply result) self.new }
     {
         self.append_call(alloc, spot, path, piece)
     }
@@ -457,9 +457,9 @@ impl Dir for MemoryDir {
         requires path { is_path path.now ≡ true }
         ensures cause { IsErrOf result DirError.Failed → Rose self.old.faults self.new.faults }
         ensures refusals { IfErr result (λ e. may_refuse (Request.ReadIn (record { spot = spot; path = path.now }) at (length room.old)) e ≡ true) }
-        ensures filled { IsFilled room.old result room.new }
-        ensures called { DirCall true (shown_of self.old) (Request.ReadIn (record { spot = spot; path = path.now }) at (length room.old)) (read_reply room.new result) (shown_of self.new) }
-        ensures follows { Follows self.old (Request.ReadIn (record { spot = spot; path = path.now }) at (length room.old)) (read_reply room.new result) self.new }
+        ensures filled { KeepsUnreadRoom room.old result room.new }
+        ensures called { DirCall true (dir_of_memory self.old) (Request.ReadIn (record { spot = spot; path = path.now }) at (length room.old)) (read_reply room.new result) (dir_of_memory self.new) }
+        ensures follows { MemoryFollows self.old (Request.ReadIn (record { spot = spot; path = path.now }) at (length room.old)) (read_reply room.new result) self.new }
     {
         self.read_call(alloc, spot, path, at, room)
     }
@@ -470,7 +470,7 @@ impl Dir for MemoryDir {
         ensures cause { IsErrOf result DirError.Failed → Rose self.old.faults self.new.faults }
         ensures refusals { IfErr result (λ e. may_refuse (Request.ListIn (record { spot = spot; path = path.now })) e ≡ true) }
         ensures ordered { IfOk result (λ items. IsStrictlySortedBy (slice_cmp nat_cmp) (item_names items)) }
-        ensures called { ListCall true (shown_of self.old) (Request.ListIn (record { spot = spot; path = path.now })) (items_reply result) (shown_of self.new) }
+        ensures called { ListCall true (dir_of_memory self.old) (Request.ListIn (record { spot = spot; path = path.now })) (items_reply result) (dir_of_memory self.new) }
         ensures follows { FollowsListing self.old (Request.ListIn (record { spot = spot; path = path.now })) (items_reply result) self.new }
     {
         self.items_call(alloc, spot, path)
@@ -481,7 +481,7 @@ impl Dir for MemoryDir {
         ensures cause { IsErrOf result DirError.Failed → Rose self.old.faults self.new.faults }
         ensures refusals { IfErr result (λ e. may_refuse (Request.ListArea area) e ≡ true) }
         ensures ordered { IfOk result (λ names. IsStrictlySortedBy (slice_cmp nat_cmp) names) }
-        ensures called { ListCall true (shown_of self.old) (Request.ListArea area) (names_reply result) (shown_of self.new) }
+        ensures called { ListCall true (dir_of_memory self.old) (Request.ListArea area) (names_reply result) (dir_of_memory self.new) }
         ensures follows { FollowsListing self.old (Request.ListArea area) (names_reply result) self.new }
     {
         self.names_call(area)
@@ -491,8 +491,8 @@ impl Dir for MemoryDir {
         requires active { IsActive self.old.local }
         requires open { IsOpen self.old.local handle }
         ensures faultless { self.new.faults ≡ self.old.faults }
-        ensures called { DirCall true (shown_of self.old) (Request.Close handle) Reply.Done (shown_of self.new) }
-        ensures follows { self.new ≡ given_up self.old (Request.Close handle) }
+        ensures called { DirCall true (dir_of_memory self.old) (Request.Close handle) Reply.Done (dir_of_memory self.new) }
+        ensures follows { self.new ≡ memory_given_up self.old (Request.Close handle) }
     {
         self.give_up_handle(handle)
     }
@@ -500,8 +500,8 @@ impl Dir for MemoryDir {
     fn finish(&mut self)
         requires active { IsActive self.old.local }
         ensures faultless { self.new.faults ≡ self.old.faults }
-        ensures called { DirCall true (shown_of self.old) Request.Finish Reply.Done (shown_of self.new) }
-        ensures follows { self.new ≡ given_up self.old Request.Finish }
+        ensures called { DirCall true (dir_of_memory self.old) Request.Finish Reply.Done (dir_of_memory self.new) }
+        ensures follows { self.new ≡ memory_given_up self.old Request.Finish }
     {
         self.give_up()
     }

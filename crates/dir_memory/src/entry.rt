@@ -1,8 +1,8 @@
 // What was put into a bundle in memory, and what stands there by it.
 ghost use Rattle.std.specs.Prelude.{◌≡◌, ◌<◌, find, length, Some, IsTrue};
 ghost use Rattle.std.specs.Option.{option_copied};
-ghost use Rattle.dir_trait.specs.Bundles.{kind_at, file_bytes, link_target};
-ghost use Rattle.dir_memory.specs.MemoryBundles.{is_directory, empty_tree, is_decisive, decided_node, own_node, tree_of};
+ghost use Rattle.dir_trait.specs.Bundles.{kind_at, bytes_of_node, link_target};
+ghost use Rattle.dir_memory.specs.MemoryBundles.{is_bundle_directory, empty_bundle, is_decisive, decided_node, own_node, bundle_tree_of};
 
 use dir_model::lies_below;
 use dir_trait::{BundleKind, Bytes, Node};
@@ -15,7 +15,7 @@ pub struct Entry {
 }
 
 fn is_directory(node: &Node) -> bool
-    ensures { result ≡ is_directory node.now }
+    ensures { result ≡ is_bundle_directory node.now }
 {
     matches!(node, Node::Directory)
 }
@@ -46,14 +46,14 @@ fn decided_kind(entry: &Entry, path: &[u8]) -> Option<BundleKind>
 }
 
 fn root_kind(path: &[u8]) -> Option<BundleKind>
-    ensures { result ≡ kind_at (empty_tree path.now) }
+    ensures { result ≡ kind_at (empty_bundle path.now) }
 {
     path.is_empty().then_some(BundleKind::Dir)
 }
 
 /// The kind of what stands at a path.
 pub fn kind_at(entries: &[Entry], path: &[u8]) -> Option<BundleKind>
-    ensures { result ≡ kind_at (tree_of entries.now path.now) }
+    ensures { result ≡ kind_at (bundle_tree_of entries.now path.now) }
 {
     match newest(entries, path) {
         Some(entry) => decided_kind(entry, path),
@@ -71,7 +71,7 @@ fn own_node<'a>(entries: &'a [Entry], path: &[u8]) -> Option<&'a Node>
 
 /// The bytes of the file at a path.
 pub fn file_at<'a>(entries: &'a [Entry], path: &[u8]) -> Option<&'a [u8]>
-    ensures { option_copied result ≡ file_bytes (tree_of entries.now path.now) }
+    ensures { option_copied result ≡ bytes_of_node (bundle_tree_of entries.now path.now) }
 {
     let node = own_node(entries, path)?;
     node.bytes()
@@ -79,7 +79,7 @@ pub fn file_at<'a>(entries: &'a [Entry], path: &[u8]) -> Option<&'a [u8]>
 
 /// The target of the symbolic link at a path.
 pub fn link_at<'a>(entries: &'a [Entry], path: &[u8]) -> Option<&'a [u8]>
-    ensures { option_copied result ≡ link_target (tree_of entries.now path.now) }
+    ensures { option_copied result ≡ link_target (bundle_tree_of entries.now path.now) }
 {
     let node = own_node(entries, path)?;
     node.target()

@@ -6,8 +6,8 @@ ghost use Rattle.std.specs.Cmp.Lexicographic.{slice_cmp};
 ghost use Rattle.std.specs.BTreeMap.{get};
 ghost use Rattle.std.specs.List.{position_or_len, before_first};
 ghost use Rattle.dir_model.specs.Names.{IsFileName};
-ghost use Rattle.dir_trait.specs.Bundles.{kind_at, directory_prefix, child_path, IsListing, Lists};
-ghost use Rattle.dir_memory.specs.MemoryBundles.{tree_of, leads_through, AreKinds, AreFound, kind_with};
+ghost use Rattle.dir_trait.specs.Bundles.{kind_at, directory_prefix, child_path, IsBundleListing, Lists};
+ghost use Rattle.dir_memory.specs.MemoryBundles.{bundle_tree_of, leads_through, AreKinds, AreFound, kind_with};
 
 use crate::entry::{Entry, kind_at};
 use dir_model::{FileName, NoMemory, lies_below};
@@ -93,9 +93,9 @@ fn look_in(
     directory: &[u8],
     path: &[u8],
 ) -> Result<Option<BundleItem>, NoMemory>
-    ensures kind { IfOk result (λ found. IfSome found (λ item. kind_at (tree_of entries.now (child_path directory.now item.name)) ≡ Some item.kind)) }
+    ensures kind { IfOk result (λ found. IfSome found (λ item. kind_at (bundle_tree_of entries.now (child_path directory.now item.name)) ≡ Some item.kind)) }
     ensures found { IfOk result (λ found. (name : List ℕ) → IsFileName name
-        → IsSome (tree_of entries.now (child_path directory.now name)) → leads_through path.now (child_path directory.now name) ≡ true
+        → IsSome (bundle_tree_of entries.now (child_path directory.now name)) → leads_through path.now (child_path directory.now name) ≡ true
         → option_map (λ item. item.name) found ≡ Some name) }
 {
     let Some(name) = name_in(path, directory) else {
@@ -126,8 +126,8 @@ fn kinds_in(
     entries: &[Entry],
     directory: &[u8],
 ) -> Result<BTreeMap<FileName, BundleKind>, NoMemory>
-    ensures kinds { IfOk result (AreKinds (tree_of entries.now) directory.now) }
-    ensures found { IfOk result (AreFound (tree_of entries.now) directory.now entries.now) }
+    ensures kinds { IfOk result (AreKinds (bundle_tree_of entries.now) directory.now) }
+    ensures found { IfOk result (AreFound (bundle_tree_of entries.now) directory.now entries.now) }
 {
     let mut kinds = BTreeMap::new(alloc);
     'entries: for entry in entries {
@@ -139,16 +139,16 @@ fn kinds_in(
 
 // What stands directly in a directory. Refused only where memory ran out.
 fn list_in(alloc: Global, entries: &[Entry], directory: &[u8]) -> Result<BundleItems, NoMemory>
-    requires { kind_at (tree_of entries.now directory.now) ≡ Some BundleKind.Dir }
-    ensures ordered { IfOk result IsListing }
-    ensures listed { IfOk result (Lists (tree_of entries.now) directory.now) }
+    requires { kind_at (bundle_tree_of entries.now directory.now) ≡ Some BundleKind.Dir }
+    ensures ordered { IfOk result IsBundleListing }
+    ensures listed { IfOk result (Lists (bundle_tree_of entries.now) directory.now) }
 {
     let kinds = kinds_in(alloc, entries, directory)?;
     listing_of(alloc, &kinds)
 }
 
 fn is_directory_at(entries: &[Entry], path: &[u8]) -> bool
-    ensures { IsTrue result ↔ (kind_at (tree_of entries.now path.now) ≡ Some BundleKind.Dir) }
+    ensures { IsTrue result ↔ (kind_at (bundle_tree_of entries.now path.now) ≡ Some BundleKind.Dir) }
 {
     kind_at(entries, path) == Some(BundleKind::Dir)
 }
@@ -156,9 +156,9 @@ fn is_directory_at(entries: &[Entry], path: &[u8]) -> bool
 /// The listing of the directory at a path. `Missing` where no directory stands there.
 pub fn list_at(alloc: Global, entries: &[Entry], path: &[u8]) -> Result<BundleItems, BundleError>
     ensures never { IsErrOf result BundleError.Failed → ⊥ }
-    ensures ordered { IfOk result IsListing }
-    ensures listed { IfOk result (Lists (tree_of entries.now) path.now) }
-    ensures missing { IsErrOf result BundleError.Missing → kind_at (tree_of entries.now path.now) ≢ Some BundleKind.Dir }
+    ensures ordered { IfOk result IsBundleListing }
+    ensures listed { IfOk result (Lists (bundle_tree_of entries.now) path.now) }
+    ensures missing { IsErrOf result BundleError.Missing → kind_at (bundle_tree_of entries.now path.now) ≢ Some BundleKind.Dir }
 {
     if !is_directory_at(entries, path) {
         return Err(BundleError::Missing);

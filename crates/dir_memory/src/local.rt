@@ -1,6 +1,6 @@
 // What a process knows by its own answers.
 ghost use Rattle.std.specs.Prelude.{◌≡◌, ◌+◌, ◌<◌, ◌≤◌, ◌==◌, ◌++◌, ◌∷◌, [], not, map, filter, true, None, vec_len, vec_capacity};
-ghost use Rattle.dir_model.specs.Local.{is_number, held_in, is_open_among};
+ghost use Rattle.dir_model.specs.Local.{is_handle_of, held_in, is_open_among};
 
 use dir_model::{Handle, Holding, Intent, Mode, Reply, Request, Target};
 use dir_state::target_of;
@@ -138,7 +138,7 @@ fn lock_held(held: &mut [Holding], handle: Handle, mode: Mode)
 }
 
 fn drop_held(held: &mut Vec<Holding>, handle: Handle)
-    ensures items { held.new.items ≡ filter (λ h. not (is_number handle h)) held.old.items }
+    ensures items { held.new.items ≡ filter (λ h. not (is_handle_of handle h)) held.old.items }
     ensures fewer { vec_len held.new ≤ vec_len held.old }
     ensures open { is_open_among handle held.old.items ≡ true → vec_len held.new + 1 ≤ vec_len held.old }
 {

@@ -60,7 +60,7 @@ impl MemoryDir {
     ghost use Rattle.dir_model.specs.Local.{nothing_local, IsActive, IsOpen, IsUnopened};
     ghost use Rattle.dir_model.specs.State.{has_begun, lives};
     ghost use Rattle.dir_model.specs.Trace.{state_after};
-    ghost use Rattle.dir_memory.specs.Memories.{Answered, Follows, Listed, CutOff, FollowsListing, RanOut, Stopped, is_stopped, may_ask, is_numbered, scheduled, passed_on, given_up, short_of_memory};
+    ghost use Rattle.dir_memory.specs.Memories.{Answered, MemoryFollows, Listed, CutOff, FollowsListing, RanOut, CallerWasKilled, is_stopped, may_be_called, is_numbered, scheduled, passed_on, memory_given_up, short_of_memory};
 
     /// The empty data folder, before this process has begun: nothing is scheduled, and no call is
     /// to fail. Refused only where memory ran out.
@@ -232,8 +232,8 @@ impl MemoryDir {
     // A call after the kill, or before which it comes.
     fn stopped_call(&mut self, request: Request) -> Reply
         requires stopped { is_stopped self.old request ≡ true }
-        requires may { may_ask self.old.local request ≡ true }
-        ensures follows { RanOut self.old request result self.new ⊎ Stopped self.old request result self.new }
+        requires may { may_be_called self.old.local request ≡ true }
+        ensures follows { RanOut self.old request result self.new ⊎ CallerWasKilled self.old request result self.new }
         ensures unopened { (handle : Handle) → result ≡ Reply.Opened handle → IsUnopened self.old.local handle }
         ensures run { IsRun self.new.trace }
         ensures faults { self.old.faults ≤ self.new.faults }
@@ -267,7 +267,7 @@ impl MemoryDir {
         requires lives { is_stopped self.old request ≡ false }
         requires numbered { is_numbered request ≡ true }
         requires plain { is_listing_request request ≡ false }
-        requires may { may_ask self.old.local request ≡ true }
+        requires may { may_be_called self.old.local request ≡ true }
         ensures follows { Answered self.old request result self.new ⊎ RanOut self.old request result self.new }
         ensures unopened { (handle : Handle) → result ≡ Reply.Opened handle → IsUnopened self.old.local handle }
         ensures run { IsRun self.new.trace }
@@ -299,7 +299,7 @@ impl MemoryDir {
     fn live_listing(&mut self, request: Request) -> Reply
         requires lives { is_stopped self.old request ≡ false }
         requires asks { is_listing_request request ≡ true }
-        requires may { may_ask self.old.local request ≡ true }
+        requires may { may_be_called self.old.local request ≡ true }
         ensures follows { Listed self.old request result self.new ⊎ (CutOff self.old request result self.new ⊎ RanOut self.old request result self.new) }
         ensures run { IsRun self.new.trace }
         ensures faults { self.old.faults ≤ self.new.faults }
@@ -331,8 +331,8 @@ impl MemoryDir {
     pub fn call(&mut self, request: Request) -> Reply
         requires numbered { is_numbered request ≡ true }
         requires plain { is_listing_request request ≡ false }
-        requires may { may_ask self.old.local request ≡ true }
-        ensures follows { Follows self.old request result self.new }
+        requires may { may_be_called self.old.local request ≡ true }
+        ensures follows { MemoryFollows self.old request result self.new }
         ensures unopened { (handle : Handle) → result ≡ Reply.Opened handle → IsUnopened self.old.local handle }
         ensures run { IsRun self.new.trace }
         ensures faults { self.old.faults ≤ self.new.faults }
@@ -346,7 +346,7 @@ impl MemoryDir {
     /// A listing.
     pub fn list(&mut self, request: Request) -> Reply
         requires asks { is_listing_request request ≡ true }
-        requires may { may_ask self.old.local request ≡ true }
+        requires may { may_be_called self.old.local request ≡ true }
         ensures follows { FollowsListing self.old request result self.new }
         ensures run { IsRun self.new.trace }
         ensures faults { self.old.faults ≤ self.new.faults }
@@ -370,7 +370,7 @@ impl MemoryDir {
     pub fn give_up_handle(&mut self, handle: Handle)
         requires active { IsActive self.old.local }
         requires open { IsOpen self.old.local handle }
-        ensures follows { self.new ≡ given_up self.old (Request.Close handle) }
+        ensures follows { self.new ≡ memory_given_up self.old (Request.Close handle) }
         ensures run { IsRun self.new.trace }
         ensures over { self.old.killed ≡ true → lives (state_after self.old.trace).namespace self.old.process ≡ false }
     {
@@ -388,7 +388,7 @@ impl MemoryDir {
     /// The process is over.
     pub fn give_up(&mut self)
         requires active { IsActive self.old.local }
-        ensures follows { self.new ≡ given_up self.old Request.Finish }
+        ensures follows { self.new ≡ memory_given_up self.old Request.Finish }
         ensures run { IsRun self.new.trace }
         ensures over { self.old.killed ≡ true → lives (state_after self.old.trace).namespace self.old.process ≡ false }
     {

@@ -64,11 +64,11 @@ impl MemorySink {
 impl Sink for MemorySink {
     ghost use Rattle.std.specs.Prelude.{◌≡◌, ◌<◌, ◌≤◌, ◌++◌, true, length, take, IfOk, IfErr, IsErrOf};
     ghost use Rattle.dir_model.specs.Causes.{Rose};
-    ghost use Rattle.dir_memory.specs.MemorySinks.{Writes, shown_of};
+    ghost use Rattle.dir_memory.specs.MemorySinks.{SinkMemoryWrites, sink_of_memory};
 
     ghost observed = { true };
 
-    ghost shown = { λ s. shown_of s };
+    ghost shown = { λ s. sink_of_memory s };
 
     fn faults(&self) -> u64 {
         self.faults
@@ -83,7 +83,7 @@ impl Sink for MemorySink {
         ensures some { IfOk result (λ n. 0 < length piece.now → 0 < n) }
         ensures written { IfOk result (λ n. true ≡ true → self.new.bytes ≡ self.old.bytes ++ take n piece.now) }
         ensures unwritten { IfErr result (λ e. true ≡ true → self.new.bytes ≡ self.old.bytes) }
-        ensures writes { Writes self.old piece.now result self.new }
+        ensures writes { SinkMemoryWrites self.old piece.now result self.new }
     {
         let fails = is_listed(&self.failing, self.writes);
         self.writes = self.writes.saturating_add(1);

@@ -1,7 +1,6 @@
 -- In a run only processes that began have handles and take steps; so one that never began holds nothing.
-use Rattle.std.proofs.Common.{arith, ◌≡◌, ℕ, Bool, true, false, not, ◌||◌, ◌==◌, cond, Some, List, [], ◌∷◌, ◌++◌, map, filter, refl, sym, ap, subst, ◌∙◌}
+use Rattle.std.proofs.Common.{◌≡◌, ℕ, Bool, true, false, not, ◌||◌, ◌==◌, cond, Some, List, [], ◌∷◌, ◌++◌, map, filter, refl, sym, ap, subst, ◌∙◌}
 use Rattle.std.specs.List.{list_any, AllByRecursion}
-use Rattle.std.proofs.lemmas.Bool.Decides.{nat_tests}
 use Rattle.dir_model.specs.declared.event.Event.{Event}
 use Rattle.dir_model.specs.declared.intent.Start.{Start}
 use Rattle.dir_model.specs.declared.opening.Opening.{Opening}
@@ -17,7 +16,7 @@ use Rattle.dir_model.specs.Trace.{state_after, state_next, states_next, namespac
 use Rattle.dir_model.specs.Calls.{IsRun, is_run_from, is_allowed, may_step, is_kill, is_foreign}
 use Rattle.dir_model.specs.Quiet.{OwnsNothing}
 use Rattle.dir_model.specs.Local.{holding_of, holdings_in}
-use Rattle.dir_model.proofs.Lists.{and_left, and_right, same_self, all_push, all_map, all_filter, any_push}
+use Rattle.dir_model.proofs.Lists.{and_left, and_right, same_self, all_push, all_map, all_filter, any_push, same_number}
 use Rattle.dir_model.proofs.Allowed.{allowed_step}
 
 abbrev IsAmong : List Start → Opening → Type 0
@@ -52,12 +51,9 @@ all_begun s (e ∷ es) run a =
     all_begun (state_next s e) es (and_right (is_allowed s e) (is_run_from (state_next s e) es) run)
     (step_begun s e.process e.request e.reply (allowed_step s e.process e.request e.reply (and_left (is_allowed s e) (is_run_from (state_next s e) es) run)) a)
 
-same_process : (p me : ℕ) → (p == me) ≡ true → p ≡ me
-same_process p me h = grind (arith, nat_tests)
-
 none_idle : (begun : List Start) (me : ℕ) (xs : List Opening) → list_any (λ p. p.process == me) begun ≡ false → AllByRecursion (IsAmong begun) xs → AllByRecursion (λ o. (o.process == me) ≡ true → is_exclusive o.lock ≡ false) xs
 none_idle begun me [] unborn a = tt
-none_idle begun me (x ∷ xs) unborn a = ((λ mine. absurd (clash (subst (λ (q : ℕ). list_any (λ p. p.process == q) begun ≡ true) (same_process x.process me mine) a.0))), none_idle begun me xs unborn a.1)
+none_idle begun me (x ∷ xs) unborn a = ((λ mine. absurd (clash (subst (λ (q : ℕ). list_any (λ p. p.process == q) begun ≡ true) (same_number x.process me mine) a.0))), none_idle begun me xs unborn a.1)
   where
     clash : list_any (λ p. p.process == me) begun ≡ true → ⊥
     clash h = let e : true ≡ false = sym h ∙ unborn in cc
@@ -71,7 +67,7 @@ none_open begun me (x ∷ xs) unborn a = by (x.process == me) refl (none_open be
   where
     by : (b : Bool) → (x.process == me) ≡ b → filter (λ o. o.process == me) xs ≡ [] → cond b (x ∷ filter (λ o. o.process == me) xs) (filter (λ o. o.process == me) xs) ≡ []
     by true is rest =
-        let there : list_any (λ p. p.process == me) begun ≡ true = subst (λ (q : ℕ). list_any (λ p. p.process == q) begun ≡ true) (same_process x.process me is) a.0 in
+        let there : list_any (λ p. p.process == me) begun ≡ true = subst (λ (q : ℕ). list_any (λ p. p.process == q) begun ≡ true) (same_number x.process me is) a.0 in
         let clash : true ≡ false = sym there ∙ unborn in
         cc
     by false is rest = rest

@@ -1,8 +1,7 @@
 -- What a process has open by its own answers: a handle that is opened and closed again leaves what was open before, and
 -- while the process lives it is what the namespace says.
-use Rattle.std.proofs.Common.{arith, ◌≡◌, ℕ, Bool, true, false, not, ◌&&◌, ◌||◌, ◌==◌, cond, Some, None, is_some, List, [], ◌∷◌, ◌++◌, map, filter, Result, Ok, Err, refl, sym, ap, ◌∙◌}
+use Rattle.std.proofs.Common.{◌≡◌, ℕ, Bool, true, false, not, ◌&&◌, ◌||◌, ◌==◌, cond, Some, None, is_some, List, [], ◌∷◌, ◌++◌, map, filter, Result, Ok, Err, refl, sym, ap, ◌∙◌}
 use Rattle.std.specs.List.{list_any}
-use Rattle.std.proofs.lemmas.Bool.Decides.{nat_tests}
 use Rattle.dir_model.specs.declared.spot.Handle.{Handle}
 use Rattle.dir_model.specs.declared.spot.Mode.{Mode}
 use Rattle.dir_model.specs.declared.opening.Opening.{Opening}
@@ -18,26 +17,26 @@ use Rattle.dir_model.specs.State.{Namespace, has_open}
 use Rattle.dir_model.specs.Trace.{locked, opened, opened_gate, namespace_replied}
 use Rattle.dir_model.specs.Replies.{done_reply}
 use Rattle.dir_model.specs.Calls.{is_kill}
-use Rattle.dir_model.specs.Local.{Local, is_number, with_handle, held_in, with_lock, without, local_replied, is_open_among, is_locking, IsOpen, IsUnopened, IsUnlocked, holding_of, holdings_in}
-use Rattle.dir_model.proofs.Lists.{and_left, and_false, same_self, any_last, any_last_not, any_fewer, filter_past, filter_push, map_push}
+use Rattle.dir_model.specs.Local.{Local, is_handle_of, with_handle, held_in, with_lock, without, local_replied, is_open_among, is_locking, IsOpen, IsUnopened, IsUnlocked, holding_of, holdings_in}
+use Rattle.dir_model.proofs.Lists.{and_left, and_false, same_self, any_last, any_last_not, any_fewer, filter_past, filter_push, map_push, apart_clash}
 
 not_twice : (b : Bool) → not (not b) ≡ b
 not_twice true = refl
 not_twice false = refl
 
 -- closing a handle that isn't open changes nothing
-none_closed : (h : Handle) (hs : List Holding) → is_open_among h hs ≡ false → filter (λ x. not (is_number h x)) hs ≡ hs
+pub none_closed : (h : Handle) (hs : List Holding) → is_open_among h hs ≡ false → filter (λ x. not (is_handle_of h x)) hs ≡ hs
 none_closed h [] none = refl
-none_closed h (x ∷ xs) none = by (is_number h x) none (λ rest. none_closed h xs rest)
+none_closed h (x ∷ xs) none = by (is_handle_of h x) none (λ rest. none_closed h xs rest)
   where
-    by : (b : Bool) → (b || is_open_among h xs) ≡ false → (is_open_among h xs ≡ false → filter (λ y. not (is_number h y)) xs ≡ xs) → cond (not b) (x ∷ filter (λ y. not (is_number h y)) xs) (filter (λ y. not (is_number h y)) xs) ≡ x ∷ xs
+    by : (b : Bool) → (b || is_open_among h xs) ≡ false → (is_open_among h xs ≡ false → filter (λ y. not (is_handle_of h y)) xs ≡ xs) → cond (not b) (x ∷ filter (λ y. not (is_handle_of h y)) xs) (filter (λ y. not (is_handle_of h y)) xs) ≡ x ∷ xs
     by true none rest = cc
     by false none rest = ap (λ l. x ∷ l) (rest none)
 
 -- and locking one neither
-none_locked : (h : Handle) (mode : Mode) (hs : List Holding) → is_open_among h hs ≡ false → map (held_in h mode) hs ≡ hs
+pub none_locked : (h : Handle) (mode : Mode) (hs : List Holding) → is_open_among h hs ≡ false → map (held_in h mode) hs ≡ hs
 none_locked h mode [] none = refl
-none_locked h mode (x ∷ xs) none = by (is_number h x) none (λ rest. none_locked h mode xs rest)
+none_locked h mode (x ∷ xs) none = by (is_handle_of h x) none (λ rest. none_locked h mode xs rest)
   where
     by : (b : Bool) → (b || is_open_among h xs) ≡ false → (is_open_among h xs ≡ false → map (held_in h mode) xs ≡ xs) → cond b (record x { lock = Some mode }) x ∷ map (held_in h mode) xs ≡ x ∷ xs
     by true none rest = cc
@@ -47,11 +46,11 @@ module _ (m : Local) (h : Handle) (target : Target) (new : IsUnopened m h) where
   abbrev fresh : Holding
   fresh = record { handle = h; target = target; lock = None }
 
-  number_is : is_number h fresh ≡ true
+  number_is : is_handle_of h fresh ≡ true
   number_is = same_self h.number
 
-  closed_list : (x : Holding) → is_number h x ≡ true → filter (λ y. not (is_number h y)) (m.holdings ++ x ∷ []) ≡ m.holdings
-  closed_list x is = filter_past (λ y. not (is_number h y)) m.holdings x (ap not is) ∙ none_closed h m.holdings new
+  closed_list : (x : Holding) → is_handle_of h x ≡ true → filter (λ y. not (is_handle_of h y)) (m.holdings ++ x ∷ []) ≡ m.holdings
+  closed_list x is = filter_past (λ y. not (is_handle_of h y)) m.holdings x (ap not is) ∙ none_closed h m.holdings new
 
   pub closed_again : without (with_handle m h target) h ≡ m
   closed_again = ap (λ (hs : List Holding). record m { holdings = hs }) (closed_list fresh number_is)
@@ -60,7 +59,7 @@ module _ (m : Local) (h : Handle) (target : Target) (new : IsUnopened m h) where
   locked_list mode = map_push (held_in h mode) m.holdings fresh ∙ (ap (λ (hs : List Holding). hs ++ held_in h mode fresh ∷ []) (none_locked h mode m.holdings new) ∙ ap (λ (b : Bool). m.holdings ++ cond b (record fresh { lock = Some mode }) fresh ∷ []) number_is)
 
   pub closed_after_lock : (mode : Mode) → without (with_lock (with_handle m h target) h mode) h ≡ m
-  closed_after_lock mode = ap (λ (hs : List Holding). record m { holdings = filter (λ y. not (is_number h y)) hs }) (locked_list mode) ∙ ap (λ (hs : List Holding). record m { holdings = hs }) (closed_list (record fresh { lock = Some mode }) number_is)
+  closed_after_lock mode = ap (λ (hs : List Holding). record m { holdings = filter (λ y. not (is_handle_of h y)) hs }) (locked_list mode) ∙ ap (λ (hs : List Holding). record m { holdings = hs }) (closed_list (record fresh { lock = Some mode }) number_is)
 
   -- whatever the lock's answer was
   pub closed_after_try : (mode : Mode) (answer : Result (Unit {0}) DirError) → without (local_replied (with_handle m h target) (TryLock h mode) (done_reply answer)) h ≡ m
@@ -68,10 +67,10 @@ module _ (m : Local) (h : Handle) (target : Target) (new : IsUnopened m h) where
   closed_after_try mode (Err error) = closed_again
 
   pub open_new : IsOpen (with_handle m h target) h
-  open_new = any_last (is_number h) m.holdings fresh number_is
+  open_new = any_last (is_handle_of h) m.holdings fresh number_is
 
   pub unlocked_new : IsUnlocked (with_handle m h target) h
-  unlocked_new = any_last_not (is_locking h) m.holdings fresh (and_false (is_number h fresh)) ∙ any_fewer (is_locking h) (is_number h) (λ x is. and_left (is_number h x) (is_some x.lock) is) m.holdings new
+  unlocked_new = any_last_not (is_locking h) m.holdings fresh (and_false (is_handle_of h fresh)) ∙ any_fewer (is_locking h) (is_handle_of h) (λ x is. and_left (is_handle_of h x) (is_some x.lock) is) m.holdings new
 
 -- the same by what the answers say of what is open
 pub closed_by : {m a b : Local} (h : Handle) (target : Target) → IsUnopened m h → a ≡ with_handle m h target → b ≡ without a h → b ≡ m
@@ -83,7 +82,7 @@ tried_by {m} {a} {b} {c} h target mode answer new open_is try_is close_is =
 
 -- the namespace's list
 
-abbrev mine : ℕ → Opening → Bool
+abbrev pub mine : ℕ → Opening → Bool
 mine me o = o.process == me
 
 abbrev own : ℕ → List Opening → List Holding
@@ -136,14 +135,11 @@ replied_same n me m (Open spot which) (Opened handle) lives same = own_push me n
 replied_same n me m (OpenArea area) (Opened handle) lives same = own_push me n.openings (opened_gate me handle area) (same_self me) ∙ ap (λ (hs : List Holding). hs ++ holding_of (opened_gate me handle area) ∷ []) same
 replied_same n me m _ (Opened handle) lives same = same
 replied_same n me m (TryLock handle mode) Done lives same = own_map me (locked me handle mode) (held_in handle mode) (locked_keeps me handle mode) (locked_same me handle mode) n.openings ∙ ap (map (held_in handle mode)) same
-replied_same n me m (Close handle) Done lives same = own_filter me (λ o. not (is_handle me handle o)) (λ h. not (is_number handle h)) (λ o is. rw is refl) n.openings ∙ ap (filter (λ h. not (is_number handle h))) same
+replied_same n me m (Close handle) Done lives same = own_filter me (λ o. not (is_handle me handle o)) (λ h. not (is_handle_of handle h)) (λ o is. rw is refl) n.openings ∙ ap (filter (λ h. not (is_handle_of handle h))) same
 replied_same n me m Finish Done lives same = ended_none me n.openings
 replied_same n me m Kill Done lives same = let clash : true ≡ false = lives in cc
 replied_same n me m _ Done lives same = same
 replied_same n me m request reply lives same = same
-
-apart_clash : (a p me : ℕ) → (a == p) ≡ true → (a == me) ≡ true → (p == me) ≡ false → ⊥
-apart_clash a p me x y z = grind (arith, nat_tests)
 
 other_locked : (p me : ℕ) (h : Handle) (mode : Mode) → (p == me) ≡ false → (o : Opening) → (o.process == me) ≡ true → holding_of (locked p h mode o) ≡ holding_of o
 other_locked p me h mode apart o is = by (is_handle p h o) (λ it. and_left (o.process == p) (o.handle.number == h.number) it)

@@ -1,6 +1,7 @@
 -- Laws of tests and of lists that every crate above cites.
-use Rattle.std.proofs.Common.{◌≡◌, ℕ, Bool, true, false, not, ◌&&◌, ◌||◌, ◌==◌, cond, List, [], ◌∷◌, ◌++◌, map, filter, refl, sym, ap, ◌∙◌, rules}
+use Rattle.std.proofs.Common.{arith, ◌≡◌, ℕ, Bool, true, false, not, ◌&&◌, ◌||◌, ◌==◌, cond, List, [], ◌∷◌, ◌++◌, map, filter, refl, sym, ap, ◌∙◌, rules}
 use Rattle.std.specs.List.{list_any, AllByRecursion}
+use Rattle.std.proofs.lemmas.Bool.Decides.{nat_tests}
 
 -- tests
 
@@ -56,6 +57,12 @@ or_last false c h = h
 
 pub same_self : (n : ℕ) → (n == n) ≡ true
 same_self n = search rules
+
+pub same_number : (n m : ℕ) → (n == m) ≡ true → n ≡ m
+same_number n m h = grind (arith, nat_tests)
+
+pub apart_clash : (a p me : ℕ) → (a == p) ≡ true → (a == me) ≡ true → (p == me) ≡ false → ⊥
+apart_clash a p me x y z = grind (arith, nat_tests)
 
 -- some item passes
 

@@ -1,7 +1,6 @@
 -- While others step, an open handle goes on to stand for its folder, and holds no lock.
-use Rattle.std.proofs.Common.{◌≡◌, ◌⊎◌, inl, inr, ℕ, Bool, true, false, not, ◌&&◌, ◌||◌, ◌==◌, cond, Option, Some, None, List, [], ◌∷◌, find, refl, sym, ap, ◌∙◌, arith}
+use Rattle.std.proofs.Common.{◌≡◌, ◌⊎◌, inl, inr, ℕ, Bool, true, false, not, ◌&&◌, ◌||◌, ◌==◌, cond, Option, Some, None, List, [], ◌∷◌, find, refl, sym, ap, ◌∙◌}
 use Rattle.std.specs.List.{list_any, AllByRecursion}
-use Rattle.std.proofs.lemmas.Bool.Decides.{nat_tests}
 use Rattle.dir_model.specs.declared.event.Event.{Event}
 use Rattle.dir_model.specs.declared.opening.Opening.{Opening}
 use Rattle.dir_model.specs.declared.opening.Target.{Target}
@@ -18,10 +17,7 @@ use Rattle.dir_model.specs.State.{Namespace, DirState, is_owned}
 use Rattle.dir_model.specs.Trace.{state_next, states_next, namespace_replied, locked, opened, opened_gate}
 use Rattle.dir_model.specs.Replies.{is_locked, is_opposed}
 use Rattle.dir_model.specs.Calls.{is_foreign, is_kill}
-use Rattle.dir_model.proofs.Lists.{and_left, and_false, any_push, any_last, any_filter, any_map, all_filter, all_push, all_map}
-
-clash : (a p me : ℕ) → (a == p) ≡ true → (a == me) ≡ true → (p == me) ≡ false → ⊥
-clash a p me x y z = grind (arith, nat_tests)
+use Rattle.dir_model.proofs.Lists.{and_left, and_false, any_push, any_last, any_filter, any_map, all_filter, all_push, all_map, apart_clash}
 
 -- what is known of an opening if it is this handle's
 abbrev pub Plain : ℕ → Handle → ℕ → Opening → Type 0
@@ -44,21 +40,21 @@ locked_plain : (p : ℕ) (h : Handle) (m : Mode) (me : ℕ) (handle : Handle) (f
 locked_plain p h m me handle folder apart o plain = by (is_handle p h o) (λ it. and_left (o.process == p) (o.handle.number == h.number) it)
   where
     by : (b : Bool) → (b ≡ true → (o.process == p) ≡ true) → Plain me handle folder (cond b (record o { lock = Some m }) o)
-    by true it mine = absurd (clash o.process p me (it refl) (and_left (o.process == me) (o.handle.number == handle.number) mine) apart)
+    by true it mine = absurd (apart_clash o.process p me (it refl) (and_left (o.process == me) (o.handle.number == handle.number) mine) apart)
     by false it mine = plain mine
 
 mine_kept : (p : ℕ) (h : Handle) (me : ℕ) (handle : Handle) → (p == me) ≡ false → (o : Opening) → is_handle me handle o ≡ true → not (is_handle p h o) ≡ true
 mine_kept p h me handle apart o mine = by (is_handle p h o) (λ it. and_left (o.process == p) (o.handle.number == h.number) it)
   where
     by : (b : Bool) → (b ≡ true → (o.process == p) ≡ true) → not b ≡ true
-    by true it = absurd (clash o.process p me (it refl) (and_left (o.process == me) (o.handle.number == handle.number) mine) apart)
+    by true it = absurd (apart_clash o.process p me (it refl) (and_left (o.process == me) (o.handle.number == handle.number) mine) apart)
     by false it = refl
 
 mine_stays : (p me : ℕ) (handle : Handle) → (p == me) ≡ false → (o : Opening) → is_handle me handle o ≡ true → not (o.process == p) ≡ true
 mine_stays p me handle apart o mine = by (o.process == p) (λ it. it)
   where
     by : (b : Bool) → (b ≡ true → (o.process == p) ≡ true) → not b ≡ true
-    by true it = absurd (clash o.process p me (it refl) (and_left (o.process == me) (o.handle.number == handle.number) mine) apart)
+    by true it = absurd (apart_clash o.process p me (it refl) (and_left (o.process == me) (o.handle.number == handle.number) mine) apart)
     by false it = refl
 
 by_other : (me : ℕ) (handle : Handle) (folder p : ℕ) (w : Namespace) (request : Request) (reply : Reply) → (p == me) ≡ false → Fresh me handle folder w → Fresh me handle folder (namespace_replied w p request reply)
@@ -118,7 +114,7 @@ still_open me handle folder s [] a k = k
 still_open me handle folder s (e ∷ es) a k = still_open me handle folder (state_next s e) es a.1 (by_foreign me handle folder e.process s.namespace e.request e.reply (e.process == me) refl a.0 k)
 
 -- the lock's answer tells whether another holds it exclusively
-opposes_shared : (lock : Option Mode) → opposes Shared lock ≡ is_exclusive lock
+pub opposes_shared : (lock : Option Mode) → opposes Shared lock ≡ is_exclusive lock
 opposes_shared None = refl
 opposes_shared (Some Shared) = refl
 opposes_shared (Some Exclusive) = refl
@@ -142,7 +138,7 @@ one_lock (Own s) (Gate b) folder other h = sym (and_false (is_folder folder othe
 one_lock (Claim s) b folder other h = cc
 one_lock (Gate a) b folder other h = cc
 
-and_moves : (a b c : Bool) → ((a && b) && c) ≡ (a && (b && c))
+pub and_moves : (a b c : Bool) → ((a && b) && c) ≡ (a && (b && c))
 and_moves true b c = refl
 and_moves false b c = refl
 

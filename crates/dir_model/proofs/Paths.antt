@@ -17,7 +17,7 @@ within n h = grind (arith, nat_tests)
 from_within : (n : ℕ) → nat_le n 255 ≡ true → n ≤ 255
 from_within n h = grind (arith, nat_tests)
 
-filled : (bs : List ℕ) → 1 ≤ length bs → not (is_empty bs) ≡ true
+pub filled : (bs : List ℕ) → 1 ≤ length bs → not (is_empty bs) ≡ true
 filled [] h = absurd (omega (arith, h))
 filled (b ∷ bs) h = refl
 

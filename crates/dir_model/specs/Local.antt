@@ -16,6 +16,7 @@ use Rattle.dir_model.specs.Areas.{is_stage}
 use Rattle.dir_model.specs.Locks.{target_of}
 use Rattle.dir_model.specs.State.{Namespace}
 
+-- what a process knows of itself by its own answers
 pub record Local : Type 0 where
   -- what it said when it began
   pub intent : Option Intent
@@ -27,21 +28,25 @@ pub record Local : Type 0 where
 abbrev pub nothing_local : Local
 nothing_local = record { intent = None; finished = false; holdings = [] }
 
-abbrev pub is_number : Handle → Holding → Bool
-is_number handle h = h.handle.number == handle.number
+-- the handle has this number
+abbrev pub is_handle_of : Handle → Holding → Bool
+is_handle_of handle h = h.handle.number == handle.number
 
+-- and this handle is open, without a lock
 abbrev pub with_handle : Local → Handle → Target → Local
 with_handle m handle target = record m { holdings = m.holdings ++ record { handle = handle; target = target; lock = None } ∷ [] }
 
 -- this handle holds its lock
 abbrev pub held_in : Handle → Mode → Holding → Holding
-held_in handle mode h = cond (is_number handle h) (record h { lock = Some mode }) h
+held_in handle mode h = cond (is_handle_of handle h) (record h { lock = Some mode }) h
 
+-- and this handle holds its lock in this mode
 abbrev pub with_lock : Local → Handle → Mode → Local
 with_lock m handle mode = record m { holdings = map (held_in handle mode) m.holdings }
 
+-- and this handle is closed
 abbrev pub without : Local → Handle → Local
-without m handle = record m { holdings = filter (λ h. not (is_number handle h)) m.holdings }
+without m handle = record m { holdings = filter (λ h. not (is_handle_of handle h)) m.holdings }
 
 -- after a request that was answered Ok
 abbrev pub local_done : Local → Request → Local
@@ -57,6 +62,7 @@ local_opened m (Open spot which) handle = with_handle m handle (target_of spot w
 local_opened m (OpenArea area) handle = with_handle m handle (Gate area)
 local_opened m _ handle = m
 
+-- after a reply
 abbrev pub local_replied : Local → Request → Reply → Local
 local_replied m request Done = local_done m request
 local_replied m request (Opened handle) = local_opened m request handle
@@ -69,18 +75,21 @@ pub record IsActive (m : Local) : Type 0 where
 
 -- the handle is open in this process
 abbrev pub is_open_among : Handle → List Holding → Bool
-is_open_among handle hs = list_any (is_number handle) hs
+is_open_among handle hs = list_any (is_handle_of handle) hs
 
+-- the handle is open
 abbrev pub IsOpen : Local → Handle → Type 0
 IsOpen m handle = is_open_among handle m.holdings ≡ true
 
+-- the handle isn't open
 abbrev pub IsUnopened : Local → Handle → Type 0
 IsUnopened m handle = is_open_among handle m.holdings ≡ false
 
 -- the handle holds a lock
 abbrev pub is_locking : Handle → Holding → Bool
-is_locking handle h = is_number handle h && is_some h.lock
+is_locking handle h = is_handle_of handle h && is_some h.lock
 
+-- the handle holds no lock
 abbrev pub IsUnlocked : Local → Handle → Type 0
 IsUnlocked m handle = list_any (is_locking handle) m.holdings ≡ false
 

@@ -55,6 +55,7 @@ is_one_lock (Claim spot) folder (Claim place) other = is_same_folder folder othe
 is_one_lock (Gate area) folder (Gate gate) other = rank area == rank gate
 is_one_lock _ folder _ other = false
 
+-- two handles stand for one lock
 abbrev pub is_same_lock : Opening → Opening → Bool
 is_same_lock a b = is_one_lock a.target a.folder b.target b.folder
 

@@ -7,9 +7,11 @@ use Rattle.dir_model.specs.declared.request.Request.{Request}
 use Rattle.dir_model.specs.declared.request.Request.TheVariants.{ListIn, MakeDirIn, MakeFileIn, AppendIn, ReadIn, SyncIn, RemoveFileIn, RemoveDirIn}
 use Rattle.dir_model.specs.Names.{is_file_byte}
 
+-- the byte is a slash
 abbrev pub is_slash : ℕ → Bool
 is_slash b = b == 47
 
+-- there is nothing in the list
 abbrev pub is_empty : {X : Type 0} → List X → Bool
 is_empty [] = true
 is_empty (x ∷ xs) = false
@@ -27,6 +29,7 @@ are_names name (b ∷ bs) = cond (is_slash b) (is_file_name name && are_names []
 abbrev pub part : ℕ → ℕ → List ℕ → List ℕ
 part start end path = take (end - start) (drop start path)
 
+-- the empty path, or names parted by slashes
 abbrev pub is_path : List ℕ → Bool
 is_path path = is_empty path || are_names [] path
 
@@ -56,6 +59,7 @@ inner_of (RemoveFileIn inner) = Some inner
 inner_of (RemoveDirIn inner) = Some inner
 inner_of _ = None
 
+-- the path of a request, where it has one, is a path
 abbrev pub has_path : Option Inner → Bool
 has_path None = true
 has_path (Some inner) = is_path inner.path

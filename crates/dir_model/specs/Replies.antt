@@ -41,9 +41,11 @@ refused_in refuses es (Some folder) = refuses es folder
 abbrev pub make_refusal : List ℕ → List TreeEntry → ℕ → Option DirError
 make_refusal path es folder = cond (has_any es folder path) (Some Exists) (cond (has_parent es folder path) None (Some Missing))
 
+-- why no file can be used at a path of a folder
 abbrev pub file_refusal : List ℕ → List TreeEntry → ℕ → Option DirError
 file_refusal path es folder = cond (has_file es folder path) None (Some Missing)
 
+-- why nothing can be synced there
 abbrev pub sync_refusal : List ℕ → List TreeEntry → ℕ → Option DirError
 sync_refusal path es folder = cond (has_any es folder path) None (Some Missing)
 
@@ -51,6 +53,7 @@ sync_refusal path es folder = cond (has_any es folder path) None (Some Missing)
 abbrev pub dir_refusal : List ℕ → List TreeEntry → ℕ → Option DirError
 dir_refusal path es folder = cond (list_any (is_dir_entry folder path) es) (cond (has_children es folder path) (Some NotEmpty) None) (Some Missing)
 
+-- why a folder can't be removed: something stands in it
 abbrev pub folder_refusal : List TreeEntry → ℕ → Option DirError
 folder_refusal es folder = cond (holds_any es folder) (Some NotEmpty) None
 
@@ -102,6 +105,7 @@ is_fallible Finish = false
 is_fallible Kill = false
 is_fallible _ = true
 
+-- it asks for a handle
 abbrev pub asks_for_handle : Request → Bool
 asks_for_handle (Open spot which) = true
 asks_for_handle (OpenArea area) = true
@@ -121,6 +125,7 @@ abbrev pub left_at : List ℕ → List ℕ → List TreeEntry → Option ℕ →
 left_at path piece es None = 0
 left_at path piece es (Some folder) = cond (has_file es folder path) (length piece) 0
 
+-- how many bytes of a refused append may stand, at most
 abbrev pub most_left : DirState → Request → ℕ
 most_left s (AppendIn inner piece) = left_at inner.path piece s.entries (folder_at s.namespace inner.spot)
 most_left s _ = 0
@@ -130,14 +135,17 @@ abbrev pub bytes_at : List TreeEntry → List ℕ → ℕ → ℕ → Option ℕ
 bytes_at es path at room None = []
 bytes_at es path at room (Some folder) = take room (drop at (content es folder path))
 
-abbrev pub is_read : DirState → Request → List ℕ → Bool
-is_read s (ReadIn inner at room) bytes = bytes_eq bytes (bytes_at s.entries inner.path at room (folder_at s.namespace inner.spot))
-is_read s _ bytes = false
+-- the bytes are those that a read gives
+abbrev pub is_read_answer : DirState → Request → List ℕ → Bool
+is_read_answer s (ReadIn inner at room) bytes = bytes_eq bytes (bytes_at s.entries inner.path at room (folder_at s.namespace inner.spot))
+is_read_answer s _ bytes = false
 
+-- the names are an answer to the listing of an area
 abbrev pub is_names : DirState → ℕ → Request → List (List ℕ) → Bool
 is_names s p (ListArea area) names = shows_area area names (listing_of s p)
 is_names s p _ names = false
 
+-- the items are an answer to the listing of a directory
 abbrev pub is_items : DirState → ℕ → Request → List Item → Bool
 is_items s p (ListIn inner) items = shows_inside inner items (listing_of s p)
 is_items s p _ items = false
@@ -158,7 +166,7 @@ is_state_reply s p request Begun = is_listing_request request && not (is_listing
 is_state_reply s p request (Opened handle) = not (is_some (refusal s p request)) && (asks_for_handle request && not (has_open s.namespace p handle))
 is_state_reply s p request (Names names) = is_names s p request names
 is_state_reply s p request (Items items) = is_items s p request items
-is_state_reply s p request (Read bytes) = not (is_some (refusal s p request)) && is_read s request bytes
+is_state_reply s p request (Read bytes) = not (is_some (refusal s p request)) && is_read_answer s request bytes
 is_state_reply s p request (Refused error left) = is_refused s p request error left
 
 -- the refusals that a call may give, whatever the directory
@@ -189,13 +197,16 @@ abbrev pub is_own_at : DirState → List ℕ → Option ℕ → Bool
 is_own_at s path None = false
 is_own_at s path (Some folder) = is_apps_own s.apps folder path
 
-abbrev pub is_own_of : DirState → Option Inner → Bool
-is_own_of s None = false
-is_own_of s (Some inner) = is_own_at s inner.path (folder_at s.namespace inner.spot)
+-- it stands at or below the root of a started app
+abbrev pub is_apps_inner : DirState → Option Inner → Bool
+is_apps_inner s None = false
+is_apps_inner s (Some inner) = is_own_at s inner.path (folder_at s.namespace inner.spot)
 
+-- the request is about what a started app may change
 abbrev pub is_apps_request : DirState → Request → Bool
-is_apps_request s request = is_own_of s (inner_of request)
+is_apps_request s request = is_apps_inner s (inner_of request)
 
+-- how many bytes are to be appended
 abbrev pub piece_length : Request → ℕ
 piece_length (AppendIn inner piece) = length piece
 piece_length _ = 0
@@ -226,14 +237,17 @@ abbrev pub done_reply : {T : Type 0} → Result T DirError → Reply
 done_reply (Ok value) = Done
 done_reply (Err error) = Refused error 0
 
+-- the reply to a request for a handle
 abbrev pub opened_reply : Result Handle DirError → Reply
 opened_reply (Ok handle) = Opened handle
 opened_reply (Err error) = Refused error 0
 
+-- the reply to the listing of an area
 abbrev pub names_reply : Result (List (List ℕ)) DirError → Reply
 names_reply (Ok names) = Names names
 names_reply (Err error) = Refused error 0
 
+-- the reply to the listing of a directory
 abbrev pub items_reply : Result (List Item) DirError → Reply
 items_reply (Ok items) = Items items
 items_reply (Err error) = Refused error 0
@@ -255,6 +269,7 @@ is_look_at test (TryLock handle Shared) = true
 is_look_at test (Close handle) = true
 is_look_at test _ = false
 
+-- any location
 abbrev pub is_any_spot : Spot → Bool
 is_any_spot spot = true
 

@@ -23,7 +23,7 @@ use Rattle.dir_model.specs.Locks.{target_of, is_handle}
 use Rattle.dir_model.specs.State.{Namespace, DirState, empty_state, is_at, folder_at}
 use Rattle.dir_model.specs.Paths.{is_slash}
 use Rattle.dir_model.specs.Trees.{without_path, mark_prefix, app_root}
-use Rattle.dir_model.specs.Listings.{noted_all, begun, without_listing, is_listing_request}
+use Rattle.dir_model.specs.Listings.{noted_all, listing_begun, without_listing, is_listing_request}
 
 -- a folder that stood there is at the other location
 abbrev pub moved : Spot → Spot → Option Spot → Option Spot
@@ -91,6 +91,7 @@ abbrev pub removed_in : Option ℕ → List ℕ → List TreeEntry → List Tree
 removed_in None path es = es
 removed_in (Some folder) path es = without_path folder path es
 
+-- what stands in folders after a removal
 abbrev pub entries_kept : Namespace → List TreeEntry → Request → Reply → List TreeEntry
 entries_kept n es (RemoveFileIn inner) Done = removed_in (folder_at n inner.spot) inner.path es
 entries_kept n es (RemoveDirIn inner) Done = removed_in (folder_at n inner.spot) inner.path es
@@ -100,6 +101,7 @@ entries_kept n es _ _ = es
 abbrev pub is_mark : List ℕ → Bool
 is_mark path = starts_with nat_eq path mark_prefix && not (list_any is_slash path)
 
+-- the app that a mark made at this path starts
 abbrev pub marked_app : Option ℕ → List ℕ → Option StartedApp
 marked_app None path = None
 marked_app (Some folder) path = cond (is_mark path) (Some (record { folder = folder; root = app_root (drop (length mark_prefix) path) })) None
@@ -126,12 +128,14 @@ listings_done s p Finish = without_listing p s.listings
 listings_done s p Kill = without_listing p s.listings
 listings_done s p request = cond (changes_names request) (noted_all s s.listings) s.listings
 
+-- the listings that are going on after a request has its answer
 abbrev pub listings_ended : DirState → ℕ → Request → List OpenListing
 listings_ended s p request = cond (is_listing_request request) (without_listing p s.listings) s.listings
 
+-- the same after any reply
 abbrev pub listings_replied : DirState → ℕ → Request → Reply → List OpenListing
 listings_replied s p request Done = listings_done s p request
-listings_replied s p request Begun = s.listings ++ option_to_list (begun s p request)
+listings_replied s p request Begun = s.listings ++ option_to_list (listing_begun s p request)
 listings_replied s p request (Names names) = listings_ended s p request
 listings_replied s p request (Items items) = listings_ended s p request
 listings_replied s p request (Refused error left) = listings_ended s p request

@@ -13,14 +13,17 @@ use Rattle.dir_model.specs.declared.tree.StartedApp.{StartedApp}
 use Rattle.dir_model.specs.Areas.{rank}
 use Rattle.dir_model.specs.Paths.{is_empty, is_file_name, lies_below, is_directly_in, behind}
 
+-- it is a directory
 abbrev pub is_dir : TreeNode → Bool
 is_dir Dir = true
 is_dir (Piece bytes) = false
 
+-- the bytes of a piece of a file
 abbrev pub bytes_of : TreeNode → List ℕ
 bytes_of Dir = []
 bytes_of (Piece bytes) = bytes
 
+-- of which kind it is
 abbrev pub kind_of : TreeNode → ItemKind
 kind_of Dir = kind.Dir
 kind_of (Piece bytes) = kind.File
@@ -29,9 +32,11 @@ kind_of (Piece bytes) = kind.File
 abbrev pub is_entry : ℕ → List ℕ → TreeEntry → Bool
 is_entry folder path e = (e.folder == folder) && bytes_eq e.path path
 
+-- it is a directory at this path of the folder
 abbrev pub is_dir_entry : ℕ → List ℕ → TreeEntry → Bool
 is_dir_entry folder path e = is_entry folder path e && is_dir e.node
 
+-- it is a file, or a piece of one, at this path of the folder
 abbrev pub is_file_entry : ℕ → List ℕ → TreeEntry → Bool
 is_file_entry folder path e = is_entry folder path e && not (is_dir e.node)
 
@@ -39,9 +44,11 @@ is_file_entry folder path e = is_entry folder path e && not (is_dir e.node)
 abbrev pub has_dir : List TreeEntry → ℕ → List ℕ → Bool
 has_dir es folder path = is_empty path || list_any (is_dir_entry folder path) es
 
+-- a file stands at the path
 abbrev pub has_file : List TreeEntry → ℕ → List ℕ → Bool
 has_file es folder path = list_any (is_file_entry folder path) es
 
+-- something stands at the path
 abbrev pub has_any : List TreeEntry → ℕ → List ℕ → Bool
 has_any es folder path = has_dir es folder path || has_file es folder path
 
@@ -57,6 +64,7 @@ has_parent es folder path = is_directly_in [] path || list_any (is_parent_entry 
 abbrev pub is_child : ℕ → List ℕ → TreeEntry → Bool
 is_child folder directory e = (e.folder == folder) && is_directly_in directory e.path
 
+-- something stands in the directory
 abbrev pub has_children : List TreeEntry → ℕ → List ℕ → Bool
 has_children es folder directory = list_any (is_child folder directory) es
 
@@ -72,6 +80,7 @@ content es folder path = flat_map (λ e. bytes_of e.node) (filter (is_entry fold
 abbrev pub item_in : ℕ → List ℕ → TreeEntry → Option Item
 item_in folder directory e = cond (is_child folder directory e && is_file_name (behind directory e.path)) (Some (record { name = behind directory e.path; kind = kind_of e.node })) None
 
+-- what stands in the directory
 abbrev pub items_in : ℕ → List ℕ → List TreeEntry → List Item
 items_in folder directory es = filter_map (item_in folder directory) es
 
@@ -80,6 +89,7 @@ abbrev pub name_in : Area → Option Spot → Option (List ℕ)
 name_in area None = None
 name_in area (Some spot) = cond (rank spot.area == rank area) (Some spot.name) None
 
+-- the names of the folders in an area
 abbrev pub names_in : Area → List (Option Spot) → List (List ℕ)
 names_in area places = filter_map (name_in area) places
 

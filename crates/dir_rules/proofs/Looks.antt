@@ -1,8 +1,9 @@
 -- A handle that is opened, asked for a shared lock and closed again leaves what is known as it was, but for where it looked.
 use Rattle.std.proofs.Common.{◌≡◌, ℕ, Bool, true, false, not, ◌&&◌, ◌||◌, ◌==◌, cond, bytes_eq, Option, Some, None, List, [], ◌∷◌, ◌++◌, map, filter, find, Result, Ok, Err, refl, sym, ap, subst, ◌∙◌, append_assoc}
 use Rattle.std.specs.List.{list_any}
+use Rattle.plain_laws.proofs.Texts.{same_bytes}
 use Rattle.dir_model.specs.declared.area.Area.{Area}
-use Rattle.dir_model.specs.declared.area.Area.TheVariants.{Embryo, Prepare, Prepared, Run, ExitedGarbage, Garbage, Incoming}
+use Rattle.dir_model.specs.declared.area.Area.TheVariants.{Embryo, Prepare, Prepared, Run, ExitedGarbage, Garbage, Incoming, Images}
 use Rattle.dir_model.specs.declared.opening.Target.{Target}
 use Rattle.dir_model.specs.declared.opening.Target.TheVariants.{Own, Claim, Gate}
 use Rattle.dir_model.specs.declared.spot.Handle.{Handle}
@@ -20,15 +21,15 @@ use Rattle.dir_rules.specs.declared.seen.ShownArea.{ShownArea}
 use Rattle.dir_model.specs.declared.item.Inner.{Inner}
 use Rattle.dir_model.specs.Pods.{pod_text}
 use Rattle.dir_model.specs.Replies.{done_reply}
-use Rattle.dir_rules.specs.Standing.{is_in, is_garbage, is_number, held_in, gives_up, gives_up_cover, recover, given_up, own_spot, prepared_name, looked_by, holds_claim, holds_own, intends, is_claim_held, is_gate_shared, is_gate_exclusive, is_gate_of, has_place, area_of, standing_done}
+use Rattle.dir_rules.specs.Standing.{is_in, is_garbage, is_handle_held, held_with_mode, gives_up, gives_up_cover, uncovered_by_close, given_up, own_spot, prepared_name, looked_by, holds_claim, holds_own, intends, is_claim_held, is_gate_shared, is_gate_exclusive, is_gate_of, has_place, area_of, standing_done}
 use Rattle.dir_model.specs.Areas.{is_stage, rank}
 use Rattle.dir_rules.specs.LockRules.{is_removal_held, is_removal_target, is_same_target, is_open_on, is_second, is_alone, may_lock_own, may_lock_by}
 use Rattle.dir_model.specs.Local.{is_own_of}
 use Rattle.dir_rules.specs.Seen.{is_free, still_listed, still_shown, still_known}
-use Rattle.dir_rules.specs.Rules.{is_deleting, allows}
+use Rattle.dir_rules.specs.Rules.{is_deleting, allows, may_read_area}
 use Rattle.dir_rules.specs.Conforms.{seen_replied, Looked, is_lookable}
 use Rattle.dir_model.specs.Locks.{is_exclusive}
-use Rattle.dir_model.proofs.Lists.{and_both, same_self, and_false}
+use Rattle.dir_model.proofs.Lists.{same_self, and_false}
 use Rattle.dir_model.specs.declared.spot.Which.TheVariants as which
 
 pub looked_same : (s : Seen) → Looked s s
@@ -40,36 +41,32 @@ looked_more {a} {b} {c} ab bc = record {
   same = bc.same ∙ ap (λ (x : Seen). let r : Seen = record x { standing = record x.standing { looked = bc.free ++ x.standing.looked } } in r) ab.same ∙ ap (λ (l : List Spot). let r : Seen = record a { standing = record a.standing { looked = l } } in r) (sym (append_assoc bc.free ab.free a.standing.looked));
 }
 
-pub same_bytes : (bs : List ℕ) → bytes_eq bs bs ≡ true
-same_bytes [] = refl
-same_bytes (b ∷ bs) = and_both _ _ (same_self b) (same_bytes bs)
-
 -- a number that isn't open: nothing is given up, dropped or locked by it
 abbrev pub Fresh : Handle → List Held → Type 0
-Fresh h hs = list_any (is_number h) hs ≡ false
+Fresh h hs = list_any (is_handle_held h) hs ≡ false
 
 pub none_given : (test : Held → Bool) (h : Handle) (hs : List Held) → Fresh h hs → gives_up test h hs ≡ false
 none_given test h [] fresh = refl
-none_given test h (x ∷ hs) fresh = by (test x) (is_number h x) fresh (λ f. none_given test h hs f)
+none_given test h (x ∷ hs) fresh = by (test x) (is_handle_held h x) fresh (λ f. none_given test h hs f)
   where
-    by : (a b : Bool) → (b || list_any (is_number h) hs) ≡ false → (Fresh h hs → gives_up test h hs ≡ false) → ((a && b) || gives_up test h hs) ≡ false
+    by : (a b : Bool) → (b || list_any (is_handle_held h) hs) ≡ false → (Fresh h hs → gives_up test h hs ≡ false) → ((a && b) || gives_up test h hs) ≡ false
     by a true f go = cc
     by true false f go = go f
     by false false f go = go f
 
-none_dropped : (h : Handle) (hs : List Held) → Fresh h hs → filter (λ g. not (is_number h g)) hs ≡ hs
+pub none_dropped : (h : Handle) (hs : List Held) → Fresh h hs → filter (λ g. not (is_handle_held h g)) hs ≡ hs
 none_dropped h [] fresh = refl
-none_dropped h (x ∷ hs) fresh = by (is_number h x) fresh (λ f. none_dropped h hs f)
+none_dropped h (x ∷ hs) fresh = by (is_handle_held h x) fresh (λ f. none_dropped h hs f)
   where
-    by : (b : Bool) → (b || list_any (is_number h) hs) ≡ false → (Fresh h hs → filter (λ g. not (is_number h g)) hs ≡ hs) → cond (not b) (x ∷ filter (λ g. not (is_number h g)) hs) (filter (λ g. not (is_number h g)) hs) ≡ x ∷ hs
+    by : (b : Bool) → (b || list_any (is_handle_held h) hs) ≡ false → (Fresh h hs → filter (λ g. not (is_handle_held h g)) hs ≡ hs) → cond (not b) (x ∷ filter (λ g. not (is_handle_held h g)) hs) (filter (λ g. not (is_handle_held h g)) hs) ≡ x ∷ hs
     by true f go = cc
     by false f go = ap (λ (l : List Held). x ∷ l) (go f)
 
-none_locked : (h : Handle) (m : Mode) (hs : List Held) → Fresh h hs → map (held_in h m) hs ≡ hs
+none_locked : (h : Handle) (m : Mode) (hs : List Held) → Fresh h hs → map (held_with_mode h m) hs ≡ hs
 none_locked h m [] fresh = refl
-none_locked h m (x ∷ hs) fresh = by (is_number h x) fresh (λ f. none_locked h m hs f)
+none_locked h m (x ∷ hs) fresh = by (is_handle_held h x) fresh (λ f. none_locked h m hs f)
   where
-    by : (b : Bool) → (b || list_any (is_number h) hs) ≡ false → (Fresh h hs → map (held_in h m) hs ≡ hs) → cond b (record { handle = x.handle; target = x.target; lock = Some m; covered = x.covered }) x ∷ map (held_in h m) hs ≡ x ∷ hs
+    by : (b : Bool) → (b || list_any (is_handle_held h) hs) ≡ false → (Fresh h hs → map (held_with_mode h m) hs ≡ hs) → cond b (record { handle = x.handle; target = x.target; lock = Some m; covered = x.covered }) x ∷ map (held_with_mode h m) hs ≡ x ∷ hs
     by true f go = cc
     by false f go = ap (λ (l : List Held). x ∷ l) (go f)
 
@@ -94,16 +91,16 @@ module _ (s : Seen) (h : Handle) (x : Held) (looked : List Spot) (p : Plain x h)
   Hs = x ∷ s.standing.holdings
 
   none : (test : Held → Bool) → test x ≡ false → gives_up test h Hs ≡ false
-  none test off = ap (λ b. (b && is_number h x) || gives_up test h s.standing.holdings) off ∙ none_given test h s.standing.holdings fresh
+  none test off = ap (λ b. (b && is_handle_held h x) || gives_up test h s.standing.holdings) off ∙ none_given test h s.standing.holdings fresh
 
   no_cover : (t : Target) → gives_up_cover h Hs t ≡ false
   no_cover (Own spot) = none (is_claim_held spot.name) (p.claim spot.name)
   no_cover (Claim spot) = refl
   no_cover (Gate a) = refl
 
-  dropped : map (recover h Hs) (filter (λ g. not (is_number h g)) Hs) ≡ s.standing.holdings
-  dropped = ap (λ (l : List Held). map (recover h Hs) l) (ap (λ b. cond (not b) (x ∷ filter (λ g. not (is_number h g)) s.standing.holdings) (filter (λ g. not (is_number h g)) s.standing.holdings)) (ap (λ (z : Handle). z.number == h.number) p.number ∙ same_self h.number) ∙ none_dropped h s.standing.holdings fresh)
-      ∙ map_same (recover h Hs) s.standing.holdings (λ g. ap (λ b. let r : Held = record { handle = g.handle; target = g.target; lock = g.lock; covered = not b && g.covered } in r) (no_cover g.target))
+  dropped : map (uncovered_by_close h Hs) (filter (λ g. not (is_handle_held h g)) Hs) ≡ s.standing.holdings
+  dropped = ap (λ (l : List Held). map (uncovered_by_close h Hs) l) (ap (λ b. cond (not b) (x ∷ filter (λ g. not (is_handle_held h g)) s.standing.holdings) (filter (λ g. not (is_handle_held h g)) s.standing.holdings)) (ap (λ (z : Handle). z.number == h.number) p.number ∙ same_self h.number) ∙ none_dropped h s.standing.holdings fresh)
+      ∙ map_same (uncovered_by_close h Hs) s.standing.holdings (λ g. ap (λ b. let r : Held = record { handle = g.handle; target = g.target; lock = g.lock; covered = not b && g.covered } in r) (no_cover g.target))
 
   -- it is open
   abbrev and_open : Seen
@@ -111,9 +108,9 @@ module _ (s : Seen) (h : Handle) (x : Held) (looked : List Spot) (p : Plain x h)
 
   closed_standing : given_up h and_open.standing ≡ record s.standing { looked = looked }
   closed_standing =
-      ap (λ b. let r : Standing = record s.standing { looked = looked; gated = not b && s.standing.gated; holdings = map (recover h Hs) (filter (λ g. not (is_number h g)) Hs); cleared = filter (λ u. not (gives_up (is_claim_held u) h Hs)) s.standing.cleared } in r) (none (is_gate_shared Embryo) p.gate)
-      ∙ ap (λ (l : List Held). let r : Standing = record s.standing { looked = looked; holdings = l; cleared = filter (λ u. not (gives_up (is_claim_held u) h Hs)) s.standing.cleared } in r) dropped
-      ∙ ap (λ (l : List (List ℕ)). let r : Standing = record s.standing { looked = looked; cleared = l } in r) (filter_same (λ u. not (gives_up (is_claim_held u) h Hs)) s.standing.cleared (λ u. ap not (none (is_claim_held u) (p.claim u))))
+      ap (λ b. let r : Standing = record s.standing { looked = looked; embryo_under_lock = not b && s.standing.embryo_under_lock; holdings = map (uncovered_by_close h Hs) (filter (λ g. not (is_handle_held h g)) Hs); seen_unowned_under_claim = filter (λ u. not (gives_up (is_claim_held u) h Hs)) s.standing.seen_unowned_under_claim } in r) (none (is_gate_shared Embryo) p.gate)
+      ∙ ap (λ (l : List Held). let r : Standing = record s.standing { looked = looked; holdings = l; seen_unowned_under_claim = filter (λ u. not (gives_up (is_claim_held u) h Hs)) s.standing.seen_unowned_under_claim } in r) dropped
+      ∙ ap (λ (l : List (List ℕ)). let r : Standing = record s.standing { looked = looked; seen_unowned_under_claim = l } in r) (filter_same (λ u. not (gives_up (is_claim_held u) h Hs)) s.standing.seen_unowned_under_claim (λ u. ap not (none (is_claim_held u) (p.claim u))))
 
   -- the gate of incoming may be what is given up
   gives_store : gives_up (is_gate_shared Incoming) h Hs ≡ is_gate_shared Incoming x
@@ -126,7 +123,7 @@ module _ (s : Seen) (h : Handle) (x : Held) (looked : List Spot) (p : Plain x h)
       by false = refl
 
   abbrev Closing : Standing → Bool → List Inner → List ShownItem → List ShownArea → Bool → Seen
-  Closing standing b ls items areas c = record s { standing = standing; stored = not b && s.stored; listed = ls; items = items; areas = areas; kept = (not ((c && s.standing.gated) && intends (λ i. holds_own (pod_text i.draw.bytes) and_open.standing) s.standing.intent) && true) && s.kept }
+  Closing standing b ls items areas c = record s { standing = standing; stored = not b && s.stored; listed = ls; items = items; areas = areas; kept = (not ((c && s.standing.embryo_under_lock) && intends (λ i. holds_own (pod_text i.draw.bytes) and_open.standing) s.standing.intent) && true) && s.kept }
 
   -- it is closed again
   pub closed_plain : seen_replied and_open (Close h) Done ≡ record s { standing = record s.standing { looked = looked }; stored = not (is_gate_shared Incoming x) && s.stored }
@@ -156,7 +153,7 @@ pub none_second : (x : Held) (hs : List Held) → is_open_on x.target hs ≡ fal
 none_second x [] off = refl
 none_second x (g ∷ hs) off = by (is_same_target x.target g.target) off (λ f. none_second x hs f)
   where
-    by : (b : Bool) → (b || is_open_on x.target hs) ≡ false → (is_open_on x.target hs ≡ false → list_any (is_second x) hs ≡ false) → ((b && not (is_number x.handle g)) || list_any (is_second x) hs) ≡ false
+    by : (b : Bool) → (b || is_open_on x.target hs) ≡ false → (is_open_on x.target hs ≡ false → list_any (is_second x) hs ≡ false) → ((b && not (is_handle_held x.handle g)) || list_any (is_second x) hs) ≡ false
     by true f go = cc
     by false f go = go f
 
@@ -167,11 +164,11 @@ alone_newest x hs off =
     ∙ (ap (λ b. not (b || list_any (is_second x) hs)) (and_false (is_same_target x.target x.target)) ∙ ap not (none_second x hs off))
 
 -- the newest handle is found by its number
-pub newest_found : (x : Held) (hs : List Held) → find (is_number x.handle) (x ∷ hs) ≡ Some x
-newest_found x hs = ap (λ b. cond b (Some x) (find (is_number x.handle) hs)) (same_self x.handle.number)
+pub newest_found : (x : Held) (hs : List Held) → find (is_handle_held x.handle) (x ∷ hs) ≡ Some x
+newest_found x hs = ap (λ b. cond b (Some x) (find (is_handle_held x.handle) hs)) (same_self x.handle.number)
 
-pub newest_locked : (x : Held) (m : Mode) (hs : List Held) → Fresh x.handle hs → map (held_in x.handle m) (x ∷ hs) ≡ record { handle = x.handle; target = x.target; lock = Some m; covered = x.covered } ∷ hs
-newest_locked x m hs fresh = ap (λ b. cond b (record { handle = x.handle; target = x.target; lock = Some m; covered = x.covered }) x ∷ map (held_in x.handle m) hs) (same_self x.handle.number) ∙ ap (λ (l : List Held). record { handle = x.handle; target = x.target; lock = Some m; covered = x.covered } ∷ l) (none_locked x.handle m hs fresh)
+pub newest_locked : (x : Held) (m : Mode) (hs : List Held) → Fresh x.handle hs → map (held_with_mode x.handle m) (x ∷ hs) ≡ record { handle = x.handle; target = x.target; lock = Some m; covered = x.covered } ∷ hs
+newest_locked x m hs fresh = ap (λ b. cond b (record { handle = x.handle; target = x.target; lock = Some m; covered = x.covered }) x ∷ map (held_with_mode x.handle m) hs) (same_self x.handle.number) ∙ ap (λ (l : List Held). record { handle = x.handle; target = x.target; lock = Some m; covered = x.covered } ∷ l) (none_locked x.handle m hs fresh)
 
 module _ (s : Seen) (h : Handle) (spot : Spot) (fresh : Fresh h s.standing.holdings) where
   abbrev Covers : Bool
@@ -212,9 +209,9 @@ module _ (s : Seen) (h : Handle) (spot : Spot) (fresh : Fresh h s.standing.holdi
 
   locked_standing : is_lookable spot.area ≡ true → standing_done (tried None s.standing.looked).standing (TryLock h Shared) ≡ (tried (Some Shared) (own_spot (Own spot) ++ s.standing.looked)).standing
   locked_standing look =
-      ap (λ (o : Option Held). looked_by o (record s.standing { holdings = map (held_in h Shared) (on_own h spot None Covers ∷ s.standing.holdings) })) (newest_found (on_own h spot None Covers) s.standing.holdings)
+      ap (λ (o : Option Held). looked_by o (record s.standing { holdings = map (held_with_mode h Shared) (on_own h spot None Covers ∷ s.standing.holdings) })) (newest_found (on_own h spot None Covers) s.standing.holdings)
       ∙ (ap (λ (l : List Held). looked_by (Some (on_own h spot None Covers)) (record s.standing { holdings = l })) (newest_locked (on_own h spot None Covers) Shared s.standing.holdings fresh)
-      ∙ ap (λ b. let r : Standing = record s.standing { holdings = on_own h spot (Some Shared) Covers ∷ s.standing.holdings; looked = own_spot (Own spot) ++ s.standing.looked; cleared = cond (b && holds_claim spot.name s.standing) (prepared_name (Own spot)) [] ++ s.standing.cleared } in r) (not_prepared look))
+      ∙ ap (λ b. let r : Standing = record s.standing { holdings = on_own h spot (Some Shared) Covers ∷ s.standing.holdings; looked = own_spot (Own spot) ++ s.standing.looked; seen_unowned_under_claim = cond (b && holds_claim spot.name s.standing) (prepared_name (Own spot)) [] ++ s.standing.seen_unowned_under_claim } in r) (not_prepared look))
 
   locked_try : is_lookable spot.area ≡ true → is_open_on (Own spot) s.standing.holdings ≡ false → seen_replied (tried None s.standing.looked) (TryLock h Shared) Done ≡ tried (Some Shared) (own_spot (Own spot) ++ s.standing.looked)
   locked_try look off =
@@ -277,3 +274,8 @@ deletes_none name (g ∷ hs) h = by g.target (is_exclusive g.lock) h (λ k. dele
         apart : (y : Bool) → (is_stage spot.area && bytes_eq spot.name name) ≡ y → (y || is_open_on (Own (record { area = Prepare; name = name })) hs) ≡ false → (((y && b) && is_garbage spot.area) || list_any (is_deleting name) hs) ≡ false
         apart true is h = cc
         apart false is h = more h
+
+-- the areas of pods may be looked at
+pub looks_there : (s : Seen) (place : Area) → is_stage place ≡ true → may_read_area s place ≡ true
+looks_there s Images is = cc
+looks_there s _ is = refl

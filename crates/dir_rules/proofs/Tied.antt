@@ -5,6 +5,7 @@ use Rattle.dir_model.specs.declared.intent.Start.{Start}
 use Rattle.dir_model.proofs.Lists.{any_last_not}
 use Rattle.std.proofs.Common.{◌≡◌, ◌⊎◌, inl, inr, ℕ, Bool, true, false, not, ◌&&◌, ◌||◌, ◌==◌, cond, Option, Some, None, option_map, List, [], ◌∷◌, ◌++◌, refl, sym, ap, subst, ◌∙◌}
 use Rattle.std.specs.List.{list_any, AllByRecursion}
+use Rattle.plain_laws.proofs.Booleans.{no_more}
 use Rattle.dir_model.specs.declared.area.Area.{Area}
 use Rattle.dir_model.specs.declared.area.Area.TheVariants.{Prepare, Prepared, Run, Incoming, Images}
 use Rattle.dir_model.specs.declared.spot.Spot.{Spot}
@@ -21,16 +22,16 @@ use Rattle.dir_rules.specs.declared.seen.Seen.{Seen}
 use Rattle.dir_rules.specs.declared.seen.Making.{Making}
 use Rattle.dir_rules.specs.Seen.{spoilt, learned, makes_at, making_changed, moved_making, with_mark, marks}
 use Rattle.dir_rules.specs.Standing.{standing_replied}
-use Rattle.dir_rules.specs.LockRules.{may_ask}
-use Rattle.dir_rules.specs.Rules.{allows, may_bring, may_bring_between}
-use Rattle.dir_rules.specs.Conforms.{seen_replied, saw, seen_after, seen_of, Conforms, lost, with_lost, Agrees, IsTied}
+use Rattle.dir_rules.specs.LockRules.{lock_rules_allow}
+use Rattle.dir_rules.specs.Rules.{allows, may_move_by_contents, contents_allow_move}
+use Rattle.dir_rules.specs.Conforms.{seen_replied, seen_after_event, seen_after, seen_of, Conforms, lost, with_lost, Agrees, IsTied}
 use Rattle.dir_model.proofs.Lists.{and_left, and_right, and_both, same_self, any_push, and_false}
 use Rattle.dir_model.proofs.Chains.{states_next-append}
 
 -- what was seen of two parts
 pub seen_after-append : (me : ℕ) (s : Seen) (xs ys : List Event) → seen_after me s (xs ++ ys) ≡ seen_after me (seen_after me s xs) ys
 seen_after-append me s [] ys = refl
-seen_after-append me s (x ∷ xs) ys = seen_after-append me (saw me s x) xs ys
+seen_after-append me s (x ∷ xs) ys = seen_after-append me (seen_after_event me s x) xs ys
 
 pub others_unseen : (me : ℕ) (s : Seen) (es : List Event) → AllByRecursion (λ e. is_foreign me e ≡ true) es → seen_after me s es ≡ s
 others_unseen me s [] a = refl
@@ -46,12 +47,7 @@ own_seen me h request reply alive = seen_after-append me _ h (event me request r
     by true h = cc
     by false h = refl
 
--- a spoilt folder allows no more than the same folder unspoilt
-no_more : (b : Bool) → (b && false) ≡ true → ⊥
-no_more true h = cc
-no_more false h = cc
-
-moves_lost : (s : Seen) (kept : Bool) (m : Making) (from to : Spot) (a b : Area) → may_bring_between (record s { kept = kept; making = Some (spoilt m) }) from to a b ≡ true → may_bring_between (record s { making = Some m }) from to a b ≡ true
+moves_lost : (s : Seen) (kept : Bool) (m : Making) (from to : Spot) (a b : Area) → contents_allow_move (record s { kept = kept; making = Some (spoilt m) }) from to a b ≡ true → contents_allow_move (record s { making = Some m }) from to a b ≡ true
 moves_lost s kept m from to Prepare Prepared h = absurd (no_more (makes_at (Some m) from) h)
 moves_lost s kept m from to Prepare Run h = absurd (no_more (makes_at (Some m) from) h)
 moves_lost s kept m from to Incoming Images h = absurd (no_more (makes_at (Some m) from) (and_left _ _ h))
@@ -60,9 +56,9 @@ moves_lost s kept m from to _ _ h = h
 allows_spoilt : (s : Seen) (kept : Bool) (m : Making) (request : Request) → allows (record s { kept = kept; making = Some (spoilt m) }) request ≡ true → allows (record s { making = Some m }) request ≡ true
 allows_spoilt s kept m (MoveFolder from to) h =
     let lost : Seen = record s { kept = kept; making = Some (spoilt m) } in
-    let x = and_right (may_ask s.standing (MoveFolder from to)) (may_bring lost from to) h in
-    and_both (may_ask s.standing (MoveFolder from to)) (may_bring (record s { making = Some m }) from to) (and_left (may_ask s.standing (MoveFolder from to)) (may_bring lost from to) h)
-    (and_both _ _ (moves_lost s kept m from to from.area to.area (and_left _ _ x)) (and_right (may_bring_between lost from to from.area to.area) _ x))
+    let x = and_right (lock_rules_allow s.standing (MoveFolder from to)) (may_move_by_contents lost from to) h in
+    and_both (lock_rules_allow s.standing (MoveFolder from to)) (may_move_by_contents (record s { making = Some m }) from to) (and_left (lock_rules_allow s.standing (MoveFolder from to)) (may_move_by_contents lost from to) h)
+    (and_both _ _ (moves_lost s kept m from to from.area to.area (and_left _ _ x)) (and_right (contents_allow_move lost from to from.area to.area) _ x))
 allows_spoilt s kept m _ h = h
 
 pub allows_lost : (s : Seen) (kept spoils : Bool) (making : Option Making) (request : Request) → allows (with_lost (record s { making = making }) kept spoils) request ≡ true → allows (record s { making = making }) request ≡ true
@@ -150,7 +146,7 @@ pub lived_before : (me : ℕ) (s : DirState) (es : List Event) → AllByRecursio
 lived_before me s [] f a = a
 lived_before me s (e ∷ es) f a = lived_step me s.namespace e.process e.request e.reply f.0 (lived_before me (state_next s e) es f.1 a)
 
-abbrev Lives : ℕ → List Event → Type 0
+abbrev pub Lives : ℕ → List Event → Type 0
 Lives me h = lives (state_after h).namespace me ≡ true
 
 pub lived_meanwhile : {me : ℕ} {old new : List Event} → Interference me old new → Lives me new → Lives me old
@@ -226,7 +222,7 @@ pub tied_call : {me : ℕ} {old new : List Event} {s s' : Seen} {request : Reque
 tied_call {me} {old} {new} {s} {s'} {request} {reply} tied b k is c = subst (λ (x : Seen). IsTied me new x) (sym is) (tied_step me old new s request reply tied b k c)
 
 -- each beginning of a conforming part conforms
-kept_shorter : (me : ℕ) (s : Seen) (e : Event) → (saw me s e).kept ≡ true → s.kept ≡ true
+kept_shorter : (me : ℕ) (s : Seen) (e : Event) → (seen_after_event me s e).kept ≡ true → s.kept ≡ true
 kept_shorter me s e h = by (is_foreign me e) h
   where
     by : (b : Bool) → (cond b s (seen_replied s e.request e.reply)).kept ≡ true → s.kept ≡ true
@@ -235,7 +231,7 @@ kept_shorter me s e h = by (is_foreign me e) h
 
 pub kept_before : (me : ℕ) (s : Seen) (es : List Event) → (seen_after me s es).kept ≡ true → s.kept ≡ true
 kept_before me s [] h = h
-kept_before me s (e ∷ es) h = kept_shorter me s e (kept_before me (saw me s e) es h)
+kept_before me s (e ∷ es) h = kept_shorter me s e (kept_before me (seen_after_event me s e) es h)
 
 pub conforms-left : (me : ℕ) (xs ys : List Event) → Conforms me (xs ++ ys) → Conforms me xs
 conforms-left me xs ys h = kept_before me (seen_of me xs) ys (ap (λ (f : Seen). f.kept) (sym (seen_after-append me _ xs ys)) ∙ h)
@@ -249,4 +245,11 @@ pub tied_unbegun : (me : ℕ) (h : List Event) (s : Seen) (request : Request) �
 tied_unbegun me h s request tied = record {
   living = λ now. let a = tied.living now in record { spoils = a.spoils; same = ap (λ (x : Seen). let r : Seen = record x { kept = allows s request && s.kept } in r) a.same };
   conforms = λ kept. tied.conforms (and_right _ _ kept);
+}
+
+-- what a process knew before a call, it knew at the call's step
+pub tied_meanwhile : {me : ℕ} {old new : List Event} {s : Seen} → IsTied me old s → Interference me old new → IsTied me new s
+tied_meanwhile {me} {old} {new} {s} tied m = record {
+  living = λ now. subst (Agrees s) (sym (meanwhile_unseen m)) (tied.living (lived_meanwhile m now));
+  conforms = λ kept. ap (λ (x : Seen). x.kept) (meanwhile_unseen m) ∙ tied.conforms kept;
 }

@@ -4,6 +4,7 @@ use Rattle.dir_model.proofs.Begun.{begun_stays}
 use Rattle.dir_model.proofs.Allowed.{allowed_step, allowed_reply}
 use Rattle.std.proofs.Common.{arith, ◌≡◌, ◌⊎◌, inl, inr, ℕ, Bool, true, false, not, ◌&&◌, ◌||◌, ◌==◌, cond, List, [], ◌∷◌, refl, sym, ap, subst, ◌∙◌}
 use Rattle.std.proofs.lemmas.Bool.Decides.{nat_tests}
+use Rattle.plain_laws.proofs.Booleans.{clash}
 use Rattle.dir_model.specs.declared.event.Event.{Event}
 use Rattle.dir_model.specs.declared.intent.Intent.{Intent}
 use Rattle.dir_model.specs.declared.request.Request.{Request}
@@ -15,14 +16,10 @@ use Rattle.dir_rules.specs.declared.seen.Seen.{Seen}
 use Rattle.dir_model.specs.State.{DirState, empty_state, lives, has_begun, has_ended}
 use Rattle.dir_model.specs.Trace.{namespace_replied, state_next, states_next, state_after}
 use Rattle.dir_model.specs.Calls.{Interference, IsRun, is_run_from, is_allowed, is_kill, is_foreign, CallStep, TookPlace, LeftNothing, event}
-use Rattle.dir_rules.specs.Conforms.{nothing_seen, seen_replied, saw, seen_after, seen_of, Agrees, IsTied}
+use Rattle.dir_rules.specs.Conforms.{nothing_seen, seen_replied, seen_after_event, seen_after, seen_of, Agrees, IsTied}
 use Rattle.dir_model.proofs.Lists.{not_true, and_left, and_right, any_last, same_self, and_false}
 use Rattle.dir_model.proofs.Chains.{states_next-append, run_before}
 use Rattle.dir_rules.proofs.Tied.{meanwhile_unseen, own_seen}
-
-clash : (b : Bool) → b ≡ true → b ≡ false → ⊥
-clash true h k = cc
-clash false h k = cc
 
 unborn_all : (me : ℕ) (s : DirState) (es : List Event) → has_begun (states_next s es).namespace me ≡ false → has_begun s.namespace me ≡ false
 unborn_all me s es a = by (has_begun s.namespace me) refl
@@ -38,7 +35,7 @@ no_event me s (Begin intent) (Refused error left) allowed a = clash ((left == 0)
 no_event me s (Begin intent) reply allowed a = clash false (allowed_reply s me (Begin intent) reply allowed) refl
 no_event me s request reply allowed a = clash (has_begun s.namespace me) (and_left (has_begun s.namespace me) (not (has_ended s.namespace me)) (and_right (is_well_formed request) (lives s.namespace me) (allowed_step s me request reply allowed))) (unborn_all me s (event me request reply ∷ []) a)
 
-saw_nothing : (me : ℕ) (st : DirState) (s : Seen) (e : Event) → is_allowed st e ≡ true → has_begun (state_next st e).namespace me ≡ false → s ≡ nothing_seen → saw me s e ≡ nothing_seen
+saw_nothing : (me : ℕ) (st : DirState) (s : Seen) (e : Event) → is_allowed st e ≡ true → has_begun (state_next st e).namespace me ≡ false → s ≡ nothing_seen → seen_after_event me s e ≡ nothing_seen
 saw_nothing me st s e allowed a is = by (is_foreign me e) refl
   where
     same_process : (p : ℕ) (kill : Bool) → (not (p == me) || kill) ≡ false → p ≡ me
@@ -56,7 +53,7 @@ saw_nothing me st s e allowed a is = by (is_foreign me e) refl
 
 never_saw : (me : ℕ) (st : DirState) (s : Seen) (es : List Event) → is_run_from st es ≡ true → has_begun (states_next st es).namespace me ≡ false → s ≡ nothing_seen → seen_after me s es ≡ nothing_seen
 never_saw me st s [] run a is = is
-never_saw me st s (e ∷ es) run a is = never_saw me (state_next st e) (saw me s e) es (and_right _ _ run) a (saw_nothing me st s e (and_left _ _ run) (unborn_all me (state_next st e) es a) is)
+never_saw me st s (e ∷ es) run a is = never_saw me (state_next st e) (seen_after_event me s e) es (and_right _ _ run) a (saw_nothing me st s e (and_left _ _ run) (unborn_all me (state_next st e) es a) is)
 
 pub unborn_saw_nothing : (me : ℕ) (h : List Event) → IsRun h → has_begun (state_after h).namespace me ≡ false → seen_of me h ≡ nothing_seen
 unborn_saw_nothing me h run a = never_saw me empty_state nothing_seen h run a refl

@@ -21,10 +21,10 @@ use Rattle.dir_rules.specs.declared.standing.Held.{Held}
 use Rattle.dir_rules.specs.declared.standing.Standing.{Standing}
 use Rattle.dir_rules.specs.declared.seen.Seen.{Seen}
 use Rattle.dir_rules.specs.Marks.{path_in}
-use Rattle.dir_rules.specs.Standing.{is_in, is_garbage, draws, closes_gate, has_name, is_own_held, last_of, find_held}
+use Rattle.dir_rules.specs.Standing.{is_in, is_garbage, draws, excludes_area, is_name_among, is_own_held, last_move_of, find_held}
 use Rattle.dir_rules.specs.LockRules.{on_spot}
 use Rattle.dir_rules.specs.Seen.{makes_at}
-use Rattle.dir_rules.specs.Rules.{deletes, is_file_item, shows}
+use Rattle.dir_rules.specs.Rules.{deletes, is_file_item, is_item_shown}
 
 -- nothing stands there, something is in the way, or something stands inside
 abbrev pub is_place_error : DirError → Bool
@@ -35,12 +35,14 @@ is_place_error error = false
 
 -- the pod that it made stands there still, and it has held that area's lock since before
 abbrev pub is_own_embryo : Standing → Spot → Bool
-is_own_embryo s spot = is_in Embryo spot.area && (s.gated && draws spot.name s)
+is_own_embryo s spot = is_in Embryo spot.area && (s.embryo_under_lock && draws spot.name s)
 
+-- the handle is on the own lock of the pod that the process makes, in embryo
 abbrev pub is_own_embryo_lock : Standing → Target → Bool
 is_own_embryo_lock s (Own spot) = is_own_embryo s spot
 is_own_embryo_lock s target = false
 
+-- the same of a handle that may be none
 abbrev pub is_own_embryo_held : Standing → Option Held → Bool
 is_own_embryo_held s None = false
 is_own_embryo_held s (Some h) = is_own_embryo_lock s h.target
@@ -71,12 +73,14 @@ folder_of request = None
 
 -- it holds the pod's own lock exclusively, and brought the pod there last, or opened the lock there among the garbage
 abbrev pub is_brought : Standing → Spot → Bool
-is_brought s spot = (is_in Prepare spot.area || is_in Run spot.area) && on_spot (spot_eq spot) (last_of spot.name s.moves)
+is_brought s spot = (is_in Prepare spot.area || is_in Run spot.area) && on_spot (spot_eq spot) (last_move_of spot.name s.moves)
 
+-- the handle was opened on the own lock of a folder in a garbage place
 abbrev pub is_opened_at : Spot → Target → Bool
 is_opened_at spot (Own here) = is_garbage spot.area && spot_eq here spot
 is_opened_at spot target = false
 
+-- the process holds the own lock of the pod that it brought there, or that it opened there
 abbrev pub owns_at : Standing → Spot → Bool
 owns_at s spot = list_any (λ h. is_own_held spot.name h && (is_brought s spot || is_opened_at spot h.target)) s.holdings
 
@@ -85,21 +89,24 @@ owns_at s spot = list_any (λ h. is_own_held spot.name h && (is_brought s spot |
 abbrev pub knows_folder : Seen → Spot → Bool
 knows_folder s spot =
     list_any (λ inner. spot_eq inner.spot spot) s.listed
-    || (list_any (λ a. is_in spot.area a.area && has_name spot.name a.names) s.areas || list_any (λ here. spot_eq here spot) s.put_away)
+    || (list_any (λ a. is_in spot.area a.area && is_name_among spot.name a.names) s.areas || list_any (λ here. spot_eq here spot) s.put_away)
 
+-- an area of the store in which folders are made or removed
 abbrev pub is_store : Area → Bool
 is_store Incoming = true
 is_store Trees = true
 is_store Removed = true
 is_store area = false
 
+-- it deletes the folder there: it knows of it, and holds the lock that a deletion there needs
 abbrev pub deletes_at : Seen → Spot → Bool
-deletes_at s spot = knows_folder s spot && ((is_garbage spot.area && owns_at s.standing spot) || (is_store spot.area && closes_gate spot.area s.standing))
+deletes_at s spot = knows_folder s spot && ((is_garbage spot.area && owns_at s.standing spot) || (is_store spot.area && excludes_area spot.area s.standing))
 
 -- it makes, owns or deletes the folder there
 abbrev pub is_its_own : Seen → Spot → Bool
 is_its_own s spot = makes_at s.making spot || ((not (is_garbage spot.area) && owns_at s.standing spot) || deletes_at s spot)
 
+-- the location, if there is one, is that of a folder which is its own
 abbrev pub is_its_folder : Seen → Option Spot → Bool
 is_its_folder s None = false
 is_its_folder s (Some spot) = is_its_own s spot
@@ -120,24 +127,27 @@ is_gone_error Missing = true
 is_gone_error NotEmpty = true
 is_gone_error error = false
 
+-- it asks for the removal of a file or directory
 abbrev pub is_removal : Request → Bool
 is_removal (RemoveFileIn inner) = true
 is_removal (RemoveDirIn inner) = true
 is_removal request = false
 
+-- a removal was answered as only what a started app wrote explains
 abbrev pub meets_app : DirState → Request → Reply → Bool
 meets_app state request (Refused error left) = is_gone_error error && (is_removal request && is_apps_request state request)
 meets_app state request reply = false
 
 -- a directory of a pod that it deletes, which the last listing of its parent showed, is gone
 abbrev pub loses_directory : Seen → Request → Reply → Bool
-loses_directory s (ListIn inner) (Refused Missing left) = deletes s inner.spot.name && shows (λ k. not (is_file_item k)) inner s.items
+loses_directory s (ListIn inner) (Refused Missing left) = deletes s inner.spot.name && is_item_shown (λ k. not (is_file_item k)) inner s.items
 loses_directory s request reply = false
 
 -- an item whose path is longer than any that a maker makes
 abbrev pub most_path : ℕ
 most_path = 8192
 
+-- a listing showed a path that is longer than any that a process makes
 abbrev pub shows_long : Request → Reply → Bool
 shows_long (ListIn inner) (Items items) = list_any (λ (item : Item). nat_lt most_path (length (path_in inner.path item.name))) items
 shows_long request reply = false
@@ -146,6 +156,7 @@ shows_long request reply = false
 abbrev pub is_foreign_write : DirState → Seen → Request → Reply → Bool
 is_foreign_write state s request reply = meets_app state request reply || (loses_directory s request reply || shows_long request reply)
 
+-- the reply tells of what a started app wrote
 abbrev pub IsForeignWrite : DirState → Seen → Request → Reply → Type 0
 IsForeignWrite state s request reply = is_foreign_write state s request reply ≡ true
 
@@ -154,5 +165,6 @@ abbrev pub is_impossible_reply : DirState → Seen → Request → Reply → Boo
 is_impossible_reply state s request reply =
     not (is_foreign_write state s request reply) && (loses_embryo s.standing request reply || (meets_another request reply || loses_own s request reply))
 
+-- the reply is one that no processes which keep the rules bring about
 abbrev pub IsImpossibleReply : DirState → Seen → Request → Reply → Type 0
 IsImpossibleReply state s request reply = is_impossible_reply state s request reply ≡ true

@@ -29,13 +29,15 @@ abbrev pub seen_listed : Seen → Request → Reply → Seen
 seen_listed s request reply = seen_replied (seen_replied s request Begun) request reply
 
 -- others' events aren't seen, nor its own kill
-abbrev pub saw : ℕ → Seen → Event → Seen
-saw me s e = cond (is_foreign me e) s (seen_replied s e.request e.reply)
+abbrev pub seen_after_event : ℕ → Seen → Event → Seen
+seen_after_event me s e = cond (is_foreign me e) s (seen_replied s e.request e.reply)
 
+-- what a process knows after more events
 abbrev pub seen_after : ℕ → Seen → List Event → Seen
 seen_after me s [] = s
-seen_after me s (e ∷ es) = seen_after me (saw me s e) es
+seen_after me s (e ∷ es) = seen_after me (seen_after_event me s e) es
 
+-- what it knows by a whole trace
 abbrev pub seen_of : ℕ → List Event → Seen
 seen_of me trace = seen_after me nothing_seen trace
 
@@ -60,6 +62,7 @@ is_lookable _ = false
 abbrev pub lost : Bool → Option Making → Option Making
 lost spoils m = cond spoils (option_map spoilt m) m
 
+-- after requests that left no event: whether each was allowed, and whether one may have spoilt its folder
 abbrev pub with_lost : Seen → Bool → Bool → Seen
 with_lost s kept spoils = record s { kept = kept; making = lost spoils s.making }
 

@@ -4,6 +4,7 @@ use Rattle.std.specs.List.{list_any, starts_with}
 use Rattle.dir_model.specs.Paths.{is_slash}
 use Rattle.dir_model.specs.Trees.{mark_prefix}
 
+-- a slash is among the bytes
 abbrev pub has_slash : List ℕ → Bool
 has_slash path = list_any is_slash path
 
@@ -30,9 +31,11 @@ digits (suc k) n = digits k (n / 10) ++ (48 + n % 10) ∷ []
 abbrev pub mark : List ℕ → ℕ → List ℕ
 mark text moment = text ++ digits 20 moment
 
+-- the mark of a pod's creation at this moment
 abbrev pub created_mark : ℕ → List ℕ
 created_mark moment = mark (codes "created-") moment
 
+-- the mark of the moment at which a pod in run was found dead
 abbrev pub marked_mark : ℕ → List ℕ
 marked_mark moment = mark (codes "marked-") moment
 
@@ -40,7 +43,13 @@ marked_mark moment = mark (codes "marked-") moment
 abbrev pub number_of : List ℕ → ℕ
 number_of bs = fold (λ n b. n * 10 + (b - 48)) 0 bs
 
--- the moment of a created- mark: its digits stand for a number of 64 bits
+-- the moment of a mark that begins with this text: its digits stand for a number of 64 bits
+abbrev pub mark_moment : List ℕ → List ℕ → Option ℕ
+mark_moment text name =
+    cond (bytes_eq name (mark text (number_of (drop (length text) name))) && nat_le (number_of (drop (length text) name)) 18446744073709551615)
+    (Some (number_of (drop (length text) name))) None
+
+-- the moment of a created- mark
 abbrev pub created_moment : List ℕ → Option ℕ
 created_moment name = cond (bytes_eq name (created_mark (number_of (drop 8 name))) && nat_le (number_of (drop 8 name)) 18446744073709551615) (Some (number_of (drop 8 name))) None
 
@@ -48,6 +57,7 @@ created_moment name = cond (bytes_eq name (created_mark (number_of (drop 8 name)
 abbrev pub is_started_mark : List ℕ → Bool
 is_started_mark path = begins (mark_prefix) path && nat_lt 8 (length path) && not (has_slash path)
 
+-- the directory of a pod for the statuses of its apps
 abbrev pub status_directory : List ℕ
 status_directory = codes "stage1/rootfs/rkt/status"
 

@@ -20,7 +20,7 @@ pub struct Standing {
     /// It made a pod's folder.
     pub made: bool,
     /// The pod that it made stands in embryo, and it has held that area's lock since before.
-    pub gated: bool,
+    pub embryo_under_lock: bool,
     /// The newest first.
     pub holdings: Sequence<Held>,
     /// Where its moves of pods led, the newest first.
@@ -29,5 +29,5 @@ pub struct Standing {
     pub looked: Sequence<Spot>,
     /// The pods whose own lock it had shared by a covered handle, and whose activation lock it has
     /// held since before.
-    pub cleared: Names,
+    pub seen_unowned_under_claim: Names,
 }

@@ -1,9 +1,10 @@
 -- The state's own answer is one that the state allows.
-use Rattle.std.proofs.Common.{◌≡◌, ◌⊎◌, inl, inr, ℕ, ◌^◌, nat_lt, nat_le, Bool, true, false, not, cond, bytes_eq, Option, Some, None, List, length, ◌+◌, find, take, drop, [], ◌∷◌, arith, refl, sym, ap, subst, ◌∙◌}
+use Rattle.std.proofs.Common.{◌≡◌, ◌⊎◌, inl, inr, ℕ, ◌^◌, nat_lt, nat_le, Bool, true, false, not, cond, Option, Some, None, List, length, ◌+◌, find, take, drop, [], ◌∷◌, arith, refl, sym, ap, subst, ◌∙◌}
 use Rattle.std.specs.List.{range_with_len}
 use Rattle.std.proofs.lemmas.Bool.Decides.{nat_tests}
 use Rattle.std.proofs.lemmas.Grind.{common_steps}
-use Rattle.std.proofs.lemmas.Slice.Eq.{bytes_eq-Decides}
+use Rattle.plain_laws.proofs.Texts.{same_bytes}
+use Rattle.plain_laws.proofs.Booleans.{cond_both}
 use Rattle.dir_model.specs.declared.spot.Handle.{Handle}
 use Rattle.dir_model.specs.declared.spot.Spot.{Spot}
 use Rattle.dir_model.specs.declared.spot.Which.{Which}
@@ -122,19 +123,12 @@ refusal_named s p _ error h = none_error error h
 none_left : (n : ℕ) → nat_le 0 n ≡ true
 none_left n = grind (arith, nat_tests)
 
-cond_both : (b x y : Bool) → x ≡ true → y ≡ true → cond b x y ≡ true
-cond_both true x y p q = p
-cond_both false x y p q = q
-
 short : (room : ℕ) (bytes : List ℕ) → nat_le (length (take room bytes)) room ≡ true
 short room bytes = grind (arith, nat_tests, common_steps)
 
 short_at : (es : List TreeEntry) (path : List ℕ) (at room : ℕ) (o : Option ℕ) → nat_le (length (bytes_at es path at room o)) room ≡ true
 short_at es path at room None = none_left room
 short_at es path at room (Some folder) = short room (drop at (content es folder path))
-
-same_self_bytes : (bs : List ℕ) → bytes_eq bs bs ≡ true
-same_self_bytes bs = (bytes_eq-Decides bs bs).1 refl
 
 -- a refusal by the state
 state_refused : (s : DirState) (p : ℕ) (request : Request) (error : DirError) → is_listing_request request ≡ false → refusal s p request ≡ Some error → is_state_reply s p request (Refused error 0) ≡ true
@@ -161,7 +155,7 @@ reply_granted s p (Open spot which) plain none = opened_by s p (Open spot which)
 reply_granted s p (OpenArea area) plain none = opened_by s p (OpenArea area) (free_handle s.namespace p) refl refl refl none (λ handle found. free_unopened s.namespace p handle found)
 reply_granted s p (ReadIn inner at room) plain none =
     cond_both (is_apps_request s (ReadIn inner at room)) (is_any_reply s p (ReadIn inner at room) (granted s p (ReadIn inner at room))) (is_state_reply s p (ReadIn inner at room) (granted s p (ReadIn inner at room)))
-    (short_at s.entries inner.path at room (folder_at s.namespace inner.spot)) (rw none (same_self_bytes (bytes_at s.entries inner.path at room (folder_at s.namespace inner.spot))))
+    (short_at s.entries inner.path at room (folder_at s.namespace inner.spot)) (rw none (same_bytes (bytes_at s.entries inner.path at room (folder_at s.namespace inner.spot))))
 reply_granted s p (ListArea area) plain none = cc
 reply_granted s p (ListIn inner) plain none = cc
 reply_granted s p request plain none = done_by s p request refl none

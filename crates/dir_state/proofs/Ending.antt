@@ -2,6 +2,9 @@
 use Rattle.std.proofs.Common.{◌≡◌, ℕ, Bool, true, false, ◌&&◌, ◌||◌, ◌==◌, cond, bytes_eq, Option, Some, None, List, [], ◌∷◌, ◌++◌, map, find, refl, sym, ap, ◌∙◌}
 use Rattle.std.specs.List.{list_any, list_all}
 use Rattle.std.proofs.lemmas.Slice.Eq.{bytes_eq-Decides}
+use Rattle.plain_laws.proofs.Lists.{any_left}
+use Rattle.plain_laws.proofs.Texts.{same_bytes}
+use Rattle.plain_laws.proofs.Booleans.{cond_both}
 use Rattle.dir_model.specs.declared.item.Item.{Item}
 use Rattle.dir_model.specs.declared.item.ItemKind.{ItemKind}
 use Rattle.dir_model.specs.declared.tree.Listed.{Listed}
@@ -17,31 +20,24 @@ use Rattle.dir_model.specs.State.{DirState}
 use Rattle.dir_model.specs.Listings.{is_listing_request, has_name, item_names, is_named, has_named, is_item, has_item, kind_number, listing_of, ascend, is_inner, shows_names, shows_items, shows_area, shows_inside, shows_missing, is_about, is_open_listing}
 use Rattle.dir_model.specs.Replies.{is_reply, is_state_reply, is_any_reply, is_apps_request, is_fault}
 use Rattle.dir_model.specs.Calls.{may_step, is_allowed, event}
-use Rattle.dir_model.proofs.Lists.{and_both, and_left, and_right, or_map, or_true, same_self, any_of_map}
-use Rattle.dir_state.specs.Answers.{in_order, kind_or_dir, item_named, items_in_order, shown, shown_of, listing_answer}
+use Rattle.dir_model.proofs.Lists.{and_both, and_left, and_right, or_true, same_self, any_of_map}
+use Rattle.dir_state.specs.Answers.{inserted_in_order, kind_or_dir, item_named, items_in_order, shown, shown_or_refused, listing_answer}
 use Rattle.dir_state.proofs.Turns.{allowed_by, end_turn}
 use Rattle.dir_state.proofs.Orders.{in_order_ascends, in_order_all, in_order_has}
 
 -- names
 
-any_front : {X : Type 0} (t : X → Bool) (xs ys : List X) → list_any t xs ≡ true → list_any t (xs ++ ys) ≡ true
-any_front t [] ys h = cc
-any_front t (x ∷ xs) ys h = or_map (t x) (list_any t xs) (list_any t (xs ++ ys)) (λ later. any_front t xs ys later) h
-
-self : (k : List ℕ) → bytes_eq k k ≡ true
-self k = (bytes_eq-Decides k k).1 refl
-
 all_among : (names : List (List ℕ)) (ys : List (List ℕ)) (t : List ℕ → Bool) → ((name : List ℕ) → has_name ys name ≡ true → t name ≡ true) → ((name : List ℕ) → has_name names name ≡ true → has_name ys name ≡ true) → list_all t names ≡ true
 all_among [] ys t passes among = refl
 all_among (x ∷ xs) ys t passes among =
-    and_both (t x) (list_all t xs) (passes x (among x (rw (self x) refl)))
+    and_both (t x) (list_all t xs) (passes x (among x (rw (same_bytes x) refl)))
     (all_among xs ys t passes (λ name there. among name (rw there (or_true (bytes_eq x name)))))
 
-pub names_shown : (through ever : List (List ℕ)) → shows_names through ever (in_order [] through) ≡ true
+pub names_shown : (through ever : List (List ℕ)) → shows_names through ever (inserted_in_order [] through) ≡ true
 names_shown through ever =
-    and_both (ascend (in_order [] through)) (list_all (has_name (in_order [] through)) through && list_all (has_name (through ++ ever)) (in_order [] through)) (in_order_ascends [] through refl)
-    (and_both (list_all (has_name (in_order [] through)) through) (list_all (has_name (through ++ ever)) (in_order [] through)) (in_order_has [] through)
-    (in_order_all (has_name (through ++ ever)) [] through refl (all_among through through (has_name (through ++ ever)) (λ name there. any_front (λ n. bytes_eq n name) through ever there) (λ name there. there))))
+    and_both (ascend (inserted_in_order [] through)) (list_all (has_name (inserted_in_order [] through)) through && list_all (has_name (through ++ ever)) (inserted_in_order [] through)) (in_order_ascends [] through refl)
+    (and_both (list_all (has_name (inserted_in_order [] through)) through) (list_all (has_name (through ++ ever)) (inserted_in_order [] through)) (in_order_has [] through)
+    (in_order_all (has_name (through ++ ever)) [] through refl (all_among through through (has_name (through ++ ever)) (λ name there. any_left (λ n. bytes_eq n name) through ever there) (λ name there. there))))
 
 -- items
 
@@ -79,7 +75,7 @@ all_items : (items ever : List Item) (names : List (List ℕ)) → ((name : List
 all_items items ever [] among = refl
 all_items items ever (x ∷ xs) among =
     and_both (has_item (items ++ ever) (item_named items x)) (list_all (has_item (items ++ ever)) (map (item_named items) xs))
-    (any_front (is_item (item_named items x)) items ever (found_item items x (among x (rw (self x) refl))))
+    (any_left (is_item (item_named items x)) items ever (found_item items x (among x (rw (same_bytes x) refl))))
     (all_items items ever xs (λ name there. among name (rw there (or_true (bytes_eq x name)))))
 
 named_any : (items : List Item) (name : List ℕ) → list_any (is_named name) items ≡ has_name (item_names items) name
@@ -94,14 +90,14 @@ all_has t (y ∷ ys) name all there = by (bytes_eq y name) refl there (λ later.
     by false is there rest = rest there
 
 -- what stands in order stood in the list
-in_order_from : (names : List (List ℕ)) (name : List ℕ) → has_name (in_order [] names) name ≡ true → has_name names name ≡ true
+in_order_from : (names : List (List ℕ)) (name : List ℕ) → has_name (inserted_in_order [] names) name ≡ true → has_name names name ≡ true
 in_order_from names name there =
-    all_has (has_name names) (in_order [] names) name
+    all_has (has_name names) (inserted_in_order [] names) name
     (in_order_all (has_name names) [] names refl (all_among names names (has_name names) (λ n h. h) (λ n h. h))) there
 
 pub items_shown : (through ever : List Item) → shows_items through ever (items_in_order through) ≡ true
 items_shown through ever =
-    let names : List (List ℕ) = in_order [] (item_names through) in
+    let names : List (List ℕ) = inserted_in_order [] (item_names through) in
     and_both (ascend (item_names (items_in_order through))) (list_all (has_named (items_in_order through)) through && list_all (has_item (through ++ ever)) (items_in_order through))
     (ap ascend (names_of through names) ∙ in_order_ascends [] (item_names through) refl)
     (and_both (list_all (has_named (items_in_order through)) through) (list_all (has_item (through ++ ever)) (items_in_order through))
@@ -109,10 +105,6 @@ items_shown through ever =
     (all_items through ever names (λ name there. named_any through name ∙ in_order_from (item_names through) name there)))
 
 -- the end
-
-cond_both : (b x y : Bool) → x ≡ true → y ≡ true → cond b x y ≡ true
-cond_both true x y p q = p
-cond_both false x y p q = q
 
 -- only a request for a listing is about one
 other_request : (r : Request) (X : Type 0) → is_listing_request r ≡ false → (x : Listed) → is_about r x ≡ true → X
@@ -130,13 +122,13 @@ other_request _ X other x about = absurd (by about)
     by h = cc
 
 pub items_ascend : (items : List Item) → ascend (item_names (items_in_order items)) ≡ true
-items_ascend items = ap ascend (names_of items (in_order [] (item_names items))) ∙ in_order_ascends [] (item_names items) refl
+items_ascend items = ap ascend (names_of items (inserted_in_order [] (item_names items))) ∙ in_order_ascends [] (item_names items) refl
 
 module _ (s : DirState) (p : ℕ) where
   shown_by : (request : Request) (q : ℕ) (x : Listed) → listing_of s p ≡ Some (record { process = q; listed = x }) → is_about request x ≡ true → is_reply s p request (shown x) ≡ true
   shown_by (ListArea area) q (listed.Area here through ever) is about =
-      ap (shows_area area (in_order [] through)) is
-      ∙ and_both (rank here == rank area) (shows_names through ever (in_order [] through)) about (names_shown through ever)
+      ap (shows_area area (inserted_in_order [] through)) is
+      ∙ and_both (rank here == rank area) (shows_names through ever (inserted_in_order [] through)) about (names_shown through ever)
   shown_by (ListIn inner) q (listed.Missing here) is about =
       cond_both (is_apps_request s (ListIn inner)) (is_any_reply s p (ListIn inner) (Refused Missing 0)) (is_state_reply s p (ListIn inner) (Refused Missing 0))
       (ap (is_open_listing (ListIn inner)) is ∙ about) (ap (shows_missing inner) is ∙ about)
@@ -147,7 +139,7 @@ module _ (s : DirState) (p : ℕ) where
       ∙ and_both (is_inner here inner) (shows_items through ever (items_in_order through)) about (items_shown through ever))
   shown_by request q x is about = cc
 
-  shown_reply : (request : Request) (o : Option OpenListing) → listing_of s p ≡ o → is_open_listing request o ≡ true → is_reply s p request (shown_of o) ≡ true
+  shown_reply : (request : Request) (o : Option OpenListing) → listing_of s p ≡ o → is_open_listing request o ≡ true → is_reply s p request (shown_or_refused o) ≡ true
   shown_reply request None is about = cc
   shown_reply request (Some l) is about = shown_by request l.process l.listed is about
 

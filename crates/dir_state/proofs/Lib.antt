@@ -1,4 +1,3 @@
-pub mod Contents
 pub mod Notes
 pub mod Turns
 pub mod Orders

@@ -7,10 +7,10 @@ use Rattle.std.specs.Ordering.{nat_cmp, is_lt, is_eq, match_ordering, ordering_r
 use Rattle.std.specs.Cmp.Lexicographic.{slice_cmp, texts_ties}
 use Rattle.std.specs.BTreeSet.{insert_key}
 use Rattle.std.proofs.lemmas.Cmp.{nat_list_cmp_total}
-use Rattle.std.proofs.lemmas.Slice.Eq.{bytes_eq-Decides}
+use Rattle.plain_laws.proofs.Texts.{same_bytes as self}
 use Rattle.dir_model.specs.Listings.{ascend, has_name}
 use Rattle.dir_model.proofs.Lists.{and_left, and_right, and_both, or_true, or_map}
-use Rattle.dir_state.specs.Answers.{in_order}
+use Rattle.dir_state.specs.Answers.{inserted_in_order}
 
 abbrev compare : List ℕ → List ℕ → Ordering
 compare = slice_cmp nat_cmp
@@ -18,7 +18,7 @@ compare = slice_cmp nat_cmp
 abbrev below : List ℕ → List ℕ → Bool
 below x y = is_lt (compare x y)
 
-less : (o : Ordering) → is_lt o ≡ true → o ≡ Less
+pub less : (o : Ordering) → is_lt o ≡ true → o ≡ Less
 less Less h = refl
 less Equal h = cc
 less Greater h = cc
@@ -58,12 +58,12 @@ insert_ascends (x ∷ xs) k up = by (compare k x) refl (insert_ascends xs k (and
         and_both (list_all (below x) (insert_key compare xs k)) (ascend (insert_key compare xs k))
         (all_insert (below x) xs k (and_left (list_all (below x) xs) (ascend xs) up) (above x k is)) rest
 
-pub in_order_ascends : (ordered names : List (List ℕ)) → ascend ordered ≡ true → ascend (in_order ordered names) ≡ true
+pub in_order_ascends : (ordered names : List (List ℕ)) → ascend ordered ≡ true → ascend (inserted_in_order ordered names) ≡ true
 in_order_ascends ordered [] up = up
 in_order_ascends ordered (name ∷ names) up = in_order_ascends (insert_key compare ordered name) names (insert_ascends ordered name up)
 
 -- each passes that was in either
-pub in_order_all : (t : List ℕ → Bool) (ordered names : List (List ℕ)) → list_all t ordered ≡ true → list_all t names ≡ true → list_all t (in_order ordered names) ≡ true
+pub in_order_all : (t : List ℕ → Bool) (ordered names : List (List ℕ)) → list_all t ordered ≡ true → list_all t names ≡ true → list_all t (inserted_in_order ordered names) ≡ true
 in_order_all t ordered [] a b = a
 in_order_all t ordered (name ∷ names) a b = in_order_all t (insert_key compare ordered name) names (all_insert t ordered name a (and_left (t name) (list_all t names) b)) (and_right (t name) (list_all t names) b)
 
@@ -80,9 +80,6 @@ stays (x ∷ xs) k name h = by (compare k x) (λ later. stays xs k name later)
     by Equal later = h
     by Greater later = or_map (bytes_eq x name) (has_name xs name) (has_name (insert_key compare xs k) name) later h
 
-self : (k : List ℕ) → bytes_eq k k ≡ true
-self k = (bytes_eq-Decides k k).1 refl
-
 arrives : (xs : List (List ℕ)) (k : List ℕ) → has_name (insert_key compare xs k) k ≡ true
 arrives [] k = rw (self k) refl
 arrives (x ∷ xs) k = by (compare k x) refl (arrives xs k)
@@ -92,12 +89,12 @@ arrives (x ∷ xs) k = by (compare k x) refl (arrives xs k)
     by Equal is rest = rw (same_bytes x k is) refl
     by Greater is rest = rw rest (or_true (bytes_eq x k))
 
-pub in_order_keeps : (ordered names : List (List ℕ)) (name : List ℕ) → has_name ordered name ≡ true → has_name (in_order ordered names) name ≡ true
+pub in_order_keeps : (ordered names : List (List ℕ)) (name : List ℕ) → has_name ordered name ≡ true → has_name (inserted_in_order ordered names) name ≡ true
 in_order_keeps ordered [] name h = h
 in_order_keeps ordered (x ∷ xs) name h = in_order_keeps (insert_key compare ordered x) xs name (stays ordered x name h)
 
-pub in_order_has : (ordered names : List (List ℕ)) → list_all (has_name (in_order ordered names)) names ≡ true
+pub in_order_has : (ordered names : List (List ℕ)) → list_all (has_name (inserted_in_order ordered names)) names ≡ true
 in_order_has ordered [] = refl
 in_order_has ordered (x ∷ xs) =
-    and_both (has_name (in_order (insert_key compare ordered x) xs) x) (list_all (has_name (in_order (insert_key compare ordered x) xs)) xs)
+    and_both (has_name (inserted_in_order (insert_key compare ordered x) xs) x) (list_all (has_name (inserted_in_order (insert_key compare ordered x) xs)) xs)
     (in_order_keeps (insert_key compare ordered x) xs x (arrives ordered x)) (in_order_has (insert_key compare ordered x) xs)

@@ -55,9 +55,9 @@ abbrev pub answer : DirState → ℕ → Request → Reply
 answer s p request = cond (is_listing_request request) Begun (answer_by (refusal s p request) (granted s p request))
 
 -- the names in byte order, each once
-abbrev pub in_order : List (List ℕ) → List (List ℕ) → List (List ℕ)
-in_order ordered [] = ordered
-in_order ordered (name ∷ names) = in_order (insert_key (slice_cmp nat_cmp) ordered name) names
+abbrev pub inserted_in_order : List (List ℕ) → List (List ℕ) → List (List ℕ)
+inserted_in_order ordered [] = ordered
+inserted_in_order ordered (name ∷ names) = inserted_in_order (insert_key (slice_cmp nat_cmp) ordered name) names
 
 -- the kind of the first item with this name
 abbrev pub kind_or_dir : Option Item → ItemKind
@@ -71,21 +71,21 @@ abbrev pub item_named : List Item → List ℕ → Item
 item_named items name = record { name = name; kind = kind_named items name }
 
 abbrev pub items_in_order : List Item → List Item
-items_in_order items = map (item_named items) (in_order [] (item_names items))
+items_in_order items = map (item_named items) (inserted_in_order [] (item_names items))
 
 -- what a listing shows: exactly what stood all the time
 abbrev pub shown : Listed → Reply
-shown (listed.Area area through ever) = Names (in_order [] through)
+shown (listed.Area area through ever) = Names (inserted_in_order [] through)
 shown (listed.Missing inner) = Refused Missing 0
 shown (listed.Inside inner folder through ever) = Items (items_in_order through)
 
-abbrev pub shown_of : Option OpenListing → Reply
-shown_of None = Refused NoMemory 0
-shown_of (Some l) = shown l.listed
+abbrev pub shown_or_refused : Option OpenListing → Reply
+shown_or_refused None = Refused NoMemory 0
+shown_or_refused (Some l) = shown l.listed
 
 -- the end of the listing that the process has open
 abbrev pub listing_answer : DirState → ℕ → Reply
-listing_answer s p = shown_of (listing_of s p)
+listing_answer s p = shown_or_refused (listing_of s p)
 
 -- this handle holds no lock
 abbrev pub is_unlocked : ℕ → Handle → Opening → Bool

@@ -123,7 +123,7 @@ impl Table {
     ghost use Rattle.std.specs.Prelude.{◌≡◌, find, IfOk};
     ghost use Rattle.std.specs.Option.{option_copied};
     ghost use Rattle.dir_model.specs.State.{folder_at};
-    ghost use Rattle.dir_model.specs.Listings.{is_of, is_listing};
+    ghost use Rattle.dir_model.specs.Listings.{is_listing_of, is_listing};
     ghost use Rattle.dir_model.specs.Replies.{refusal, bytes_at, refused_in, make_refusal, file_refusal, sync_refusal, dir_refusal, folder_refusal, open_refusal};
     ghost use Rattle.dir_model.specs.Calls.{may_step};
     ghost use Rattle.dir_state.specs.Parts.{table_state, namespace_of};
@@ -267,7 +267,7 @@ impl Table {
     }
 
     fn open_listing(&self, process: u32) -> Option<&OpenListing>
-        ensures { option_copied result ≡ find (is_of process) self.now.trees.listings.items }
+        ensures { option_copied result ≡ find (is_listing_of process) self.now.trees.listings.items }
     {
         self.trees
             .listings

@@ -95,10 +95,10 @@ pub fn nothing() -> Brought
 
 impl Table {
     ghost use Rattle.std.specs.Prelude.{◌≡◌, [], option_map, IfOk, MatchOption};
-    ghost use Rattle.dir_state.specs.Answers.{shown_of};
+    ghost use Rattle.dir_state.specs.Answers.{shown_or_refused};
     ghost use Rattle.dir_model.specs.State.{folder_at};
     ghost use Rattle.dir_model.specs.Trees.{names_in};
-    ghost use Rattle.dir_model.specs.Listings.{noted, noted_by, noted_all, begun_at, begun};
+    ghost use Rattle.dir_model.specs.Listings.{listing_noted, noted_by, noted_all, begun_at, listing_begun};
     ghost use Rattle.dir_model.specs.Trace.{entry_made, app_started, listings_replied};
     ghost use Rattle.dir_state.specs.Parts.{table_state, namespace_of, LeavesListings, AreListings, IsBrought};
 
@@ -174,7 +174,7 @@ impl Table {
     }
 
     fn noted_area(&self, area: Area, through: &Names, ever: &Names) -> Result<Listed, NoMemory>
-        ensures { IfOk result (λ l. l ≡ noted (table_state self.now) (Listed.Area area through.now ever.now)) }
+        ensures { IfOk result (λ l. l ≡ listing_noted (table_state self.now) (Listed.Area area through.now ever.now)) }
     {
         let now = names_in(self.alloc(), &self.namespace.folders, area)?;
         let through = kept_names(self.alloc(), through.as_slice(), &now)?;
@@ -194,7 +194,7 @@ impl Table {
         through: &Items,
         ever: &Items,
     ) -> Result<Listed, NoMemory>
-        ensures { IfOk result (λ l. l ≡ noted (table_state self.now) (Listed.Inside inner.now folder through.now ever.now)) }
+        ensures { IfOk result (λ l. l ≡ listing_noted (table_state self.now) (Listed.Inside inner.now folder through.now ever.now)) }
     {
         let now = items_in(
             self.alloc(),
@@ -214,7 +214,7 @@ impl Table {
     }
 
     fn noted(&self, listed: &Listed) -> Result<Listed, NoMemory>
-        ensures { IfOk result (λ l. l ≡ noted (table_state self.now) listed.now) }
+        ensures { IfOk result (λ l. l ≡ listing_noted (table_state self.now) listed.now) }
     {
         match listed {
             Listed::Area {
@@ -287,7 +287,7 @@ impl Table {
         process: u32,
         request: &Request,
     ) -> Result<Option<OpenListing>, NoMemory>
-        ensures { IfOk result (λ l. l ≡ option_map (noted_by (table_state self.now)) (begun (table_state self.now) process request.now)) }
+        ensures { IfOk result (λ l. l ≡ option_map (noted_by (table_state self.now)) (listing_begun (table_state self.now) process request.now)) }
     {
         match self.begun(process, request)? {
             Some(listing) => Ok(Some(self.noted_by(&listing)?)),
@@ -297,7 +297,7 @@ impl Table {
 
     /// What a listing shows that begins and ends at once. Refused only where memory ran out.
     pub fn whole_answer(&self, process: u32, request: &Request) -> Result<Reply, NoMemory>
-        ensures { IfOk result (λ reply. reply ≡ shown_of (option_map (noted_by (table_state self.now)) (begun (table_state self.now) process request.now))) }
+        ensures { IfOk result (λ reply. reply ≡ shown_or_refused (option_map (noted_by (table_state self.now)) (listing_begun (table_state self.now) process request.now))) }
     {
         match self.whole_listing(process, request)? {
             Some(listing) => shown(self.alloc(), &listing.listed),
@@ -309,7 +309,7 @@ impl Table {
     }
 
     fn begun(&self, process: u32, request: &Request) -> Result<Option<OpenListing>, NoMemory>
-        ensures { IfOk result (λ l. l ≡ begun (table_state self.now) process request.now) }
+        ensures { IfOk result (λ l. l ≡ listing_begun (table_state self.now) process request.now) }
     {
         let listed = match request {
             Request::ListArea(area) => self.begun_area(*area)?,

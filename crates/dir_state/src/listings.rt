@@ -3,8 +3,8 @@ ghost use Rattle.std.specs.Prelude.{◌≡◌, [], filter, find, IfOk};
 ghost use Rattle.std.specs.List.{list_any};
 ghost use Rattle.std.specs.Option.{option_copied};
 ghost use Rattle.dir_model.specs.Trees.{name_in, names_in};
-ghost use Rattle.dir_model.specs.Listings.{has_name, item_names, is_named, has_named, is_of, without_listing};
-ghost use Rattle.dir_state.specs.Answers.{in_order, kind_named, items_in_order};
+ghost use Rattle.dir_model.specs.Listings.{has_name, item_names, is_named, has_named, is_listing_of, without_listing};
+ghost use Rattle.dir_state.specs.Answers.{inserted_in_order, kind_named, items_in_order};
 
 use crate::compare::area_rank;
 use dir_model::{Area, FileName, Item, ItemKind, Name, NoMemory, OpenListing, Spot};
@@ -70,7 +70,7 @@ pub fn kept_items(alloc: Global, items: &[Item], now: &[Item]) -> Result<Vec<Ite
 
 /// The names in byte order, each once. Refused only where memory ran out.
 pub fn names_in_order(alloc: Global, names: &[Name]) -> Result<Vec<Name>, NoMemory>
-    ensures { IfOk result (λ ordered. ordered.items ≡ in_order [] names.now) }
+    ensures { IfOk result (λ ordered. ordered.items ≡ inserted_in_order [] names.now) }
 {
     let mut ordered = BTreeSet::new(alloc);
     'names: for name in names {
@@ -96,7 +96,7 @@ fn kind_named(items: &[Item], name: &FileName) -> ItemKind
 }
 
 fn file_names_in_order(alloc: Global, items: &[Item]) -> Result<BTreeSet<FileName>, NoMemory>
-    ensures { IfOk result (λ ordered. ordered.keys ≡ in_order [] (item_names items.now)) }
+    ensures { IfOk result (λ ordered. ordered.keys ≡ inserted_in_order [] (item_names items.now)) }
 {
     let mut ordered = BTreeSet::new(alloc);
     'items: for item in items {
@@ -122,7 +122,7 @@ pub fn items_in_order(alloc: Global, items: &[Item]) -> Result<Vec<Item>, NoMemo
 
 /// Whether the process has a listing open.
 pub fn is_listing(listings: &[OpenListing], process: u32) -> bool
-    ensures { result ≡ list_any (is_of process) listings.now }
+    ensures { result ≡ list_any (is_listing_of process) listings.now }
 {
     listings.iter().any(|listing| listing.process == process)
 }

@@ -1,5 +1,5 @@
 -- One call more, and what a process then knows.
-use Rattle.std.proofs.Common.{◌≡◌, ℕ, Bool, true, false, not, ◌&&◌, ◌||◌, cond, Option, Some, None, List, [], ◌∷◌, ◌++◌, map, filter, refl, sym, ap, subst, ◌∙◌}
+use Rattle.std.proofs.Common.{◌≡◌, ℕ, Bool, true, false, not, ◌&&◌, ◌||◌, cond, Some, None, List, [], ◌∷◌, ◌++◌, map, filter, refl, sym, ap, subst, ◌∙◌}
 use Rattle.std.specs.List.{list_any}
 use Rattle.dir_model.specs.declared.area.Area.TheVariants.{Embryo}
 use Rattle.dir_model.specs.declared.intent.Intent.{Intent}
@@ -15,18 +15,19 @@ use Rattle.dir_model.specs.declared.request.Reply.{Reply}
 use Rattle.dir_model.specs.declared.request.Reply.TheVariants.{Done, Opened}
 use Rattle.dir_model.specs.Areas.{is_stage}
 use Rattle.dir_model.specs.Locks.{target_of}
-use Rattle.dir_model.specs.Local.{Local, nothing_local, is_number as is_number_of, held_in as locked_in, local_replied}
+use Rattle.dir_model.specs.Local.{Local, nothing_local, is_handle_of as is_number_of, held_in as locked_in, local_replied}
 use Rattle.dir_model.specs.Calls.{is_begin, is_kill}
 use Rattle.dir_model.proofs.Lists.{any_of_map}
 use Rattle.dir_rules.specs.declared.standing.Held.{Held}
 use Rattle.dir_rules.specs.declared.standing.Standing.{Standing}
 use Rattle.dir_rules.specs.declared.seen.Seen.{Seen}
-use Rattle.dir_rules.specs.Standing.{holds_gate, holds_claim, is_own_in_prepared, is_number, held_in, uncover, recover, find_held, looked_by, standing_replied}
+use Rattle.dir_rules.specs.Standing.{shares_area, holds_claim, is_own_in_prepared, is_handle_held, held_with_mode, uncover, uncovered_by_close, find_held, standing_replied}
 use Rattle.dir_rules.specs.Conforms.{nothing_seen, seen_replied, IsTied}
 use Rattle.dir_rules.proofs.Tied.{tied_call}
 use Rattle.dir_rules.proofs.Unborn.{tied_begun}
+use Rattle.dir_rules.proofs.Standings.{looked_holdings}
 use Rattle.dir_trait.specs.DirCalls.{DirAt, DirCall}
-use Rattle.dir_trait.specs.Knowledge.{holding_of, SameHandles, Knows}
+use Rattle.dir_trait.specs.Knowledge.{holding_of_held, SameHandles, Knows}
 
 any_same : {X : Type 0} (t q : X → Bool) → ((x : X) → t x ≡ q x) → (xs : List X) → list_any t xs ≡ list_any q xs
 any_same t q same [] = refl
@@ -49,50 +50,46 @@ any_of_push t (x ∷ xs) y = turn (t y) (t x) (list_any t xs) ∙ ap (λ b. t x 
     turn true false c = refl
     turn false b c = refl
 
-lock_same : (handle : Handle) (mode : Mode) (h : Held) → holding_of (held_in handle mode h) ≡ locked_in handle mode (holding_of h)
-lock_same handle mode h = by (is_number handle h)
+lock_same : (handle : Handle) (mode : Mode) (h : Held) → holding_of_held (held_with_mode handle mode h) ≡ locked_in handle mode (holding_of_held h)
+lock_same handle mode h = by (is_handle_held handle h)
   where
-    by : (b : Bool) → holding_of (cond b (record h { lock = Some mode }) h) ≡ cond b (record (holding_of h) { lock = Some mode }) (holding_of h)
+    by : (b : Bool) → holding_of_held (cond b (record h { lock = Some mode }) h) ≡ cond b (record (holding_of_held h) { lock = Some mode }) (holding_of_held h)
     by true = refl
     by false = refl
 
 module _ (held : List Held) (holdings : List Holding) (same : SameHandles held holdings) where
-  same_locked : (handle : Handle) (mode : Mode) → SameHandles (map (held_in handle mode) held) (map (locked_in handle mode) holdings)
+  same_locked : (handle : Handle) (mode : Mode) → SameHandles (map (held_with_mode handle mode) held) (map (locked_in handle mode) holdings)
   same_locked handle mode test =
-      any_of_map (held_in handle mode) (λ h. test (holding_of h)) held
-      ∙ any_same (λ h. test (holding_of (held_in handle mode h))) (λ h. test (locked_in handle mode (holding_of h))) (λ h. ap test (lock_same handle mode h)) held
+      any_of_map (held_with_mode handle mode) (λ h. test (holding_of_held h)) held
+      ∙ any_same (λ h. test (holding_of_held (held_with_mode handle mode h))) (λ h. test (locked_in handle mode (holding_of_held h))) (λ h. ap test (lock_same handle mode h)) held
       ∙ same (λ x. test (locked_in handle mode x))
       ∙ sym (any_of_map (locked_in handle mode) test holdings)
 
   same_moved : (from : Spot) → SameHandles (map (uncover from) held) holdings
-  same_moved from test = any_of_map (uncover from) (λ h. test (holding_of h)) held ∙ same test
+  same_moved from test = any_of_map (uncover from) (λ h. test (holding_of_held h)) held ∙ same test
 
-  same_closed : (handle : Handle) → SameHandles (map (recover handle held) (filter (λ h. not (is_number handle h)) held)) (filter (λ h. not (is_number_of handle h)) holdings)
+  same_closed : (handle : Handle) → SameHandles (map (uncovered_by_close handle held) (filter (λ h. not (is_handle_held handle h)) held)) (filter (λ h. not (is_number_of handle h)) holdings)
   same_closed handle test =
-      any_of_map (recover handle held) (λ h. test (holding_of h)) (filter (λ h. not (is_number handle h)) held)
-      ∙ any_of_filter (λ h. test (holding_of h)) (λ h. not (is_number handle h)) held
+      any_of_map (uncovered_by_close handle held) (λ h. test (holding_of_held h)) (filter (λ h. not (is_handle_held handle h)) held)
+      ∙ any_of_filter (λ h. test (holding_of_held h)) (λ h. not (is_handle_held handle h)) held
       ∙ same (λ x. not (is_number_of handle x) && test x)
       ∙ sym (any_of_filter test (λ h. not (is_number_of handle h)) holdings)
 
-  same_opened : (h : Held) → SameHandles (h ∷ held) (holdings ++ holding_of h ∷ [])
-  same_opened h test = ap (λ b. test (holding_of h) || b) (same test) ∙ any_of_push test holdings (holding_of h)
-
-looked_holdings : (o : Option Held) (s : Standing) → (looked_by o s).holdings ≡ s.holdings
-looked_holdings None s = refl
-looked_holdings (Some h) s = refl
+  same_opened : (h : Held) → SameHandles (h ∷ held) (holdings ++ holding_of_held h ∷ [])
+  same_opened h test = ap (λ b. test (holding_of_held h) || b) (same test) ∙ any_of_push test holdings (holding_of_held h)
 
 -- what is open is told alike
 same_replied : (s : Standing) (m : Local) (request : Request) (reply : Reply) → SameHandles s.holdings m.holdings → SameHandles (standing_replied s request reply).holdings (local_replied m request reply).holdings
 same_replied s m (MakeFolder spot) Done same = by (is_stage spot.area)
   where
     made : Standing
-    made = record s { made = true; gated = holds_gate Embryo s }
+    made = record s { made = true; embryo_under_lock = shares_area Embryo s }
 
     by : (b : Bool) → SameHandles (cond b made s).holdings m.holdings
     by true = same
     by false = same
 same_replied s m (MoveFolder from to) Done same = same_moved s.holdings m.holdings same from
-same_replied s m (TryLock handle Shared) Done same = subst (λ (l : List Held). SameHandles l (map (locked_in handle Shared) m.holdings)) (sym (looked_holdings (find_held handle s) (record s { holdings = map (held_in handle Shared) s.holdings }))) (same_locked s.holdings m.holdings same handle Shared)
+same_replied s m (TryLock handle Shared) Done same = subst (λ (l : List Held). SameHandles l (map (locked_in handle Shared) m.holdings)) (sym (looked_holdings (find_held handle s) (record s { holdings = map (held_with_mode handle Shared) s.holdings }))) (same_locked s.holdings m.holdings same handle Shared)
 same_replied s m (TryLock handle Exclusive) Done same = same_locked s.holdings m.holdings same handle Exclusive
 same_replied s m (Close handle) Done same = same_closed s.holdings m.holdings same handle
 same_replied s m Finish Done same = λ test. refl

@@ -8,7 +8,7 @@ use Rattle.dir_model.specs.declared.spot.Which.TheVariants as which
 use Rattle.dir_model.specs.declared.request.DirError.{DirError}
 use Rattle.dir_model.specs.declared.request.Request.TheVariants.{Open, TryLock, Close}
 use Rattle.dir_model.specs.declared.request.Reply.TheVariants.{Done, Opened, Refused}
-use Rattle.dir_model.specs.Local.{is_number, is_own_of, has_own_open, IsUnopened}
+use Rattle.dir_model.specs.Local.{is_handle_of, is_own_of, has_own_open, IsUnopened}
 use Rattle.dir_model.specs.Replies.{done_reply}
 use Rattle.dir_rules.specs.declared.seen.Seen.{Seen}
 use Rattle.dir_rules.specs.LockRules.{is_open_on}
@@ -28,8 +28,8 @@ looks_more ab bc s k =
     record { known = y.known; looked = looked_more x.looked y.looked; knows = y.knows }
 
 -- a handle that isn't open isn't known
-fresh_of : {d : DirAt} {s : Seen} (h : Handle) → Knows d s → IsUnopened d.local h → Fresh h s.standing.holdings
-fresh_of h k unopened = k.handles (is_number h) ∙ unopened
+pub fresh_of : {d : DirAt} {s : Seen} (h : Handle) → Knows d s → IsUnopened d.local h → Fresh h s.standing.holdings
+fresh_of h k unopened = k.handles (is_handle_of h) ∙ unopened
 
 -- nor is a handle on the pod's lock
 off_of : {d : DirAt} {s : Seen} (spot : Spot) → Knows d s → has_own_open d.local spot.name ≡ false → is_open_on (Own spot) s.standing.holdings ≡ false

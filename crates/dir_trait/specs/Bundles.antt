@@ -15,13 +15,13 @@ use Rattle.dir_trait.specs.declared.node.Node.{Node}
 use Rattle.dir_trait.specs.declared.node.Node.TheVariants.{Directory, File, Link, Other}
 
 -- what stands at each path. The empty path is the bundle's own root
-abbrev pub Tree : Type 0
-Tree = List ℕ → Option Node
+abbrev pub BundleTree : Type 0
+BundleTree = List ℕ → Option Node
 
 -- what a bundle shows at a moment
 pub record BundleAt : Type 0 where
   -- what stands in it, where it is observed
-  pub tree : Tree
+  pub tree : BundleTree
   -- how often it failed
   pub faults : ℕ
   -- a measure of the bytes that it gave, which one reading raises by at most those that it answers: their number is one
@@ -33,7 +33,7 @@ abbrev pub request_at : BundleAction → List ℕ → BundleRequest
 request_at action path = record { action = action; path = path }
 
 -- it was asked for nothing but this
-pub record AsksOnly (request : BundleRequest) (old new : List BundleRequest) : Type 0 where
+pub record AsksBundleOnly (request : BundleRequest) (old new : List BundleRequest) : Type 0 where
   pub more : List BundleRequest
   pub grown : new ≡ old ++ more
   pub each : AllByRecursion (λ asked. asked ≡ request) more
@@ -48,25 +48,25 @@ pub record BundleCall (observed : Bool) (old : BundleAt) (request : BundleReques
   pub faults : old.faults ≤ new.faults
   pub given : new.given ≤ old.given + count
   pub same : observed ≡ true → new.tree ≡ old.tree
-  pub asked : observed ≡ true → AsksOnly request old.asked new.asked
+  pub asked : observed ≡ true → AsksBundleOnly request old.asked new.asked
 
-abbrev pub kind_of : Node → BundleKind
-kind_of Directory = kinds.Dir
-kind_of (File bytes) = kinds.File
-kind_of (Link target) = kinds.Link
-kind_of Other = kinds.Other
+abbrev pub bundle_kind_of : Node → BundleKind
+bundle_kind_of Directory = kinds.Dir
+bundle_kind_of (File bytes) = kinds.File
+bundle_kind_of (Link target) = kinds.Link
+bundle_kind_of Other = kinds.Other
 
 -- the kind of what stands there
 abbrev pub kind_at : Option Node → Option BundleKind
-kind_at node = option_map kind_of node
+kind_at node = option_map bundle_kind_of node
 
 -- the bytes of the file that stands there
-abbrev pub file_bytes : Option Node → Option (List ℕ)
-file_bytes None = None
-file_bytes (Some Directory) = None
-file_bytes (Some (File bytes)) = Some bytes
-file_bytes (Some (Link target)) = None
-file_bytes (Some Other) = None
+abbrev pub bytes_of_node : Option Node → Option (List ℕ)
+bytes_of_node None = None
+bytes_of_node (Some Directory) = None
+bytes_of_node (Some (File bytes)) = Some bytes
+bytes_of_node (Some (Link target)) = None
+bytes_of_node (Some Other) = None
 
 -- the target of the link that stands there
 abbrev pub link_target : Option Node → Option (List ℕ)
@@ -89,15 +89,15 @@ directory_prefix directory = if length directory == 0 then [] else directory ++ 
 abbrev pub child_path : List ℕ → List ℕ → List ℕ
 child_path directory name = directory_prefix directory ++ name
 
-abbrev pub item_of : List ℕ × BundleKind → BundleItem
-item_of named = record { name = named.0; kind = named.1 }
+abbrev pub bundle_item_of : List ℕ × BundleKind → BundleItem
+bundle_item_of named = record { name = named.0; kind = named.1 }
 
 -- in byte order of the names, and each name once
-abbrev pub IsListing : List BundleItem → Type 0
-IsListing items = IsStrictlySortedBy (slice_cmp nat_cmp) (map (λ item. item.name) items)
+abbrev pub IsBundleListing : List BundleItem → Type 0
+IsBundleListing items = IsStrictlySortedBy (slice_cmp nat_cmp) (map (λ item. item.name) items)
 
 -- a directory stands at the path, each item is the name and kind of what stands in it, and no name is left out
-pub record Lists (tree : Tree) (path : List ℕ) (items : List BundleItem) : Type 0 where
+pub record Lists (tree : BundleTree) (path : List ℕ) (items : List BundleItem) : Type 0 where
   pub directory : kind_at (tree path) ≡ Some kinds.Dir
   pub each : All (λ item. kind_at (tree (child_path path item.name)) ≡ Some item.kind) items
   pub whole : (name : List ℕ) → IsFileName name → IsSome (tree (child_path path name)) → Contains (map (λ item. item.name) items) name

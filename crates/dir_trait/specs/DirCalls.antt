@@ -44,9 +44,9 @@ abbrev pub ListCall : Bool → DirAt → Request → Reply → DirAt → Type 0
 ListCall observed old request reply new = CallBy observed old request reply new (ListStep old.process old.trace request reply new.trace)
 
 -- a read left what it didn't fill
-abbrev pub IsFilled : List ℕ → Result ℕ DirError → List ℕ → Type 0
-IsFilled old (Ok count) new = (count ≤ length old) × (drop count new ≡ drop count old)
-IsFilled old (Err error) new = new ≡ old
+abbrev pub KeepsUnreadRoom : List ℕ → Result ℕ DirError → List ℕ → Type 0
+KeepsUnreadRoom old (Ok count) new = (count ≤ length old) × (drop count new ≡ drop count old)
+KeepsUnreadRoom old (Err error) new = new ≡ old
 
 -- the trace went on by calls of this process of which each asks for something of this kind, among interference
 abbrev pub ExtendsBy : (Request → Bool) → DirAt → DirAt → Type 0

@@ -8,12 +8,12 @@ use Rattle.dir_rules.specs.Conforms.{Looked, IsTied}
 use Rattle.dir_trait.specs.DirCalls.{DirAt}
 
 -- an open handle without what the rules ask of it
-abbrev pub holding_of : Held → Holding
-holding_of h = record { handle = h.handle; target = h.target; lock = h.lock }
+abbrev pub holding_of_held : Held → Holding
+holding_of_held h = record { handle = h.handle; target = h.target; lock = h.lock }
 
 -- no test of handles tells the one list from the other
 abbrev pub SameHandles : List Held → List Holding → Type 0
-SameHandles held holdings = (test : Holding → Bool) → list_any (λ h. test (holding_of h)) held ≡ list_any test holdings
+SameHandles held holdings = (test : Holding → Bool) → list_any (λ h. test (holding_of_held h)) held ≡ list_any test holdings
 
 -- this is what a process knows: while it lives its events say so, but for requests that left none, and it has these handles
 -- open by its own answers

@@ -1,6 +1,7 @@
 pub mod DirCalls
 pub mod Bundles
 pub mod Knowledge
+pub mod Effects
 pub mod Sinks
 pub use Rattle.dir_model.specs.Names
 pub use Rattle.dir_model.specs.Pods

@@ -1,7 +1,7 @@
 // A bundle: a tree of files that is read and never changed.
 ghost use Rattle.std.specs.Prelude.{◌≡◌, ◌≢◌, ◌≤◌, Bool, true, length, None, Some, IfOk, IsErrOf, IsSomeAnd};
 ghost use Rattle.dir_model.specs.Causes.{Rose};
-ghost use Rattle.dir_trait.specs.Bundles.{kind_at, file_bytes, link_target, bytes_given, Fills, IsListing, Lists, BundleCall, request_at};
+ghost use Rattle.dir_trait.specs.Bundles.{kind_at, bytes_of_node, link_target, bytes_given, Fills, IsBundleListing, Lists, BundleCall, request_at};
 
 use dir_model::{Bytes, FileName, Sequence};
 use std::alloc::Global;
@@ -79,8 +79,8 @@ pub trait Bundle {
         ensures cause { IsErrOf result BundleError.Failed → Rose (shown self.old).faults (shown self.new).faults }
         ensures most { IfOk result (λ n. n ≤ length room.old) }
         ensures read { IfOk result (λ n. observed ≡ true
-            → IsSomeAnd (file_bytes ((shown self.old).tree path.now)) (λ bytes. Fills bytes at room.old n room.new)) }
-        ensures missing { IsErrOf result BundleError.Missing → observed ≡ true → file_bytes ((shown self.old).tree path.now) ≡ None }
+            → IsSomeAnd (bytes_of_node ((shown self.old).tree path.now)) (λ bytes. Fills bytes at room.old n room.new)) }
+        ensures missing { IsErrOf result BundleError.Missing → observed ≡ true → bytes_of_node ((shown self.old).tree path.now) ≡ None }
         ensures called { BundleCall observed (shown self.old) (request_at BundleAction.Read path.now) (bytes_given result) (shown self.new) };
 
     /// Fills the room with the target of the symbolic link at a path, as far as it fits, and answers how
@@ -102,7 +102,7 @@ pub trait Bundle {
     /// where no directory stands there.
     fn list(&mut self, alloc: Global, path: &str) -> Result<BundleItems, BundleError>
         ensures cause { IsErrOf result BundleError.Failed → Rose (shown self.old).faults (shown self.new).faults }
-        ensures ordered { IfOk result IsListing }
+        ensures ordered { IfOk result IsBundleListing }
         ensures listed { IfOk result (λ items. observed ≡ true → Lists (shown self.old).tree path.now items) }
         ensures missing { IsErrOf result BundleError.Missing → observed ≡ true
             → kind_at ((shown self.old).tree path.now) ≢ Some BundleKind.Dir }

@@ -8,7 +8,7 @@ ghost use Rattle.dir_model.specs.Paths.{is_path};
 ghost use Rattle.dir_model.specs.Listings.{item_names};
 ghost use Rattle.dir_model.specs.Replies.{done_reply, opened_reply, names_reply, items_reply, read_reply, may_refuse};
 ghost use Rattle.dir_model.specs.Local.{nothing_local, IsActive, IsUnopened, IsOpen, IsUnlocked};
-ghost use Rattle.dir_trait.specs.DirCalls.{DirCall, AppendCall, ListCall, IsFilled};
+ghost use Rattle.dir_trait.specs.DirCalls.{DirCall, AppendCall, ListCall, KeepsUnreadRoom};
 
 use dir_model::{Area, DirError, Handle, Intent, Items, Mode, Names, Reply, Request, Spot, Which};
 use std::alloc::Global;
@@ -156,7 +156,7 @@ pub trait Dir {
         requires path { is_path path.now ≡ true }
         ensures cause { IsErrOf result DirError.Failed → Rose (shown self.old).faults (shown self.new).faults }
         ensures refusals { IfErr result (λ e. may_refuse (Request.ReadIn (record { spot = spot; path = path.now }) at (length room.old)) e ≡ true) }
-        ensures filled { IsFilled room.old result room.new }
+        ensures filled { KeepsUnreadRoom room.old result room.new }
         ensures called { DirCall observed (shown self.old) (Request.ReadIn (record { spot = spot; path = path.now }) at (length room.old)) (read_reply room.new result) (shown self.new) };
 
     /// Brings a file, or the names in a directory, to the disk. `Missing` where neither stands at the

@@ -3,7 +3,7 @@ ghost use Rattle.std.specs.Prelude.{◌≡◌, map, IfOk};
 ghost use Rattle.std.specs.Ordering.{nat_cmp};
 ghost use Rattle.std.specs.Cmp.Lexicographic.{slice_cmp};
 ghost use Rattle.std.specs.BTreeMap.{IsOrdered};
-ghost use Rattle.dir_trait.specs.Bundles.{item_of, IsListing};
+ghost use Rattle.dir_trait.specs.Bundles.{bundle_item_of, IsBundleListing};
 
 use crate::bundle::{BundleItem, BundleItems, BundleKind};
 use dir_model::{FileName, NoMemory, Sequence};
@@ -14,7 +14,7 @@ fn items_of(
     alloc: Global,
     kinds: &BTreeMap<FileName, BundleKind>,
 ) -> Result<Vec<BundleItem>, AllocError>
-    ensures items { IfOk result (λ items. items.items ≡ map item_of kinds.now.entries) }
+    ensures items { IfOk result (λ items. items.items ≡ map bundle_item_of kinds.now.entries) }
     ensures ordered { IsOrdered (slice_cmp nat_cmp) kinds.now }
 {
     kinds
@@ -31,8 +31,8 @@ pub fn listing_of(
     alloc: Global,
     kinds: &BTreeMap<FileName, BundleKind>,
 ) -> Result<BundleItems, NoMemory>
-    ensures items { IfOk result (λ items. items ≡ map item_of kinds.now.entries) }
-    ensures ordered { IfOk result IsListing }
+    ensures items { IfOk result (λ items. items ≡ map bundle_item_of kinds.now.entries) }
+    ensures ordered { IfOk result IsBundleListing }
 {
     let items = items_of(alloc, kinds)?;
     Ok(Sequence::from_vec(items))

@@ -1,7 +1,7 @@
 // What stands at a path of a bundle.
 ghost use Rattle.std.specs.Prelude.{◌≡◌, Some};
 ghost use Rattle.std.specs.Option.{option_copied};
-ghost use Rattle.dir_trait.specs.Bundles.{kind_of, file_bytes, link_target};
+ghost use Rattle.dir_trait.specs.Bundles.{bundle_kind_of, bytes_of_node, link_target};
 
 use crate::bundle::BundleKind;
 use dir_model::Bytes;
@@ -18,7 +18,7 @@ pub enum Node {
 impl Node {
     /// Its kind.
     pub fn kind(&self) -> BundleKind
-        ensures { result ≡ kind_of self.now }
+        ensures { result ≡ bundle_kind_of self.now }
     {
         match self {
             Node::Directory => BundleKind::Dir,
@@ -30,7 +30,7 @@ impl Node {
 
     /// A file's bytes.
     pub fn bytes(&self) -> Option<&[u8]>
-        ensures { option_copied result ≡ file_bytes (Some self.now) }
+        ensures { option_copied result ≡ bytes_of_node (Some self.now) }
     {
         match self {
             Node::File(bytes) => Some(bytes.as_slice()),

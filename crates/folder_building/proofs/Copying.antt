@@ -1,5 +1,5 @@
 -- A file copied piece by piece.
-use Rattle.std.proofs.Common.{◌≡◌, ◌≤◌, ◌<◌, ◌==◌, ◌↔◌, ℕ, ◌+◌, ◌-◌, Bool, true, false, IsTrue, Option, Some, None, take, List, [], ◌∷◌, ◌++◌, length, Result, Ok, Err, IfOk, IfErr, refl, sym, ap, subst, ◌∙◌, append_assoc, append-nil, arith}
+use Rattle.std.proofs.Common.{◌≡◌, ◌≤◌, ◌<◌, ◌==◌, ◌↔◌, ℕ, ◌+◌, ◌-◌, Bool, true, false, IsTrue, Option, Some, None, take, List, [], ◌∷◌, ◌++◌, length, Result, Ok, Err, IfOk, refl, sym, ap, subst, ◌∙◌, append_assoc, append-nil, arith}
 use Rattle.std.specs.List.{concat}
 use Rattle.std.proofs.lemmas.List.Folds.{concat-append}
 use Rattle.std.proofs.lemmas.List.{length-append}
@@ -9,15 +9,16 @@ use Rattle.sha2.specs.Sha512.{sha512}
 use Rattle.dir_model.specs.declared.spot.Spot.{Spot}
 use Rattle.dir_model.specs.declared.request.Request.{Request}
 use Rattle.dir_trait.specs.DirCalls.{DirAt}
+use Rattle.dir_trait.specs.Effects.{OnlyAsks}
 use Rattle.tree_digest.specs.declared.file_check.FileCheck.{FileCheck}
 use Rattle.tree_digest.specs.FileChecks.{HasTaken}
-use Rattle.folder_building.specs.Work.{Worked, EndsStray, builds_at, either}
-use Rattle.folder_building.specs.Sources.{SourceAt, Same, ReadsOn, Reads, IsLonger, IsUnlike, UnlikeContent, IsLike, LikeContent}
+use Rattle.folder_building.specs.Work.{EndsWithStrayBuilding, builds_at, either}
+use Rattle.folder_building.specs.Sources.{SourceAt, Same, ReadsOn, ReadsOrigin, IsLonger, IsUnlike, UnlikeContent, IsLike, LikeContent}
 use Rattle.folder_building.specs.declared.plan.Origin.{Origin}
 use Rattle.folder_building.specs.declared.plan.Content.{Content}
 use Rattle.folder_building.specs.declared.plan.Content.TheVariants.{Directory, Given, Copied}
-use Rattle.folder_building.specs.Making.{Appends, Writes, WritesBut, CopiesOn, Copies, Spoils}
-use Rattle.folder_building.specs.Changes.{Makes, no_source, Gives, Takes, TriesFile}
+use Rattle.folder_building.specs.Making.{Appends, AppendsInPieces, WritesBut, CopiesOn, Copies, Spoils}
+use Rattle.folder_building.specs.Changes.{Makes, no_source, MakesGivenFile, MakesCopiedFile, TriesFile}
 use Rattle.folder_building.proofs.Working.{worked_wider, in_first, in_second}
 use Rattle.folder_building.proofs.Strays.{stray_wider}
 use Rattle.folder_building.proofs.Pieces.{appends_none, appends_more, under_none, under_reads, under_piece, under_more, file_filled, file_spoilt, given_under, spoils_under}
@@ -29,19 +30,19 @@ pub same_more : {a b c : SourceAt} → Same a b → Same b c → Same a c
 same_more ab bc = record { faults = omega (arith, ab.faults, bc.faults); asks = bc.asks ∙ ab.asks; may = bc.may ∙ ab.may; told = bc.told ∙ ab.told; file = λ t. bc.file (ab.told ∙ t) ∙ ab.file t; reference = bc.reference ∙ ab.reference }
 
 -- a source asks after a read for what it asked for before
-pub worked_same : {observed : Bool} (spot : Spot) {source next : SourceAt} {a b : DirAt} → Same source next → Worked observed (either (builds_at spot) next.asks) a b → Worked observed (either (builds_at spot) source.asks) a b
-worked_same {observed} spot {source} {next} {a} {b} same w = subst (λ (asks : Request → Bool). Worked observed (either (builds_at spot) asks) a b) same.asks w
+pub worked_same : {observed : Bool} (spot : Spot) {source next : SourceAt} {a b : DirAt} → Same source next → OnlyAsks observed (either (builds_at spot) next.asks) a b → OnlyAsks observed (either (builds_at spot) source.asks) a b
+worked_same {observed} spot {source} {next} {a} {b} same w = subst (λ (asks : Request → Bool). OnlyAsks observed (either (builds_at spot) asks) a b) same.asks w
 
-pub stray_same : (spot : Spot) {source next : SourceAt} (a b : DirAt) → Same source next → EndsStray (either (builds_at spot) next.asks) a b → EndsStray (either (builds_at spot) source.asks) a b
-stray_same spot {source} {next} a b same w = subst (λ (asks : Request → Bool). EndsStray (either (builds_at spot) asks) a b) same.asks w
+pub stray_same : (spot : Spot) {source next : SourceAt} (a b : DirAt) → Same source next → EndsWithStrayBuilding (either (builds_at spot) next.asks) a b → EndsWithStrayBuilding (either (builds_at spot) source.asks) a b
+stray_same spot {source} {next} a b same w = subst (λ (asks : Request → Bool). EndsWithStrayBuilding (either (builds_at spot) asks) a b) same.asks w
 
-pub worked_here : {observed : Bool} (spot : Spot) (source : SourceAt) {a b : DirAt} → Worked observed (builds_at spot) a b → Worked observed (either (builds_at spot) source.asks) a b
+pub worked_here : {observed : Bool} (spot : Spot) (source : SourceAt) {a b : DirAt} → OnlyAsks observed (builds_at spot) a b → OnlyAsks observed (either (builds_at spot) source.asks) a b
 worked_here {observed} spot source w = worked_wider (in_first (builds_at spot) source.asks) w
 
-pub worked_there : {observed : Bool} (spot : Spot) (source : SourceAt) {a b : DirAt} → Worked observed source.asks a b → Worked observed (either (builds_at spot) source.asks) a b
+pub worked_there : {observed : Bool} (spot : Spot) (source : SourceAt) {a b : DirAt} → OnlyAsks observed source.asks a b → OnlyAsks observed (either (builds_at spot) source.asks) a b
 worked_there {observed} spot source w = worked_wider (in_second (builds_at spot) source.asks) w
 
-pub stray_here : (spot : Spot) (source : SourceAt) (a b : DirAt) → EndsStray (builds_at spot) a b → EndsStray (either (builds_at spot) source.asks) a b
+pub stray_here : (spot : Spot) (source : SourceAt) (a b : DirAt) → EndsWithStrayBuilding (builds_at spot) a b → EndsWithStrayBuilding (either (builds_at spot) source.asks) a b
 stray_here spot source a b w = stray_wider (builds_at spot) (either (builds_at spot) source.asks) a b (in_first (builds_at spot) source.asks) w
 
 -- given bytes
@@ -59,7 +60,7 @@ writes_more {observed} {spot} {path} {bytes} {rest} {a} {b} piece left c cut w f
   };
 }
 
-pub writes_all : {observed : Bool} {spot : Spot} {path bytes rest : List ℕ} {a b : DirAt} → rest ≡ [] → WritesBut observed spot path bytes rest a b → Writes observed spot path bytes a b
+pub writes_all : {observed : Bool} {spot : Spot} {path bytes rest : List ℕ} {a b : DirAt} → rest ≡ [] → WritesBut observed spot path bytes rest a b → AppendsInPieces observed spot path bytes a b
 writes_all {observed} {spot} {path} {bytes} {rest} {a} {b} none w = record {
   pieces = w.writes.pieces;
   whole = w.writes.whole ∙ sym (append-nil w.begun) ∙ ap (λ xs. w.begun ++ xs) (sym none) ∙ w.whole;
@@ -103,25 +104,12 @@ copies_end {observed} {source} {spot} {path} {x} {y} {a} {b} piece none taken re
 pub copies_all : {observed : Bool} {source : SourceAt} {spot : Spot} {path : List ℕ} {n : ℕ} {x y : FileCheck} {a b : DirAt} (size : ℕ) (sha : List ℕ) (f : CopiesOn observed source spot path n x y a b) → length (concat f.pieces) ≡ size → sha512 (concat f.pieces) ≡ sha → Copies observed source spot path size sha a b
 copies_all size sha f sized hashed = record { pieces = f.pieces; sized = sized; hashed = hashed; appends = f.appends }
 
--- what follows from an answer
-pub ok_more : {T E : Type 0} (P Q : T → Type 0) (r : Result T E) → ((x : T) → P x → Q x) → IfOk r P → IfOk r Q
-ok_more P Q (Ok x) f h = f x h
-ok_more P Q (Err e) f h = h
-
-pub err_more : {T E : Type 0} (P Q : E → Type 0) (r : Result T E) → ((e : E) → P e → Q e) → IfErr r P → IfErr r Q
-err_more P Q (Ok x) f h = h
-err_more P Q (Err e) f h = f e h
-
 pub ok_any : {T E : Type 0} {P : Type 0} (r : Result T E) → P → IfOk r (λ x. P)
 ok_any (Ok x) h = h
 ok_any (Err e) h = tt
 
-pub err_any : {T E : Type 0} (P : Type 0) (r : Result T E) → P → IfErr r (λ e. P)
-err_any P (Ok x) h = tt
-err_any P (Err e) h = h
-
 -- a file that was made and filled
-pub gives_file : {observed : Bool} {spot : Spot} {path bytes : List ℕ} {b c : DirAt} (a : DirAt) → (observed ≡ true → Makes spot path true a b) → Writes observed spot path bytes b c → Gives observed spot path bytes a c
+pub gives_file : {observed : Bool} {spot : Spot} {path bytes : List ℕ} {b c : DirAt} (a : DirAt) → (observed ≡ true → Makes spot path true a b) → AppendsInPieces observed spot path bytes b c → MakesGivenFile observed spot path bytes a c
 gives_file {observed} {spot} {path} {bytes} {b} {c} a f w = record {
   pieces = w.pieces;
   whole = w.whole;
@@ -131,7 +119,7 @@ gives_file {observed} {spot} {path} {bytes} {b} {c} a f w = record {
 pub gives_none : (spot : Spot) (path : List ℕ) (a b c : DirAt) → Makes spot path true a b → Spoils spot path b c → TriesFile spot path a c
 gives_none spot path a b c f g = file_spoilt spot path no_source a b c f (spoils_under spot path no_source b c g)
 
-pub takes_file : {observed : Bool} {source : SourceAt} {spot : Spot} {path : List ℕ} {size : ℕ} {sha : List ℕ} {b c : DirAt} (a : DirAt) → (observed ≡ true → Makes spot path true a b) → Copies observed source spot path size sha b c → Takes observed source spot path size sha a c
+pub takes_file : {observed : Bool} {source : SourceAt} {spot : Spot} {path : List ℕ} {size : ℕ} {sha : List ℕ} {b c : DirAt} (a : DirAt) → (observed ≡ true → Makes spot path true a b) → Copies observed source spot path size sha b c → MakesCopiedFile observed source spot path size sha a c
 takes_file {observed} {source} {spot} {path} {size} {sha} {b} {c} a f w = record {
   pieces = w.pieces;
   sized = w.sized;
@@ -157,7 +145,7 @@ told_same same t = same.told ∙ t
 file_same : {source next : SourceAt} {origin : Origin} {bytes : List ℕ} → Same source next → source.told ≡ true → source.file origin ≡ Some bytes → next.file origin ≡ Some bytes
 file_same {source} {next} {origin} same t is = ap (λ (f : Origin → Option (List ℕ)). f origin) (same.file t) ∙ is
 
-pub front_more : (source next : SourceAt) (origin : Origin) (more : Bool) (x y : FileCheck) (size : ℕ) (sha : List ℕ) (at n room : ℕ) (bs : List ℕ) (again : Bool) → Same source next → Front source origin more x size sha at → Reads next origin at room n bs → ((k : ℕ) (s message : List ℕ) → HasTaken x k s message → HasTaken y k s (message ++ take n bs)) → (again ≡ false → n < room) → Front source origin again y size sha (at + n)
+pub front_more : (source next : SourceAt) (origin : Origin) (more : Bool) (x y : FileCheck) (size : ℕ) (sha : List ℕ) (at n room : ℕ) (bs : List ℕ) (again : Bool) → Same source next → Front source origin more x size sha at → ReadsOrigin next origin at room n bs → ((k : ℕ) (s message : List ℕ) → HasTaken x k s message → HasTaken y k s (message ++ take n bs)) → (again ≡ false → n < room) → Front source origin again y size sha (at + n)
 front_more source next origin more x y size sha at n room bs again same front reads taken short t bytes is =
     let f = front t bytes is in
     let r = reads (told_same same t) bytes (file_same same t is) in

@@ -1,8 +1,8 @@
 -- What was made, and the plan that asks for it.
-use Rattle.std.proofs.Common.{◌≡◌, ℕ, ◌<◌, Bool, true, false, not, ◌&&◌, ◌||◌, cond, bytes_eq, List, [], ◌∷◌, ◌++◌, filter, take, length, get_or, codes, nat_le, zero, suc, ◌==◌, refl, sym, ap, subst, ◌∙◌, append_assoc, append-nil, arith}
-use Rattle.std.proofs.lemmas.Bool.Decides.{nat_tests}
+use Rattle.std.proofs.Common.{◌≡◌, ℕ, ◌<◌, Bool, true, false, not, ◌&&◌, ◌||◌, cond, bytes_eq, List, [], ◌∷◌, ◌++◌, filter, take, length, get_or, codes, nat_le, zero, suc, refl, sym, ap, subst, ◌∙◌, append_assoc, append-nil, arith}
 use Rattle.std.specs.List.{list_any, list_all}
 use Rattle.std.proofs.lemmas.List.Folds.{list_any-append}
+use Rattle.plain_laws.proofs.Texts.{same_bytes, bytes_turned}
 use Rattle.dir_model.specs.declared.area.Area.{Area}
 use Rattle.dir_model.specs.declared.area.Area.TheVariants.{Prepare}
 use Rattle.dir_model.specs.declared.tree.TreeNode.TheVariants.{Dir, Piece}
@@ -11,13 +11,12 @@ use Rattle.dir_model.proofs.Lists.{and_left, and_right, and_both, or_last, any_p
 use Rattle.dir_rules.specs.declared.seen.Entry.{Entry}
 use Rattle.dir_rules.specs.declared.seen.Seen.{Seen}
 use Rattle.dir_rules.specs.Marks.{parent, created_mark}
-use Rattle.dir_rules.specs.Rules.{is_dir, has_path, has_dir, has_file, is_in_directory, is_new_path, in_order}
+use Rattle.dir_rules.specs.Rules.{is_dir, has_path_among, has_dir_among, has_file_among, is_in_directory, is_new_path, is_in_order}
 use Rattle.dir_rules.specs.Standing.{intends}
-use Rattle.dir_rules.proofs.Looks.{same_bytes}
 use Rattle.folder_building.specs.declared.plan.PlanEntry.{PlanEntry}
 use Rattle.folder_building.specs.declared.plan.Content.{Content}
 use Rattle.folder_building.specs.declared.plan.Content.TheVariants.{Directory, Given, Copied}
-use Rattle.folder_building.specs.Plans.{is_file, outline_of, outline, follows, is_plan_after, is_in_turn, are_in_turn, piece_at, directory_at, pieces_at, IsMadeAs, IsMadeOf, AreMade, is_among, is_owed}
+use Rattle.folder_building.specs.Plans.{is_file, outline_of, planned_entries, may_follow_entries, is_plan_after, is_in_turn, are_in_turn, piece_at, directory_entry, pieces_at, IsMadeAs, IsMadeOf, AreMade, is_in_plan, is_owed}
 
 -- one entry more
 pub made_more : (before : List PlanEntry) (es : List Entry) (e : PlanEntry) (chunk : List Entry) → AreMade before es → IsMadeOf e chunk → AreMade (before ++ e ∷ []) (es ++ chunk)
@@ -58,11 +57,11 @@ module _ (t : Entry → Bool) (same : (path bytes : List ℕ) → t (piece_at pa
   any_file path (Copied origin size sha) chunk file made = ap (list_any t) made.is ∙ any_pieces path made.pieces
 
   any_made : (path : List ℕ) (content : Content) (chunk : List Entry) → IsMadeAs path content chunk → list_any t chunk ≡ t (record { path = path; node = cond (is_file content) (Piece []) Dir })
-  any_made path Directory chunk made = ap (list_any t) made ∙ any_one (t (directory_at path))
+  any_made path Directory chunk made = ap (list_any t) made ∙ any_one (t (directory_entry path))
   any_made path (Given bytes) chunk made = any_file path (Given bytes) chunk refl made
   any_made path (Copied origin size sha) chunk made = any_file path (Copied origin size sha) chunk refl made
 
-  pub any_outline : (plan : List PlanEntry) (es : List Entry) → AreMade plan es → list_any t es ≡ list_any t (outline plan)
+  pub any_outline : (plan : List PlanEntry) (es : List Entry) → AreMade plan es → list_any t es ≡ list_any t (planned_entries plan)
   any_outline [] es none = ap (list_any t) none
   any_outline (e ∷ plan) es are =
       ap (list_any t) are.is ∙ list_any-append t are.chunk are.rest
@@ -74,81 +73,81 @@ empty_chunk path Directory chunk rest made = ap (λ (xs : List Entry). is_empty 
 empty_chunk path (Given bytes) chunk rest made = ap (λ (xs : List Entry). is_empty (xs ++ rest)) made.is
 empty_chunk path (Copied origin size sha) chunk rest made = ap (λ (xs : List Entry). is_empty (xs ++ rest)) made.is
 
-empty_outline : (plan : List PlanEntry) (es : List Entry) → AreMade plan es → is_empty es ≡ is_empty (outline plan)
+empty_outline : (plan : List PlanEntry) (es : List Entry) → AreMade plan es → is_empty es ≡ is_empty (planned_entries plan)
 empty_outline [] es none = ap is_empty none
 empty_outline (e ∷ plan) es are = ap is_empty are.is ∙ empty_chunk e.path e.content are.chunk are.rest are.first
 
 module _ (plan : List PlanEntry) (es : List Entry) (are : AreMade plan es) where
-  pub path_outline : (path : List ℕ) → has_path path es ≡ has_path path (outline plan)
+  pub path_outline : (path : List ℕ) → has_path_among path es ≡ has_path_among path (planned_entries plan)
   path_outline path = any_outline (λ e. bytes_eq e.path path) (λ p b. refl) plan es are
 
-  dir_outline : (path : List ℕ) → has_dir path es ≡ has_dir path (outline plan)
+  dir_outline : (path : List ℕ) → has_dir_among path es ≡ has_dir_among path (planned_entries plan)
   dir_outline path = any_outline (λ e. is_dir e.node && bytes_eq e.path path) (λ p b. refl) plan es are
 
-  file_outline : (path : List ℕ) → has_file path es ≡ has_file path (outline plan)
+  file_outline : (path : List ℕ) → has_file_among path es ≡ has_file_among path (planned_entries plan)
   file_outline path = any_outline (λ e. not (is_dir e.node) && bytes_eq e.path path) (λ p b. refl) plan es are
 
-  pub new_outline : (path : List ℕ) → is_new_path path es ≡ is_new_path path (outline plan)
+  pub new_outline : (path : List ℕ) → is_new_path path es ≡ is_new_path path (planned_entries plan)
   new_outline path =
       ap (λ b. nat_le (length path) 8192 && (not (is_empty path) && (not b && is_in_directory path es))) (path_outline path)
-      ∙ ap (λ b. nat_le (length path) 8192 && (not (is_empty path) && (not (has_path path (outline plan)) && (is_empty (parent path) || b)))) (dir_outline (parent path))
+      ∙ ap (λ b. nat_le (length path) 8192 && (not (is_empty path) && (not (has_path_among path (planned_entries plan)) && (is_empty (parent path) || b)))) (dir_outline (parent path))
 
-  pub turn_outline : (s : Seen) (area : Area) (file : Bool) (path : List ℕ) → in_order s area file path es ≡ in_order s area file path (outline plan)
+  pub turn_outline : (s : Seen) (area : Area) (file : Bool) (path : List ℕ) → is_in_order s area file path es ≡ is_in_order s area file path (planned_entries plan)
   turn_outline s Prepare file path =
-      ap (λ b. (not b || (file && intends (λ i. bytes_eq path (created_mark i.now)) s.standing.intent)) && not (file && has_file (codes "pod") es)) (empty_outline plan es are)
-      ∙ ap (λ b. (not (is_empty (outline plan)) || (file && intends (λ i. bytes_eq path (created_mark i.now)) s.standing.intent)) && not (file && b)) (file_outline (codes "pod"))
+      ap (λ b. (not b || (file && intends (λ i. bytes_eq path (created_mark i.now)) s.standing.intent)) && not (file && has_file_among (codes "pod") es)) (empty_outline plan es are)
+      ∙ ap (λ b. (not (is_empty (planned_entries plan)) || (file && intends (λ i. bytes_eq path (created_mark i.now)) s.standing.intent)) && not (file && b)) (file_outline (codes "pod"))
   turn_outline s _ file path = refl
 
 -- the next entry of a plan
-pub follows_at : (before plan : List PlanEntry) (i : ℕ) (d : PlanEntry) → i < length plan → is_plan_after before plan ≡ true → follows (before ++ take i plan) (get_or plan i d) ≡ true
+pub follows_at : (before plan : List PlanEntry) (i : ℕ) (d : PlanEntry) → i < length plan → is_plan_after before plan ≡ true → may_follow_entries (before ++ take i plan) (get_or plan i d) ≡ true
 follows_at before [] i d within h = absurd (omega (arith, within))
-follows_at before (e ∷ es) zero d within h = subst (λ (b : List PlanEntry). follows b e ≡ true) (sym (append-nil before)) (and_left _ _ h)
-follows_at before (e ∷ es) (suc i) d within h = subst (λ (b : List PlanEntry). follows b (get_or es i d) ≡ true) (append_assoc before (e ∷ []) (take i es)) (follows_at (before ++ e ∷ []) es i d (omega (arith, within)) (and_right _ _ h))
+follows_at before (e ∷ es) zero d within h = subst (λ (b : List PlanEntry). may_follow_entries b e ≡ true) (sym (append-nil before)) (and_left _ _ h)
+follows_at before (e ∷ es) (suc i) d within h = subst (λ (b : List PlanEntry). may_follow_entries b (get_or es i d) ≡ true) (append_assoc before (e ∷ []) (take i es)) (follows_at (before ++ e ∷ []) es i d (omega (arith, within)) (and_right _ _ h))
 
 pub turn_at : (s : Seen) (area : Area) (before plan : List PlanEntry) (i : ℕ) (d : PlanEntry) → i < length plan → are_in_turn s area before plan ≡ true → is_in_turn s area (before ++ take i plan) (get_or plan i d) ≡ true
 turn_at s area before [] i d within h = absurd (omega (arith, within))
 turn_at s area before (e ∷ es) zero d within h = subst (λ (b : List PlanEntry). is_in_turn s area b e ≡ true) (sym (append-nil before)) (and_left _ _ h)
 turn_at s area before (e ∷ es) (suc i) d within h = subst (λ (b : List PlanEntry). is_in_turn s area b (get_or es i d) ≡ true) (append_assoc before (e ∷ []) (take i es)) (turn_at s area (before ++ e ∷ []) es i d (omega (arith, within)) (and_right _ _ h))
 
-pub among_at : (plan : List PlanEntry) (i : ℕ) (d : PlanEntry) → i < length plan → is_among (get_or plan i d).path plan ≡ true
+pub among_at : (plan : List PlanEntry) (i : ℕ) (d : PlanEntry) → i < length plan → is_in_plan (get_or plan i d).path plan ≡ true
 among_at [] i d within = absurd (omega (arith, within))
 among_at (e ∷ es) zero d within = rw (same_bytes e.path) refl
-among_at (e ∷ es) (suc i) d within = or_last (bytes_eq e.path (get_or es i d).path) (is_among (get_or es i d).path es) (among_at es i d (omega (arith, within)))
+among_at (e ∷ es) (suc i) d within = or_last (bytes_eq e.path (get_or es i d).path) (is_in_plan (get_or es i d).path es) (among_at es i d (omega (arith, within)))
 
-pub path_made : (plan : List PlanEntry) (es : List Entry) → AreMade plan es → (path : List ℕ) → is_among path plan ≡ true → has_path path es ≡ true
+pub path_made : (plan : List PlanEntry) (es : List Entry) → AreMade plan es → (path : List ℕ) → is_in_plan path plan ≡ true → has_path_among path es ≡ true
 path_made plan es are path h = path_outline plan es are path ∙ any_of_map outline_of (λ e. bytes_eq e.path path) plan ∙ h
 
 -- a directory of the plan is one of its paths
-dir_among : (path : List ℕ) (plan : List PlanEntry) → has_dir path (outline plan) ≡ true → is_among path plan ≡ true
+dir_among : (path : List ℕ) (plan : List PlanEntry) → has_dir_among path (planned_entries plan) ≡ true → is_in_plan path plan ≡ true
 dir_among path [] h = cc
 dir_among path (e ∷ es) h = by (is_dir (outline_of e).node) (bytes_eq e.path path) (dir_among path es) h
   where
-    by : (a b : Bool) → (has_dir path (outline es) ≡ true → is_among path es ≡ true) → ((a && b) || has_dir path (outline es)) ≡ true → (b || is_among path es) ≡ true
+    by : (a b : Bool) → (has_dir_among path (planned_entries es) ≡ true → is_in_plan path es ≡ true) → ((a && b) || has_dir_among path (planned_entries es)) ≡ true → (b || is_in_plan path es) ≡ true
     by a true more k = refl
     by true false more k = more k
     by false false more k = more k
 
-among_more : (path : List ℕ) (plan : List PlanEntry) (e : PlanEntry) → is_among path plan ≡ true → is_among path (plan ++ e ∷ []) ≡ true
+among_more : (path : List ℕ) (plan : List PlanEntry) (e : PlanEntry) → is_in_plan path plan ≡ true → is_in_plan path (plan ++ e ∷ []) ≡ true
 among_more path plan e h = any_push (λ x. bytes_eq x.path path) plan e h
 
 pub owed_more : (before : List PlanEntry) (e : PlanEntry) (path : List ℕ) → is_owed before path ≡ true → is_owed (before ++ e ∷ []) path ≡ true
 owed_more before e path h = by (is_empty path) h
   where
-    by : (b : Bool) → (b || is_among path before) ≡ true → (b || is_among path (before ++ e ∷ [])) ≡ true
+    by : (b : Bool) → (b || is_in_plan path before) ≡ true → (b || is_in_plan path (before ++ e ∷ [])) ≡ true
     by true k = refl
     by false k = among_more path before e k
 
 pub owed_path : (before : List PlanEntry) (e : PlanEntry) → is_owed (before ++ e ∷ []) e.path ≡ true
-owed_path before e = or_last (is_empty e.path) (is_among e.path (before ++ e ∷ [])) (any_last (λ x. bytes_eq x.path e.path) before e (same_bytes e.path))
+owed_path before e = or_last (is_empty e.path) (is_in_plan e.path (before ++ e ∷ [])) (any_last (λ x. bytes_eq x.path e.path) before e (same_bytes e.path))
 
-pub owed_parent : (before : List PlanEntry) (e : PlanEntry) → follows before e ≡ true → is_owed (before ++ e ∷ []) (parent e.path) ≡ true
+pub owed_parent : (before : List PlanEntry) (e : PlanEntry) → may_follow_entries before e ≡ true → is_owed (before ++ e ∷ []) (parent e.path) ≡ true
 owed_parent before e h =
-    let new : is_new_path e.path (outline before) ≡ true = and_left _ _ (and_right (is_path e.path) _ h) in
-    let fresh = and_right (not (is_empty e.path)) (not (has_path e.path (outline before)) && is_in_directory e.path (outline before)) (and_right (nat_le (length e.path) 8192) _ new) in
-    let inside : is_in_directory e.path (outline before) ≡ true = and_right (not (has_path e.path (outline before))) (is_in_directory e.path (outline before)) fresh in
+    let new : is_new_path e.path (planned_entries before) ≡ true = and_left _ _ (and_right (is_path e.path) _ h) in
+    let fresh = and_right (not (is_empty e.path)) (not (has_path_among e.path (planned_entries before)) && is_in_directory e.path (planned_entries before)) (and_right (nat_le (length e.path) 8192) _ new) in
+    let inside : is_in_directory e.path (planned_entries before) ≡ true = and_right (not (has_path_among e.path (planned_entries before))) (is_in_directory e.path (planned_entries before)) fresh in
     by (is_empty (parent e.path)) inside
   where
-    by : (b : Bool) → (b || has_dir (parent e.path) (outline before)) ≡ true → (b || is_among (parent e.path) (before ++ e ∷ [])) ≡ true
+    by : (b : Bool) → (b || has_dir_among (parent e.path) (planned_entries before)) ≡ true → (b || is_in_plan (parent e.path) (before ++ e ∷ [])) ≡ true
     by true k = refl
     by false k = among_more (parent e.path) before e (dir_among (parent e.path) before k)
 
@@ -156,18 +155,8 @@ pub all_wider : (p q : List ℕ → Bool) → ((x : List ℕ) → p x ≡ true �
 all_wider p q wider [] h = refl
 all_wider p q wider (x ∷ xs) h = and_both _ _ (wider x (and_left _ _ h)) (all_wider p q wider xs (and_right _ _ h))
 
--- a path that is synced is owed no more
-bytes_turned : (a b : List ℕ) → bytes_eq b a ≡ bytes_eq a b
-bytes_turned [] [] = refl
-bytes_turned [] (y ∷ ys) = refl
-bytes_turned (x ∷ xs) [] = refl
-bytes_turned (x ∷ xs) (y ∷ ys) = rw (turned x y, bytes_turned xs ys) refl
-  where
-    turned : (n m : ℕ) → (m == n) ≡ (n == m)
-    turned n m = grind (arith, nat_tests)
-
 still_owed : (e : PlanEntry) (rest : List PlanEntry) (p : List ℕ) → bytes_eq p e.path ≡ false → is_owed (e ∷ rest) p ≡ true → is_owed rest p ≡ true
-still_owed e rest p apart k = subst (λ (b : Bool). (is_empty p || (b || is_among p rest)) ≡ true) (bytes_turned p e.path ∙ apart) k
+still_owed e rest p apart k = subst (λ (b : Bool). (is_empty p || (b || is_in_plan p rest)) ≡ true) (bytes_turned p e.path ∙ apart) k
 
 pub owed_less : (e : PlanEntry) (rest : List PlanEntry) (paths : List (List ℕ)) → list_all (is_owed (e ∷ rest)) paths ≡ true → list_all (is_owed rest) (filter (λ p. not (bytes_eq p e.path)) paths) ≡ true
 owed_less e rest [] h = refl

@@ -9,11 +9,13 @@ use Rattle.std.proofs.lemmas.List.{get_or_at, drop_more}
 use Rattle.std.proofs.lemmas.Str.{IsUtf8-take, IsUtf8-drop, IsCharBoundary-before_ascii, IsCharBoundary-after_ascii, is_utf8-from_IsUtf8}
 use Rattle.dir_model.specs.Names.{is_file_byte}
 use Rattle.dir_model.specs.Paths.{is_empty, is_slash, is_file_name, are_names, is_path, lies_below}
-use Rattle.dir_model.proofs.Lists.{and_left, and_right, and_both, or_last}
-use Rattle.dir_rules.specs.Marks.{parent, has_slash}
+use Rattle.dir_model.proofs.Lists.{and_both}
+use Rattle.dir_rules.specs.Marks.{parent}
 use Rattle.path_map.specs.Paths.{lies_below as lies_below_path, is_dot_segment, has_bad_length, IsAbsPath, HasNone}
 use Rattle.path_map.proofs.Below.{below_from}
 use Rattle.path_map.proofs.Segments.{parts, parts_at_slash, sound_from, path_some}
+use Rattle.dir_laws.proofs.Names.{more_names}
+use Rattle.dir_laws.proofs.Paths.{slash_in}
 
 -- a text without a slash is one part
 parts_one : (name : List ℕ) → HasNone 47 name → parts name ≡ name ∷ []
@@ -123,15 +125,6 @@ names_of name (b ∷ bs) none s =
     by true is f g = f is
     by false is f g = g is
 
--- names, a slash and names
-more_names : (name d n : List ℕ) → are_names name d ≡ true → are_names [] n ≡ true → are_names name (d ++ 47 ∷ n) ≡ true
-more_names name [] n p q = and_both (is_file_name name) (are_names [] n) p q
-more_names name (b ∷ bs) n p q = by (is_slash b) p (λ r. more_names [] bs n r q) (λ r. more_names (name ++ b ∷ []) bs n r q)
-  where
-    by : (slash : Bool) → cond slash (is_file_name name && are_names [] bs) (are_names (name ++ b ∷ []) bs) ≡ true → (are_names [] bs ≡ true → are_names [] (bs ++ 47 ∷ n) ≡ true) → (are_names (name ++ b ∷ []) bs ≡ true → are_names (name ++ b ∷ []) (bs ++ 47 ∷ n) ≡ true) → cond slash (is_file_name name && are_names [] (bs ++ 47 ∷ n)) (are_names (name ++ b ∷ []) (bs ++ 47 ∷ n)) ≡ true
-    by true h f g = and_both (is_file_name name) (are_names [] (bs ++ 47 ∷ n)) (and_left (is_file_name name) (are_names [] bs) h) (f (and_right (is_file_name name) (are_names [] bs) h))
-    by false h f g = g h
-
 -- an absolute path begins with a slash
 pub begins_with : (path : List ℕ) → IsAbsPath path → (rest : List ℕ) × (path ≡ 47 ∷ rest)
 begins_with [] p = let some = path_some [] (sound_from [] p.sound) in absurd (omega (arith, some))
@@ -146,11 +139,6 @@ below_is_path (c ∷ cs) path p some abs =
     let s = sound_from (47 ∷ b.0) q.sound in
     let t : AreSegments b.0 = record { utf8 = utf8_after [] b.0 q.text; dots = s.no_dots; lengths = s.lengths } in
     subst (λ (x : List ℕ). is_path ((c ∷ cs) ++ x) ≡ true) (sym b.1) (more_names [] (c ∷ cs) b.0 p (names_of [] b.0 refl t))
-
--- the parent of a path is what stands before its last slash
-slash_in : (a name : List ℕ) → has_slash (a ++ 47 ∷ name) ≡ true
-slash_in [] name = refl
-slash_in (x ∷ a) name = or_last (is_slash x) (has_slash (a ++ 47 ∷ name)) (slash_in a name)
 
 pub parent_of : (a name : List ℕ) → HasNone 47 name → parent (a ++ 47 ∷ name) ≡ a
 parent_of [] name none = rw none refl

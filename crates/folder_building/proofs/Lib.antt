@@ -9,7 +9,7 @@ pub mod Reading
 pub mod ReadsOf
 pub mod Stored
 pub mod Among
-mod Carries
+pub mod Carries
 pub mod FilePaths
 pub mod Made
 mod Nexts
@@ -17,3 +17,4 @@ mod Texts
 pub mod ImageMade
 pub mod Marks
 pub mod Images
+pub mod Following

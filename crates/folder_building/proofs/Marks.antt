@@ -1,14 +1,15 @@
 -- The name of a mark is a path of one segment.
-use Rattle.std.proofs.Common.{◌≡◌, ◌+◌, ◌/◌, ◌%◌, ◌<◌, ◌==◌, nat_le, ℕ, zero, suc, Bool, true, false, ◌&&◌, ◌||◌, cond, codes, List, [], ◌∷◌, ◌++◌, length, refl, sym, subst, arith, append_assoc, append-nil}
+use Rattle.std.proofs.Common.{◌≡◌, ◌+◌, ◌/◌, ◌%◌, ◌<◌, ◌==◌, nat_le, ℕ, zero, suc, true, false, ◌&&◌, codes, List, [], ◌∷◌, ◌++◌, length, refl, arith}
 use Rattle.std.specs.List.{list_all, AllByRecursion}
 use Rattle.std.specs.Str.{is_utf8, IsAscii}
 use Rattle.std.proofs.lemmas.Bool.Decides.{nat_tests}
 use Rattle.std.proofs.lemmas.Str.{IsUtf8-from_ascii, is_utf8-from_IsUtf8}
 use native.Mathlib.Nat.{mod-lt}
 use Rattle.dir_model.specs.Names.{is_file_byte}
-use Rattle.dir_model.specs.Paths.{is_slash, is_file_name, are_names, is_path}
+use Rattle.dir_model.specs.Paths.{is_slash, is_file_name, is_path}
 use Rattle.dir_model.proofs.Lists.{and_both, or_none, all_both, all_push}
 use Rattle.dir_rules.specs.Marks.{has_slash, parent, digits}
+use Rattle.dir_laws.proofs.Names.{one_name, no_parent}
 use Rattle.folder_building.specs.ImagePlans.{imported_mark}
 
 -- a byte of a plain name
@@ -41,19 +42,10 @@ pub file_bytes : (bs : List ℕ) → AllByRecursion IsPlain bs → list_all is_f
 file_bytes [] p = refl
 file_bytes (b ∷ bs) p = and_both (is_file_byte b) (list_all is_file_byte bs) (rw (p.0.no_slash, p.0.no_nul) refl) (file_bytes bs p.1)
 
-ascii : (bs : List ℕ) → AllByRecursion IsPlain bs → IsAscii bs
+pub ascii : (bs : List ℕ) → AllByRecursion IsPlain bs → IsAscii bs
 ascii [] p i = omega arith
 ascii (b ∷ bs) p zero = p.0.ascii
 ascii (b ∷ bs) p (suc i) = ascii bs p.1 i
-
--- names without a slash are one name
-one_name : (name bs : List ℕ) → has_slash bs ≡ false → is_file_name (name ++ bs) ≡ true → are_names name bs ≡ true
-one_name name [] none is = subst (λ (l : List ℕ). is_file_name l ≡ true) (append-nil name) is
-one_name name (b ∷ bs) none is = by (is_slash b) none (λ h. one_name (name ++ b ∷ []) bs h (subst (λ (l : List ℕ). is_file_name l ≡ true) (sym (append_assoc name (b ∷ []) bs)) is))
-  where
-    by : (s : Bool) → (s || has_slash bs) ≡ false → (has_slash bs ≡ false → are_names (name ++ b ∷ []) bs ≡ true) → cond s (is_file_name name && are_names [] bs) (are_names (name ++ b ∷ []) bs) ≡ true
-    by true h rest = cc
-    by false h rest = rest h
 
 plain_path : (b : ℕ) (bs : List ℕ) → nat_le (length (b ∷ bs)) 255 ≡ true → AllByRecursion IsPlain (b ∷ bs) → is_path (b ∷ bs) ≡ true
 plain_path b bs short plain = one_name [] (b ∷ bs) (no_slashes (b ∷ bs) plain) name
@@ -77,9 +69,6 @@ tree_path = plain_path 116 (codes "ree") refl (letter 116 refl refl (omega arith
 
 pub root_path : is_path (codes "rootfs") ≡ true
 root_path = plain_path 114 (codes "ootfs") refl (letter 114 refl refl (omega arith), (letter 111 refl refl (omega arith), (letter 111 refl refl (omega arith), (letter 116 refl refl (omega arith), (letter 102 refl refl (omega arith), (letter 115 refl refl (omega arith), tt))))))
-
-no_parent : (b : ℕ) (bs : List ℕ) → has_slash bs ≡ false → parent (b ∷ bs) ≡ []
-no_parent b bs none = rw none refl
 
 pub mark_parent : (now : ℕ) → parent (imported_mark now) ≡ []
 mark_parent now = no_parent 105 (codes "mported-" ++ digits 20 now) (no_slashes (codes "mported-" ++ digits 20 now) (plain_mark now).1)

@@ -2,18 +2,18 @@
 use Rattle.std.proofs.Common.{◌≡◌, ℕ, Bool, true, not, ◌&&◌, bytes_eq, List, [], ◌∷◌, ◌++◌, refl, sym, ap, subst, ◌∙◌, append_assoc, append-nil}
 use Rattle.std.specs.List.{list_all}
 use Rattle.std.proofs.lemmas.List.Folds.{list_all-append}
+use Rattle.plain_laws.proofs.Texts.{same_bytes}
 use Rattle.dir_model.specs.declared.spot.Spot.{Spot}
 use Rattle.dir_model.proofs.Lists.{and_both, any_push, any_last}
 use Rattle.dir_rules.specs.declared.seen.Making.{Making}
 use Rattle.dir_rules.specs.declared.standing.Standing.{Standing}
-use Rattle.dir_rules.specs.Rules.{is_dir, has_file}
-use Rattle.dir_rules.proofs.Looks.{same_bytes}
+use Rattle.dir_rules.specs.Rules.{is_dir, has_file_among}
 use Rattle.dir_trait.specs.DirCalls.{DirAt}
 use Rattle.dir_trait.specs.Knowledge.{Knows}
-use Rattle.folder_building.specs.Plans.{piece_at, pieces_at, is_at}
+use Rattle.folder_building.specs.Plans.{piece_at, pieces_at, is_entry_at}
 use Rattle.folder_building.specs.Sources.{SourceAt, Same, ReadsOn}
 use Rattle.folder_building.specs.Making.{with_making, with_piece, with_pieces, IsSpoilt, Appends, Spoils, AppendsUnder, SpoilsUnder}
-use Rattle.folder_building.specs.Changes.{with_new, Makes, Refuses, MakesFile, TriesUnder}
+use Rattle.folder_building.specs.Changes.{with_new, Makes, RefusesEntry, MakesFile, TriesCopiedFile}
 use Rattle.folder_building.proofs.Steps.{site_kept}
 
 pub pieces_more : (path : List ℕ) (ps qs : List (List ℕ)) (m : Making) → with_pieces path (ps ++ qs) m ≡ with_pieces path qs (with_pieces path ps m)
@@ -36,14 +36,14 @@ pub pieces_owed : (test : List ℕ → Bool) (path : List ℕ) → test path ≡
 pieces_owed test path at [] m h = h
 pieces_owed test path at (p ∷ ps) m h = pieces_owed test path at ps (with_piece path p m) (and_both _ _ at h)
 
-pub pieces_file : (path : List ℕ) (ps : List (List ℕ)) (m : Making) → has_file path m.entries ≡ true → has_file path (with_pieces path ps m).entries ≡ true
+pub pieces_file : (path : List ℕ) (ps : List (List ℕ)) (m : Making) → has_file_among path m.entries ≡ true → has_file_among path (with_pieces path ps m).entries ≡ true
 pieces_file path [] m h = h
 pieces_file path (p ∷ ps) m h = pieces_file path ps (with_piece path p m) (any_push (λ e. not (is_dir e.node) && bytes_eq e.path path) m.entries (piece_at path p) h)
 
-pub new_file : (path : List ℕ) (m : Making) → has_file path (with_new path true m).entries ≡ true
+pub new_file : (path : List ℕ) (m : Making) → has_file_among path (with_new path true m).entries ≡ true
 new_file path m = any_last (λ e. not (is_dir e.node) && bytes_eq e.path path) m.entries (piece_at path []) (same_bytes path)
 
-pub all_at : (path : List ℕ) (ps : List (List ℕ)) → list_all (is_at path) (pieces_at path ps) ≡ true
+pub all_at : (path : List ℕ) (ps : List (List ℕ)) → list_all (is_entry_at path) (pieces_at path ps) ≡ true
 all_at path [] = refl
 all_at path (p ∷ ps) = and_both _ _ (same_bytes path) (all_at path ps)
 
@@ -52,7 +52,7 @@ pub spoilt_pieces : (path : List ℕ) (ps : List (List ℕ)) (m : Making) {new :
 spoilt_pieces path ps m {new} h = record {
   spot = h.spot ∙ pieces_spot path ps m;
   part = pieces_at path ps ++ h.part;
-  at = list_all-append (is_at path) (pieces_at path ps) h.part ∙ and_both _ _ (all_at path ps) h.at;
+  at = list_all-append (is_entry_at path) (pieces_at path ps) h.part ∙ and_both _ _ (all_at path ps) h.at;
   entries = h.entries ∙ ap (λ es. es ++ h.part) (pieces_entries path ps m) ∙ append_assoc m.entries (pieces_at path ps) h.part;
 }
 
@@ -116,13 +116,13 @@ module _ (spot : Spot) (path : List ℕ) where
     under_given_up a b ps f s m may k site file = record { making = with_pieces path ps m; is = spoilt_pieces path ps m (spoilt_none path (with_pieces path ps m)); knows = f s m may k site file }
 
     -- a file that was made and then filled
-    pub file_refused : (a b : DirAt) → Refuses spot path true a b → TriesUnder source spot path a b
+    pub file_refused : (a b : DirAt) → RefusesEntry spot path true a b → TriesCopiedFile source spot path a b
     file_refused a b f s m may k site new = f s m k site new
 
     pub file_filled : (a b c : DirAt) (ps : List (List ℕ)) → Makes spot path true a b → AppendsUnder source spot path ps b c → MakesFile source spot path ps a c
     file_filled a b c ps f g s m may k site new = g s (with_new path true m) may (f s m k site new) (site_kept refl site) (new_file path m)
 
-    pub file_spoilt : (a b c : DirAt) → Makes spot path true a b → SpoilsUnder source spot path b c → TriesUnder source spot path a c
+    pub file_spoilt : (a b c : DirAt) → Makes spot path true a b → SpoilsUnder source spot path b c → TriesCopiedFile source spot path a c
     file_spoilt a b c f g s m may k site new =
         let x = g s (with_new path true m) may (f s m k site new) (site_kept refl site) (new_file path m) in
         record { making = x.making; is = spoilt_new path m x.is; knows = x.knows }

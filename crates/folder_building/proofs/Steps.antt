@@ -12,14 +12,14 @@ use Rattle.dir_model.proofs.Lists.{and_left, and_both}
 use Rattle.dir_rules.specs.declared.seen.Making.{Making}
 use Rattle.dir_rules.specs.declared.seen.Seen.{Seen}
 use Rattle.dir_rules.specs.Standing.{is_in, holds_own}
-use Rattle.dir_rules.specs.Seen.{makes_at, is_making_area, spoilt, without_path}
-use Rattle.dir_rules.specs.Rules.{makes_here, has_file, may_make_entry, may_make_file_in, may_append_in, may_sync_in, may_sync_entry, allows}
+use Rattle.dir_rules.specs.Seen.{makes_at, is_making_area, spoilt, with_path_synced}
+use Rattle.dir_rules.specs.Rules.{makes_here, has_file_among, may_make_entry, may_make_file_in, may_append_in, may_sync_in, may_sync_entry, allows}
 use Rattle.dir_rules.specs.Conforms.{seen_replied}
 use Rattle.dir_trait.specs.DirCalls.{DirAt, DirCall, AppendCall}
 use Rattle.dir_trait.specs.Knowledge.{Knows}
 use Rattle.dir_trait.proofs.Knowing.{knows_call}
 use Rattle.folder_building.specs.Making.{inner_at, with_making, IsSite, IsSpoilt, Appends, Spoils, with_piece}
-use Rattle.folder_building.specs.Changes.{with_new, Makes, Refuses, Syncs, Unsyncs}
+use Rattle.folder_building.specs.Changes.{with_new, Makes, RefusesEntry, SyncsPath, Unsyncs}
 use Rattle.folder_building.proofs.Working.{append_call}
 
 -- the folder stands where the process makes it, and no pod in run does
@@ -81,7 +81,7 @@ module _ (spot : Spot) (path : List ℕ) (s : Seen) (m : Making) (site : IsSite 
     pub file_unseen : (e : DirError) → seen_replied (with_making s m) (MakeFileIn (inner_at spot path)) (Refused e 0) ≡ with_making s (spoilt m)
     file_unseen e = rw (file_allowed, at, run) refl
 
-  module _ (piece : List ℕ) (file : has_file path m.entries ≡ true) where
+  module _ (piece : List ℕ) (file : has_file_among path m.entries ≡ true) where
     by_append : (area : Area) → makes_here (with_making s m) spot area ≡ true → may_append_in (with_making s m) (inner_at spot path) area ≡ true
     by_append Prepare h = and_both _ _ h file
     by_append Incoming h = and_both _ _ h file
@@ -105,7 +105,7 @@ module _ (spot : Spot) (path : List ℕ) (s : Seen) (m : Making) (site : IsSite 
     sync_allowed : allows (with_making s m) (SyncIn (inner_at spot path)) ≡ true
     sync_allowed = and_both _ _ (by_sync spot.area site.here) site.spared
 
-    pub sync_seen : seen_replied (with_making s m) (SyncIn (inner_at spot path)) Done ≡ with_making s (without_path path m)
+    pub sync_seen : seen_replied (with_making s m) (SyncIn (inner_at spot path)) Done ≡ with_making s (with_path_synced path m)
     sync_seen = rw (sync_allowed, at) refl
 
     pub sync_unseen : (e : DirError) → seen_replied (with_making s m) (SyncIn (inner_at spot path)) (Refused e 0) ≡ with_making s (spoilt m)
@@ -116,16 +116,16 @@ module _ {observed : Bool} {old new : DirAt} (spot : Spot) (path : List ℕ) (t 
   pub dir_makes : DirCall observed old (MakeDirIn (inner_at spot path)) Done new → Makes spot path false old new
   dir_makes c s m k site may = subst (λ (x : Seen). Knows new x) (dir_seen spot path s m site may) (knows_call t k refl refl c)
 
-  pub dir_refuses : (e : DirError) → DirCall observed old (MakeDirIn (inner_at spot path)) (Refused e 0) new → Refuses spot path false old new
+  pub dir_refuses : (e : DirError) → DirCall observed old (MakeDirIn (inner_at spot path)) (Refused e 0) new → RefusesEntry spot path false old new
   dir_refuses e c s m k site may = record { making = spoilt m; is = is_spoilt spot path s m site; knows = subst (λ (x : Seen). Knows new x) (dir_unseen spot path s m site may e) (knows_call t k refl refl c) }
 
   pub file_makes : DirCall observed old (MakeFileIn (inner_at spot path)) Done new → Makes spot path true old new
   file_makes c s m k site may = subst (λ (x : Seen). Knows new x) (file_seen spot path s m site may) (knows_call t k refl refl c)
 
-  pub file_refuses : (e : DirError) → DirCall observed old (MakeFileIn (inner_at spot path)) (Refused e 0) new → Refuses spot path true old new
+  pub file_refuses : (e : DirError) → DirCall observed old (MakeFileIn (inner_at spot path)) (Refused e 0) new → RefusesEntry spot path true old new
   file_refuses e c s m k site may = record { making = spoilt m; is = is_spoilt spot path s m site; knows = subst (λ (x : Seen). Knows new x) (file_unseen spot path s m site may e) (knows_call t k refl refl c) }
 
-  pub syncs : DirCall observed old (SyncIn (inner_at spot path)) Done new → Syncs spot path old new
+  pub syncs : DirCall observed old (SyncIn (inner_at spot path)) Done new → SyncsPath spot path old new
   syncs c s m k site may = subst (λ (x : Seen). Knows new x) (sync_seen spot path s m site may) (knows_call t k refl refl c)
 
   pub unsyncs : (e : DirError) → DirCall observed old (SyncIn (inner_at spot path)) (Refused e 0) new → Unsyncs spot path old new

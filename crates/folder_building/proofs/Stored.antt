@@ -14,18 +14,18 @@ use Rattle.dir_model.specs.Replies.{may_refuse, is_fault, read_reply}
 use Rattle.dir_model.proofs.Lists.{all_push, all_weaker}
 use Rattle.dir_model.proofs.Moments.{at_after, at_before}
 use Rattle.dir_trait.specs.DirCalls.{DirAt, DirCall, ExtendsBy, HeldBetween}
+use Rattle.dir_trait.specs.Effects.{OnlyAsks}
 use Rattle.tree_digest.specs.declared.file_check.FileCheck.{FileCheck}
 use Rattle.tree_digest.specs.FileChecks.{HasTaken}
-use Rattle.dir_files.specs.Reads.{TellsFile, IsPiece, Piece, joined, AreTold, IsShort, Reads, ReadsNext, WasMissing}
+use Rattle.dir_files.specs.Reads.{TellsFile, IsPiece, Piece, joined_pieces, AreTold, IsShort, HasReadSoFar, ReadsNext, WasMissing}
 use Rattle.dir_files.proofs.Reading.{told_bytes, missing_call, reads_none, reads_more}
 use Rattle.folder_building.specs.declared.plan.Origin.{Origin}
 use Rattle.folder_building.specs.declared.plan.PlanEntry.{PlanEntry}
 use Rattle.folder_building.specs.declared.plan.Content.{Content}
 use Rattle.folder_building.specs.declared.plan.Content.TheVariants.{Directory, Given, Copied}
-use Rattle.folder_building.specs.Work.{Worked}
 use Rattle.folder_building.proofs.Reading.{image_path}
 use Rattle.folder_building.specs.Sources.{in_image}
-use Rattle.folder_building.specs.Stored.{OfStored, WasGone, Sees, ReadsPast, EndsCopy, ReadsOther, WasUnlike, WasLike, HadContent, HadContents, LacksContent, LacksAt}
+use Rattle.folder_building.specs.Stored.{OfStored, WasGone, SeesStoredBytes, ReadsPast, EndsCopy, ReadsOther, WasUnlike, WasLike, HadContent, HadContents, LacksContent, LacksAt}
 
 -- a read was refused without a fault, so nothing stands there
 refused_missing : (inner : Inner) (at room : ℕ) (e : DirError) → may_refuse (ReadIn inner at room) e ≡ true → is_fault e ≡ false → e ≡ Missing
@@ -51,7 +51,7 @@ module _ {asks : Request → Bool} (a b : DirAt) (x : ExtendsBy asks a b) (same 
   told_from inner new (p ∷ q ∷ earlier) some told = record {
     between = told.between;
     earlier = told_from inner told.between (q ∷ earlier) (λ none. cc) told.earlier;
-    told = subst (λ (me : ℕ). AtOwnStep me told.between new (TellsFile inner (IsPiece (length (joined (q ∷ earlier))) p.room p.bytes))) same told.told;
+    told = subst (λ (me : ℕ). AtOwnStep me told.between new (TellsFile inner (IsPiece (length (joined_pieces (q ∷ earlier))) p.room p.bytes))) same told.told;
   }
 
 -- and behind
@@ -65,10 +65,10 @@ short_some [] short none = short
 short_some (p ∷ pieces) short none = cc
 
 -- where a file was told to be other than it should, something was read
-some_read : (size : ℕ) (P : Type 0) (bytes : List ℕ) (pieces : List Piece) → bytes ≡ joined pieces → (size < length bytes) ⊎ (IsShort pieces × P) → pieces ≡ [] → ⊥
-some_read size P bytes pieces whole (inl more) none = let long : size < length (joined pieces) = subst (λ (bs : List ℕ). size < length bs) whole more in by pieces none long
+some_read : (size : ℕ) (P : Type 0) (bytes : List ℕ) (pieces : List Piece) → bytes ≡ joined_pieces pieces → (size < length bytes) ⊎ (IsShort pieces × P) → pieces ≡ [] → ⊥
+some_read size P bytes pieces whole (inl more) none = let long : size < length (joined_pieces pieces) = subst (λ (bs : List ℕ). size < length bs) whole more in by pieces none long
   where
-    by : (ps : List Piece) → ps ≡ [] → size < length (joined ps) → ⊥
+    by : (ps : List Piece) → ps ≡ [] → size < length (joined_pieces ps) → ⊥
     by [] none long = omega (arith, long)
     by (p ∷ ps) none long = cc
 some_read size P bytes pieces whole (inr ended) none = short_some pieces ended.0 none
@@ -169,13 +169,13 @@ module _ {observed : Bool} {old new : DirAt} (name path : List ℕ) (folder : Op
       let gone : IsErrOf r Missing = is ∙ ap Err (refused_missing (image_path name path) at size e may calm) in
       subst (λ (i : Inner). WasMissing i old new) (image_same name path folder inner some named) (missing_call (image_path name path) at size room r c gone t)
 
-  pub image_sees : (n : ℕ) → DirCall observed old (ReadIn (image_path name path) at size) (Read (take n room)) new → observed ≡ true → Sees (in_image path folder) at size (take n room) old new
+  pub image_sees : (n : ℕ) → DirCall observed old (ReadIn (image_path name path) at size) (Read (take n room)) new → observed ≡ true → SeesStoredBytes (in_image path folder) at size (take n room) old new
   image_sees n c t inner named = subst (λ (i : Inner). HeldBetween old new (TellsFile i (IsPiece at size (take n room)))) (image_same name path folder inner some named) (told_bytes (image_path name path) at size t (take n room) c)
 
 -- what was read so far: where the reading has ended, its last piece was short
 pub record SoFar (inner : Inner) (more : Bool) (check : FileCheck) (size : ℕ) (sha : List ℕ) (at : ℕ) (old new : DirAt) : Type 0 where
   pub bytes : List ℕ
-  pub reads : Reads inner old new bytes
+  pub reads : HasReadSoFar inner old new bytes
   pub counted : length bytes ≡ at
   pub taken : HasTaken check size sha bytes
   pub ended : more ≡ false → IsShort reads.pieces
@@ -187,7 +187,7 @@ pub seen_none : {stored : Option Inner} {check : FileCheck} {size : ℕ} {sha : 
 seen_none taken inner is = record { bytes = []; reads = reads_none; counted = refl; taken = taken; ended = λ e. cc }
 
 -- the next piece
-abbrev next_piece : {inner : Inner} {before : List ℕ} {at room : ℕ} {a b c : DirAt} (piece : List ℕ) → Reads inner a b before → length before ≡ at → b.process ≡ a.process → HeldBetween b c (TellsFile inner (IsPiece at room piece)) → ReadsNext inner room false before (before ++ piece) b c
+abbrev next_piece : {inner : Inner} {before : List ℕ} {at room : ℕ} {a b c : DirAt} (piece : List ℕ) → HasReadSoFar inner a b before → length before ≡ at → b.process ≡ a.process → HeldBetween b c (TellsFile inner (IsPiece at room piece)) → ReadsNext inner room false before (before ++ piece) b c
 next_piece {inner} {before} {at} {room} {a} {b} {c} piece r counted same told = record {
   piece = piece;
   grown = refl;
@@ -195,7 +195,7 @@ next_piece {inner} {before} {at} {room} {a} {b} {c} piece r counted same told = 
   told = subst (λ (n : ℕ). HeldBetween b c (TellsFile inner (IsPiece n room piece))) (sym counted) told;
 }
 
-pub seen_more : {stored : Option Inner} {more : Bool} {x y : FileCheck} {size : ℕ} {sha : List ℕ} {at room : ℕ} {a b c : DirAt} (n : ℕ) (bs : List ℕ) (again : Bool) → SeenSoFar stored more x size sha at a b → b.process ≡ a.process → Sees stored at room (take n bs) b c → n ≤ length bs
+pub seen_more : {stored : Option Inner} {more : Bool} {x y : FileCheck} {size : ℕ} {sha : List ℕ} {at room : ℕ} {a b c : DirAt} (n : ℕ) (bs : List ℕ) (again : Bool) → SeenSoFar stored more x size sha at a b → b.process ≡ a.process → SeesStoredBytes stored at room (take n bs) b c → n ≤ length bs
     → ((k : ℕ) (s message : List ℕ) → HasTaken x k s message → HasTaken y k s (message ++ take n bs)) → (again ≡ false → n < room) → SeenSoFar stored again y size sha (at + n) a c
 seen_more {stored} {more} {x} {y} {size} {sha} {at} {room} {a} {b} {c} n bs again seen same sees within taken short inner is =
     let s = seen inner is in
@@ -209,7 +209,7 @@ seen_more {stored} {more} {x} {y} {size} {sha} {at} {room} {a} {b} {c} n bs agai
     }
 
 -- it was missing, or went on behind its size
-pub unlike_past : {stored : Option Inner} {more : Bool} {check : FileCheck} {size : ℕ} {sha : List ℕ} {at : ℕ} {observed : Bool} {asks : Request → Bool} {a b c : DirAt} → observed ≡ true → Worked observed asks a b → at ≤ size → SeenSoFar stored more check size sha at a b → EndsCopy stored at (size - at) b c → WasUnlike stored size sha a c
+pub unlike_past : {stored : Option Inner} {more : Bool} {check : FileCheck} {size : ℕ} {sha : List ℕ} {at : ℕ} {observed : Bool} {asks : Request → Bool} {a b c : DirAt} → observed ≡ true → OnlyAsks observed asks a b → at ≤ size → SeenSoFar stored more check size sha at a b → EndsCopy stored at (size - at) b c → WasUnlike stored size sha a c
 unlike_past {stored} {more} {check} {size} {sha} {at} {observed} {asks} {a} {b} {c} t w within seen ends inner is = by (ends inner is)
   where
     by : WasMissing inner b c ⊎ ReadsPast inner at (size - at) b c → WasMissing inner a c ⊎ ReadsOther inner size sha a c
@@ -240,14 +240,14 @@ like_ended {stored} {more} {check} {size} {sha} {at} {a} {b} matches over seen s
     record { bytes = s.bytes; reads = s.reads; ended = s.ended over; sized = fits.0; hashed = fits.1 }
 
 -- one entry more had its file
-pub had_next : {observed : Bool} {asks more : Request → Bool} (stored : Origin → Option Inner) (plan : List PlanEntry) (i : ℕ) (e : PlanEntry) (a b c : DirAt) → i < length plan → e ≡ get_or plan i e → observed ≡ true → Worked observed asks a b → Worked observed more b c → HadContents stored (take i plan) a b → HadContent stored e.content b c
+pub had_next : {observed : Bool} {asks more : Request → Bool} (stored : Origin → Option Inner) (plan : List PlanEntry) (i : ℕ) (e : PlanEntry) (a b c : DirAt) → i < length plan → e ≡ get_or plan i e → observed ≡ true → OnlyAsks observed asks a b → OnlyAsks observed more b c → HadContents stored (take i plan) a b → HadContent stored e.content b c
     → HadContents stored (take (i + 1) plan) a c
 had_next stored plan i e a b c within is t w x had one =
     subst (λ (xs : List PlanEntry). HadContents stored xs a c) (sym (take_more plan i e within ∙ ap (λ (y : PlanEntry). take i plan ++ y ∷ []) (sym is)))
     (all_push (λ (y : PlanEntry). HadContent stored y.content a c) (take i plan) e (all_had_before b c (x.extends t) stored (take i plan) a w.same had) (had_after a b (w.extends t) w.same stored e.content c one))
 
 -- the entry whose file it is
-pub lacks_at : {observed : Bool} {asks more : Request → Bool} (stored : Origin → Option Inner) (plan : List PlanEntry) (i : ℕ) (e : PlanEntry) (a b c : DirAt) → i < length plan → e ≡ get_or plan i e → (n : ℕ) → n ≡ i → observed ≡ true → Worked observed asks a b → Worked observed more b c → HadContents stored (take i plan) a b → LacksContent stored e.content b c → LacksAt stored plan n a c
+pub lacks_at : {observed : Bool} {asks more : Request → Bool} (stored : Origin → Option Inner) (plan : List PlanEntry) (i : ℕ) (e : PlanEntry) (a b c : DirAt) → i < length plan → e ≡ get_or plan i e → (n : ℕ) → n ≡ i → observed ≡ true → OnlyAsks observed asks a b → OnlyAsks observed more b c → HadContents stored (take i plan) a b → LacksContent stored e.content b c → LacksAt stored plan n a c
 lacks_at stored plan i e a b c within is n at t w x had lacks = record {
   before = take i plan;
   entry = e;
@@ -259,5 +259,5 @@ lacks_at stored plan i e a b c within is n at t w x had lacks = record {
 }
 
 -- a read of more than was left
-pub ends_past : {stored : Option Inner} {at left : ℕ} {a b : DirAt} (room n : ℕ) (bs : List ℕ) → n ≤ length bs → left < n → Sees stored at room (take n bs) a b → EndsCopy stored at left a b
+pub ends_past : {stored : Option Inner} {at left : ℕ} {a b : DirAt} (room n : ℕ) (bs : List ℕ) → n ≤ length bs → left < n → SeesStoredBytes stored at room (take n bs) a b → EndsCopy stored at left a b
 ends_past {stored} {at} {left} room n bs within more sees inner is = inr (record { room = room; bytes = take n bs; more = subst (λ (m : ℕ). left < m) (sym (length-take-le n bs within)) more; told = sees inner is })

@@ -7,22 +7,19 @@ use Rattle.dir_model.specs.declared.request.Request.TheVariants.{AppendIn}
 use Rattle.dir_model.specs.declared.request.Reply.{Reply}
 use Rattle.dir_model.specs.Replies.{done_reply, append_reply}
 use Rattle.dir_model.specs.Local.{Local, local_replied}
-use Rattle.dir_model.specs.declared.spot.Spot.{Spot}
-use Rattle.dir_model.specs.Areas.{rank}
-use Rattle.dir_model.specs.State.{spot_eq}
-use Rattle.dir_model.proofs.Lists.{or_last, and_both, same_self}
-use Rattle.dir_rules.proofs.Looks.{same_bytes}
+use Rattle.dir_model.proofs.Lists.{or_last}
 use Rattle.dir_model.proofs.Chains.{nothing_yet, and_call, and_more, extends_wider}
 use Rattle.dir_trait.specs.DirCalls.{DirAt, DirCall, AppendCall}
-use Rattle.folder_building.specs.Work.{Worked, either}
+use Rattle.dir_trait.specs.Effects.{OnlyAsks}
+use Rattle.folder_building.specs.Work.{either}
 
-pub worked_none : {observed : Bool} {asks : Request → Bool} {d : DirAt} → Worked observed asks d d
+pub worked_none : {observed : Bool} {asks : Request → Bool} {d : DirAt} → OnlyAsks observed asks d d
 worked_none = record { same = refl; faults = omega arith; local = refl; extends = λ t. nothing_yet }
 
-pub worked_call : {observed : Bool} {asks : Request → Bool} {old new : DirAt} {request : Request} {reply : Reply} → asks request ≡ true → local_replied old.local request reply ≡ old.local → DirCall observed old request reply new → Worked observed asks old new
+pub worked_call : {observed : Bool} {asks : Request → Bool} {old new : DirAt} {request : Request} {reply : Reply} → asks request ≡ true → local_replied old.local request reply ≡ old.local → DirCall observed old request reply new → OnlyAsks observed asks old new
 worked_call asked local c = record { same = c.same; faults = c.faults; local = c.local ∙ local; extends = λ t. and_call nothing_yet refl asked (c.step t) }
 
-pub worked_more : {observed : Bool} {asks : Request → Bool} {a b c : DirAt} → Worked observed asks a b → Worked observed asks b c → Worked observed asks a c
+pub worked_more : {observed : Bool} {asks : Request → Bool} {a b c : DirAt} → OnlyAsks observed asks a b → OnlyAsks observed asks b c → OnlyAsks observed asks a c
 worked_more ab bc = record {
   same = bc.same ∙ ab.same;
   faults = omega (arith, ab.faults, bc.faults);
@@ -30,7 +27,7 @@ worked_more ab bc = record {
   extends = λ t. and_more (ab.extends t) ab.same (bc.extends t);
 }
 
-pub worked_wider : {observed : Bool} {asks more : Request → Bool} {old new : DirAt} → ((r : Request) → asks r ≡ true → more r ≡ true) → Worked observed asks old new → Worked observed more old new
+pub worked_wider : {observed : Bool} {asks more : Request → Bool} {old new : DirAt} → ((r : Request) → asks r ≡ true → more r ≡ true) → OnlyAsks observed asks old new → OnlyAsks observed more old new
 worked_wider wider w = record { same = w.same; faults = w.faults; local = w.local; extends = λ t. extends_wider wider (w.extends t) }
 
 -- what one of two asks for, either asks for
@@ -62,14 +59,10 @@ kept_local : (m : Local) (inner : Inner) (piece : List ℕ) (answer : Result (Un
 kept_local m inner piece (Ok done) = refl
 kept_local m inner piece (Err error) = refl
 
-pub worked_append : {observed : Bool} {asks : Request → Bool} {old new : DirAt} (inner : Inner) (piece : List ℕ) (answer : Result (Unit {0}) DirError) → asks (AppendIn inner piece) ≡ true → AppendCall observed old (AppendIn inner piece) answer new → Worked observed asks old new
+pub worked_append : {observed : Bool} {asks : Request → Bool} {old new : DirAt} (inner : Inner) (piece : List ℕ) (answer : Result (Unit {0}) DirError) → asks (AppendIn inner piece) ≡ true → AppendCall observed old (AppendIn inner piece) answer new → OnlyAsks observed asks old new
 worked_append {observed} {asks} {old} {new} inner piece answer asked c = record {
   same = c.same;
   faults = c.faults;
   local = c.local ∙ kept_local old.local inner piece answer;
   extends = λ t. and_call nothing_yet refl asked (c.step t).step;
 }
-
--- a change at a spot is at that spot
-pub at_spot : (spot : Spot) → spot_eq spot spot ≡ true
-at_spot spot = and_both _ _ (same_self (rank spot.area)) (same_bytes spot.name)

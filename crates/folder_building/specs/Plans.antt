@@ -7,7 +7,7 @@ use Rattle.dir_model.specs.declared.tree.TreeNode.TheVariants.{Dir, Piece}
 use Rattle.dir_model.specs.Paths.{is_empty, is_path}
 use Rattle.dir_rules.specs.declared.seen.Entry.{Entry}
 use Rattle.dir_rules.specs.declared.seen.Seen.{Seen}
-use Rattle.dir_rules.specs.Rules.{is_new_path, in_order}
+use Rattle.dir_rules.specs.Rules.{is_new_path, is_in_order}
 use Rattle.folder_building.specs.declared.plan.PlanEntry.{PlanEntry}
 use Rattle.folder_building.specs.declared.plan.Content.{Content}
 use Rattle.folder_building.specs.declared.plan.Content.TheVariants.{Directory, Given, Copied}
@@ -21,8 +21,8 @@ is_file (Copied origin size sha) = true
 abbrev pub outline_of : PlanEntry → Entry
 outline_of e = record { path = e.path; node = cond (is_file e.content) (Piece []) Dir }
 
-abbrev pub outline : List PlanEntry → List Entry
-outline plan = map outline_of plan
+abbrev pub planned_entries : List PlanEntry → List Entry
+planned_entries plan = map outline_of plan
 
 -- where a file is copied from, its path there is one
 abbrev pub has_origin : Content → Bool
@@ -30,19 +30,19 @@ has_origin (Copied origin size sha) = is_path origin.path
 has_origin _ = true
 
 -- its path is new, and lies in the folder itself or in a directory that was made before
-abbrev pub follows : List PlanEntry → PlanEntry → Bool
-follows before e = is_path e.path && (is_new_path e.path (outline before) && has_origin e.content)
+abbrev pub may_follow_entries : List PlanEntry → PlanEntry → Bool
+may_follow_entries before e = is_path e.path && (is_new_path e.path (planned_entries before) && has_origin e.content)
 
 abbrev pub is_plan_after : List PlanEntry → List PlanEntry → Bool
 is_plan_after before [] = true
-is_plan_after before (e ∷ es) = follows before e && is_plan_after (before ++ e ∷ []) es
+is_plan_after before (e ∷ es) = may_follow_entries before e && is_plan_after (before ++ e ∷ []) es
 
 abbrev pub is_plan : List PlanEntry → Bool
 is_plan plan = is_plan_after [] plan
 
 -- it comes when the rules ask for it: in a pod the mark of its creation first, and its manifest as the last file
 abbrev pub is_in_turn : Seen → Area → List PlanEntry → PlanEntry → Bool
-is_in_turn s area before e = in_order s area (is_file e.content) e.path (outline before)
+is_in_turn s area before e = is_in_order s area (is_file e.content) e.path (planned_entries before)
 
 abbrev pub are_in_turn : Seen → Area → List PlanEntry → List PlanEntry → Bool
 are_in_turn s area before [] = true
@@ -52,38 +52,38 @@ are_in_turn s area before (e ∷ es) = is_in_turn s area before e && are_in_turn
 abbrev pub piece_at : List ℕ → List ℕ → Entry
 piece_at path bytes = record { path = path; node = Piece bytes }
 
-abbrev pub directory_at : List ℕ → Entry
-directory_at path = record { path = path; node = Dir }
+abbrev pub directory_entry : List ℕ → Entry
+directory_entry path = record { path = path; node = Dir }
 
 abbrev pub pieces_at : List ℕ → List (List ℕ) → List Entry
 pieces_at path pieces = map (piece_at path) pieces
 
 -- a file that was made in these pieces, the first of which is empty
-abbrev pub file_at : List ℕ → List (List ℕ) → List Entry
-file_at path pieces = piece_at path [] ∷ pieces_at path pieces
+abbrev pub file_in_pieces : List ℕ → List (List ℕ) → List Entry
+file_in_pieces path pieces = piece_at path [] ∷ pieces_at path pieces
 
 -- the bytes of a file are those that the plan asks for
-abbrev pub Fits : Content → List ℕ → Type 0
-Fits Directory bytes = ⊥
-Fits (Given given) bytes = bytes ≡ given
-Fits (Copied origin size sha) bytes = (length bytes ≡ size) × (sha512 bytes ≡ sha)
+abbrev pub FitsContent : Content → List ℕ → Type 0
+FitsContent Directory bytes = ⊥
+FitsContent (Given given) bytes = bytes ≡ given
+FitsContent (Copied origin size sha) bytes = (length bytes ≡ size) × (sha512 bytes ≡ sha)
 
 -- a file of these bytes was made, in pieces
 pub record IsFileOf (path : List ℕ) (content : Content) (chunk : List Entry) : Type 0 where
   pub pieces : List (List ℕ)
-  pub is : chunk ≡ file_at path pieces
-  pub fits : Fits content (concat pieces)
+  pub is : chunk ≡ file_in_pieces path pieces
+  pub fits : FitsContent content (concat pieces)
 
 -- what was made is what an entry of the plan asks for
 abbrev pub IsMadeAs : List ℕ → Content → List Entry → Type 0
-IsMadeAs path Directory chunk = chunk ≡ directory_at path ∷ []
+IsMadeAs path Directory chunk = chunk ≡ directory_entry path ∷ []
 IsMadeAs path content chunk = IsFileOf path content chunk
 
 abbrev pub IsMadeOf : PlanEntry → List Entry → Type 0
 IsMadeOf e chunk = IsMadeAs e.path e.content chunk
 
 -- what was made is what the plan asks for, entry by entry
-pub record BothMade (First Rest : List Entry → Type 0) (entries : List Entry) : Type 0 where
+pub record IsMadeThenRest (First Rest : List Entry → Type 0) (entries : List Entry) : Type 0 where
   pub chunk : List Entry
   pub rest : List Entry
   pub is : entries ≡ chunk ++ rest
@@ -92,17 +92,17 @@ pub record BothMade (First Rest : List Entry → Type 0) (entries : List Entry) 
 
 abbrev pub AreMade : List PlanEntry → List Entry → Type 0
 AreMade [] entries = entries ≡ []
-AreMade (e ∷ plan) entries = BothMade (IsMadeOf e) (AreMade plan) entries
+AreMade (e ∷ plan) entries = IsMadeThenRest (IsMadeOf e) (AreMade plan) entries
 
 -- nothing but the beginnings of a file stands here
-abbrev pub is_at : List ℕ → Entry → Bool
-is_at path e = bytes_eq e.path path
+abbrev pub is_entry_at : List ℕ → Entry → Bool
+is_entry_at path e = bytes_eq e.path path
 
 abbrev pub IsPart : PlanEntry → List Entry → Type 0
-IsPart e chunk = list_all (is_at e.path) chunk ≡ true
+IsPart e chunk = list_all (is_entry_at e.path) chunk ≡ true
 
 -- the plan was begun: its first entries were made, and something of the next perhaps
-pub record IsBegun (plan : List PlanEntry) (entries : List Entry) : Type 0 where
+pub record IsPlanBegun (plan : List PlanEntry) (entries : List Entry) : Type 0 where
   pub before : List PlanEntry
   pub rest : List PlanEntry
   pub is : plan ≡ before ++ rest
@@ -110,12 +110,12 @@ pub record IsBegun (plan : List PlanEntry) (entries : List Entry) : Type 0 where
   pub are : AreMade before made
   pub path : List ℕ
   pub part : List Entry
-  pub next : list_all (is_at path) part ≡ true
+  pub next : list_all (is_entry_at path) part ≡ true
   pub holds : entries ≡ made ++ part
 
-abbrev pub is_among : List ℕ → List PlanEntry → Bool
-is_among path plan = list_any (λ e. bytes_eq e.path path) plan
+abbrev pub is_in_plan : List ℕ → List PlanEntry → Bool
+is_in_plan path plan = list_any (λ e. bytes_eq e.path path) plan
 
 -- the folder itself, or a path of the plan
 abbrev pub is_owed : List PlanEntry → List ℕ → Bool
-is_owed plan path = is_empty path || is_among path plan
+is_owed plan path = is_empty path || is_in_plan path plan

@@ -9,7 +9,7 @@ use Rattle.dir_model.specs.declared.request.Request.{Request}
 use Rattle.dir_model.specs.declared.request.Request.TheVariants.{ReadIn}
 use Rattle.dir_rules.specs.declared.standing.Standing.{Standing}
 use Rattle.dir_rules.specs.declared.seen.Seen.{Seen}
-use Rattle.dir_rules.specs.Standing.{is_in, holds_gate, closes_gate}
+use Rattle.dir_rules.specs.Standing.{is_in, shares_area, excludes_area}
 use Rattle.dir_trait.specs.DirCalls.{DirAt}
 use Rattle.dir_trait.specs.Knowledge.{Knows}
 use Rattle.folder_building.specs.declared.plan.Origin.{Origin}
@@ -41,17 +41,17 @@ pub record Same (old new : SourceAt) : Type 0 where
   pub reference : new.reference ≡ old.reference
 
 -- n bytes of the room are those of the file from a place on, as many as the room takes
-pub record IsRead (bytes : List ℕ) (at size n : ℕ) (room : List ℕ) : Type 0 where
+pub record IsPieceRead (bytes : List ℕ) (at size n : ℕ) (room : List ℕ) : Type 0 where
   pub count : n ≡ min size (length bytes - at)
   pub piece : take n room ≡ take n (drop at bytes)
 
 -- what was read of a file
-abbrev pub Reads : SourceAt → Origin → ℕ → ℕ → ℕ → List ℕ → Type 0
-Reads source origin at size n room = source.told ≡ true → (bytes : List ℕ) → source.file origin ≡ Some bytes → IsRead bytes at size n room
+abbrev pub ReadsOrigin : SourceAt → Origin → ℕ → ℕ → ℕ → List ℕ → Type 0
+ReadsOrigin source origin at size n room = source.told ≡ true → (bytes : List ℕ) → source.file origin ≡ Some bytes → IsPieceRead bytes at size n room
 
 -- it has no such file
-abbrev pub IsMissing : SourceAt → Origin → Type 0
-IsMissing source origin = source.told ≡ true → source.file origin ≡ None
+abbrev pub LacksOrigin : SourceAt → Origin → Type 0
+LacksOrigin source origin = source.told ≡ true → source.file origin ≡ None
 
 -- no file of at most this size stands there
 abbrev pub IsLonger : SourceAt → Origin → ℕ → Type 0
@@ -101,9 +101,9 @@ abbrev pub in_images : Origin → Option Inner
 in_images origin = in_image origin.path origin.folder
 
 -- reads in images, under their lock
-abbrev pub reads_images : Request → Bool
-reads_images (ReadIn inner at room) = is_in Images inner.spot.area
-reads_images _ = false
+abbrev pub reads_image_files : Request → Bool
+reads_image_files (ReadIn inner at room) = is_in Images inner.spot.area
+reads_image_files _ = false
 
 abbrev pub may_read_images : Standing → Bool
-may_read_images s = holds_gate Images s || closes_gate Images s
+may_read_images s = shares_area Images s || excludes_area Images s

@@ -5,7 +5,7 @@ use Rattle.sha2.specs.Sha512.{sha512}
 use Rattle.dir_model.specs.declared.item.Inner.{Inner}
 use Rattle.dir_model.specs.declared.request.Request.{Request}
 use Rattle.dir_trait.specs.DirCalls.{DirAt, HeldBetween}
-use Rattle.dir_files.specs.Reads.{reads_at, TellsFile, IsPiece, IsShort, Reads, WasMissing}
+use Rattle.dir_files.specs.Reads.{TellsFile, IsPiece, IsShort, HasReadSoFar, WasMissing, reads_at}
 use Rattle.folder_building.specs.declared.plan.Origin.{Origin}
 use Rattle.folder_building.specs.declared.plan.PlanEntry.{PlanEntry}
 use Rattle.folder_building.specs.declared.plan.Content.{Content}
@@ -20,8 +20,8 @@ abbrev pub WasGone : Option Inner → DirAt → DirAt → Type 0
 WasGone stored old new = OfStored stored (λ inner. WasMissing inner old new)
 
 -- at an own step these were its bytes from a place on, as many as there was room for
-abbrev pub Sees : Option Inner → ℕ → ℕ → List ℕ → DirAt → DirAt → Type 0
-Sees stored at room bytes old new = OfStored stored (λ inner. HeldBetween old new (TellsFile inner (IsPiece at room bytes)))
+abbrev pub SeesStoredBytes : Option Inner → ℕ → ℕ → List ℕ → DirAt → DirAt → Type 0
+SeesStoredBytes stored at room bytes old new = OfStored stored (λ inner. HeldBetween old new (TellsFile inner (IsPiece at room bytes)))
 
 -- more than so many bytes were read from a place on
 pub record ReadsPast (inner : Inner) (at left : ℕ) (old new : DirAt) : Type 0 where
@@ -36,7 +36,7 @@ EndsCopy stored at left old new = OfStored stored (λ inner. WasMissing inner ol
 -- it was read, and has more bytes than this size; or it was read to its end, and has another size or SHA-512
 pub record ReadsOther (inner : Inner) (size : ℕ) (sha : List ℕ) (old new : DirAt) : Type 0 where
   pub bytes : List ℕ
-  pub reads : Reads inner old new bytes
+  pub reads : HasReadSoFar inner old new bytes
   pub other : (size < length bytes) ⊎ (IsShort reads.pieces × (length bytes ≡ size → sha512 bytes ≡ sha → ⊥))
 
 -- it was missing, or isn't the one of this size and SHA-512
@@ -46,7 +46,7 @@ WasUnlike stored size sha old new = OfStored stored (λ inner. WasMissing inner 
 -- it was read to its end, and has this size and SHA-512
 pub record ReadsLike (inner : Inner) (size : ℕ) (sha : List ℕ) (old new : DirAt) : Type 0 where
   pub bytes : List ℕ
-  pub reads : Reads inner old new bytes
+  pub reads : HasReadSoFar inner old new bytes
   pub ended : IsShort reads.pieces
   pub sized : length bytes ≡ size
   pub hashed : sha512 bytes ≡ sha

@@ -11,8 +11,8 @@ use Rattle.tree_digest.specs.declared.line.ListingLine.{ListingLine}
 use Rattle.folder_building.specs.declared.plan.PlanEntry.{PlanEntry}
 use Rattle.folder_building.specs.declared.plan.Content.{Content}
 use Rattle.folder_building.specs.declared.plan.Content.TheVariants.{Directory, Copied}
-use Rattle.folder_building.specs.Plans.{AreMade, outline, is_plan_after}
-use Rattle.folder_building.specs.Materialized.{below, materializes}
+use Rattle.folder_building.specs.Plans.{AreMade, planned_entries, is_plan_after}
+use Rattle.folder_building.specs.Materialized.{prefixed_path, materializes}
 
 -- what is made for a line, whose bytes lie here in a folder of the store or elsewhere. A link isn't made
 abbrev pub content_of : Option (List ℕ) → List ℕ → TreeEntry → Option Content
@@ -20,11 +20,11 @@ content_of folder from (Dir meta) = Some Directory
 content_of folder from (File meta size sha) = Some (Copied (record { folder = folder; path = from }) size sha)
 content_of folder from (Link meta target) = None
 
-abbrev pub entry_at : List ℕ → Content → PlanEntry
-entry_at path content = record { path = path; content = content }
+abbrev pub plan_entry_at : List ℕ → Content → PlanEntry
+plan_entry_at path content = record { path = path; content = content }
 
 abbrev pub tree_entry : List ℕ → Option (List ℕ) → List ℕ → ListingLine → Option PlanEntry
-tree_entry prefix folder from line = option_map (entry_at (below prefix line.path)) (content_of folder (below from line.path) line.entry)
+tree_entry prefix folder from line = option_map (plan_entry_at (prefixed_path prefix line.path)) (content_of folder (prefixed_path from line.path) line.entry)
 
 -- the directories and files of the listing, below the prefix, in the listing's order
 abbrev pub tree_entries : List ℕ → Option (List ℕ) → List ℕ → List ListingLine → List PlanEntry
@@ -35,11 +35,11 @@ abbrev pub MakesTree : List ℕ → List ListingLine → List PlanEntry → Type
 MakesTree prefix lines plan = (entries : List Entry) → AreMade plan entries → materializes prefix lines entries ≡ true
 
 -- the prefix is a new directory's path, with room below it for absolute paths, and what is copied lies below a path
-pub record IsRoot (prefix from : List ℕ) (before : List PlanEntry) : Type 0 where
+pub record IsTreePrefix (prefix from : List ℕ) (before : List PlanEntry) : Type 0 where
   pub path : is_path prefix ≡ true
   pub some : is_empty prefix ≡ false
   pub short : length prefix ≤ 4096
-  pub parent : is_in_directory prefix (outline before) ≡ true
+  pub parent : is_in_directory prefix (planned_entries before) ≡ true
   -- nothing of the plan before lies at the prefix or below it
   pub free : list_any (λ e. is_within prefix e.path) before ≡ false
   pub source : is_path from ≡ true
@@ -47,4 +47,4 @@ pub record IsRoot (prefix from : List ℕ) (before : List PlanEntry) : Type 0 wh
 
 -- wherever the prefix is such, the directory at it and these entries carry a plan on
 abbrev pub CarriesOn : List ℕ → List ℕ → List PlanEntry → Type 0
-CarriesOn prefix from plan = (before : List PlanEntry) → IsRoot prefix from before → is_plan_after before (entry_at prefix Directory ∷ plan) ≡ true
+CarriesOn prefix from plan = (before : List PlanEntry) → IsTreePrefix prefix from before → is_plan_after before (plan_entry_at prefix Directory ∷ plan) ≡ true

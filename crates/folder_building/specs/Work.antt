@@ -11,13 +11,6 @@ use Rattle.dir_model.specs.State.{spot_eq}
 use Rattle.dir_model.specs.Calls.{CallStep, Extends}
 use Rattle.dir_trait.specs.DirCalls.{DirAt, ExtendsBy}
 
--- calls were made, each for something of this kind, and every handle is as it was
-pub record Worked (observed : Bool) (asks : Request → Bool) (old new : DirAt) : Type 0 where
-  pub same : new.process ≡ old.process
-  pub faults : old.faults ≤ new.faults
-  pub local : new.local ≡ old.local
-  pub extends : observed ≡ true → ExtendsBy asks old new
-
 -- the changes inside the folder at this spot
 abbrev pub builds_at : Spot → Request → Bool
 builds_at spot (MakeDirIn inner) = spot_eq inner.spot spot
@@ -30,24 +23,24 @@ abbrev pub either : (Request → Bool) → (Request → Bool) → Request → Bo
 either asks more request = asks request || more request
 
 -- an answer that a folder which this process makes doesn't explain
-abbrev pub is_stray : Request → Reply → Bool
-is_stray (MakeDirIn inner) (Refused Missing left) = true
-is_stray (MakeDirIn inner) (Refused Exists left) = true
-is_stray (MakeFileIn inner) (Refused Missing left) = true
-is_stray (MakeFileIn inner) (Refused Exists left) = true
-is_stray (AppendIn inner piece) (Refused Missing left) = true
-is_stray (SyncIn inner) (Refused Missing left) = true
-is_stray _ _ = false
+abbrev pub is_stray_building : Request → Reply → Bool
+is_stray_building (MakeDirIn inner) (Refused Missing left) = true
+is_stray_building (MakeDirIn inner) (Refused Exists left) = true
+is_stray_building (MakeFileIn inner) (Refused Missing left) = true
+is_stray_building (MakeFileIn inner) (Refused Exists left) = true
+is_stray_building (AppendIn inner piece) (Refused Missing left) = true
+is_stray_building (SyncIn inner) (Refused Missing left) = true
+is_stray_building _ _ = false
 
 -- the last step was answered so
-pub record WasStray (asks : Request → Bool) (me : ℕ) (old new : List Event) : Type 0 where
+pub record WasStrayBuilding (asks : Request → Bool) (me : ℕ) (old new : List Event) : Type 0 where
   pub before : List Event
   pub request : Request
   pub reply : Reply
   pub first : Extends asks me old before
   pub asked : asks request ≡ true
-  pub stray : is_stray request reply ≡ true
+  pub stray : is_stray_building request reply ≡ true
   pub last : CallStep me before request reply new
 
-abbrev pub EndsStray : (Request → Bool) → DirAt → DirAt → Type 0
-EndsStray asks old new = WasStray asks old.process old.trace new.trace
+abbrev pub EndsWithStrayBuilding : (Request → Bool) → DirAt → DirAt → Type 0
+EndsWithStrayBuilding asks old new = WasStrayBuilding asks old.process old.trace new.trace

@@ -3,11 +3,12 @@ ghost use Rattle.std.specs.Prelude.{◌≡◌, ℕ, true, false, IfOk, IfErr, Is
 ghost use Rattle.dir_trait.specs.Causes.{Rose};
 ghost use Rattle.dir_trait.specs.Paths.{is_path};
 ghost use Rattle.dir_trait.specs.Local.{IsActive};
-ghost use Rattle.folder_building.specs.Work.{Worked, EndsStray, builds_at, either};
+ghost use Rattle.dir_trait.specs.Effects.{OnlyAsks};
+ghost use Rattle.folder_building.specs.Work.{EndsWithStrayBuilding, builds_at, either};
 ghost use Rattle.folder_building.specs.Sources.{Same, IsUnlike, UnlikeContent, UnlikeAt, IsLike, LikeContent, AreLike};
 ghost use Rattle.folder_building.specs.Stored.{WasLike, WasUnlike, HadContent, HadContents, LacksContent, LacksAt, reads_stored, reads_content, reads_contents};
-ghost use Rattle.folder_building.specs.Making.{Adds, Tries, FillsWith, Begins, CarriesOut};
-ghost use Rattle.folder_building.specs.Changes.{Makes, Refuses, Syncs, Unsyncs, Gives, Takes, TriesFile, TriesUnder, SyncsAll, UnsyncsAll};
+ghost use Rattle.folder_building.specs.Making.{AddsPlanEntry, Tries, FillsWith, BeginsPlan, CarriesOut};
+ghost use Rattle.folder_building.specs.Changes.{Makes, RefusesEntry, SyncsPath, Unsyncs, MakesGivenFile, MakesCopiedFile, TriesFile, TriesCopiedFile, SyncsAll, UnsyncsAll};
 ghost use Rattle.folder_building.specs.Plans.{is_plan, has_origin};
 
 use crate::copy::{copy, write};
@@ -24,11 +25,11 @@ fn make_dir<D: Dir>(alloc: Global, dir: &mut D, spot: &Spot, path: &str) -> Resu
     ensures fault { IsErrOf result BuildError.DirFault → Rose (D.shown dir.old).faults (D.shown dir.new).faults }
     ensures never { IfErr result (λ e. e ≡ BuildError.SourceFault → ⊥) }
     ensures plain { (n : ℕ) → IsErrOf result (BuildError.Unlike n) → ⊥ }
-    ensures worked { Worked D.observed (builds_at spot.now) (D.shown dir.old) (D.shown dir.new) }
+    ensures worked { OnlyAsks D.observed (builds_at spot.now) (D.shown dir.old) (D.shown dir.new) }
     ensures stray { IsErrOf result BuildError.Stray → D.observed ≡ true
-        → EndsStray (builds_at spot.now) (D.shown dir.old) (D.shown dir.new) }
+        → EndsWithStrayBuilding (builds_at spot.now) (D.shown dir.old) (D.shown dir.new) }
     ensures done { IfOk result (λ done. D.observed ≡ true → Makes spot.now path.now false (D.shown dir.old) (D.shown dir.new)) }
-    ensures refused { IfErr result (λ e. D.observed ≡ true → Refuses spot.now path.now false (D.shown dir.old) (D.shown dir.new)) }
+    ensures refused { IfErr result (λ e. D.observed ≡ true → RefusesEntry spot.now path.now false (D.shown dir.old) (D.shown dir.new)) }
 {
     let spot = *spot;
     match dir.make_dir_in(alloc, spot, path) {
@@ -44,11 +45,11 @@ fn make_file<D: Dir>(alloc: Global, dir: &mut D, spot: &Spot, path: &str) -> Res
     ensures fault { IsErrOf result BuildError.DirFault → Rose (D.shown dir.old).faults (D.shown dir.new).faults }
     ensures never { IfErr result (λ e. e ≡ BuildError.SourceFault → ⊥) }
     ensures plain { (n : ℕ) → IsErrOf result (BuildError.Unlike n) → ⊥ }
-    ensures worked { Worked D.observed (builds_at spot.now) (D.shown dir.old) (D.shown dir.new) }
+    ensures worked { OnlyAsks D.observed (builds_at spot.now) (D.shown dir.old) (D.shown dir.new) }
     ensures stray { IsErrOf result BuildError.Stray → D.observed ≡ true
-        → EndsStray (builds_at spot.now) (D.shown dir.old) (D.shown dir.new) }
+        → EndsWithStrayBuilding (builds_at spot.now) (D.shown dir.old) (D.shown dir.new) }
     ensures done { IfOk result (λ done. D.observed ≡ true → Makes spot.now path.now true (D.shown dir.old) (D.shown dir.new)) }
-    ensures refused { IfErr result (λ e. D.observed ≡ true → Refuses spot.now path.now true (D.shown dir.old) (D.shown dir.new)) }
+    ensures refused { IfErr result (λ e. D.observed ≡ true → RefusesEntry spot.now path.now true (D.shown dir.old) (D.shown dir.new)) }
 {
     let spot = *spot;
     match dir.make_file_in(alloc, spot, path) {
@@ -64,10 +65,10 @@ fn sync<D: Dir>(alloc: Global, dir: &mut D, spot: &Spot, path: &str) -> Result<(
     ensures fault { IsErrOf result BuildError.DirFault → Rose (D.shown dir.old).faults (D.shown dir.new).faults }
     ensures never { IfErr result (λ e. e ≡ BuildError.SourceFault → ⊥) }
     ensures plain { (n : ℕ) → IsErrOf result (BuildError.Unlike n) → ⊥ }
-    ensures worked { Worked D.observed (builds_at spot.now) (D.shown dir.old) (D.shown dir.new) }
+    ensures worked { OnlyAsks D.observed (builds_at spot.now) (D.shown dir.old) (D.shown dir.new) }
     ensures stray { IsErrOf result BuildError.Stray → D.observed ≡ true
-        → EndsStray (builds_at spot.now) (D.shown dir.old) (D.shown dir.new) }
-    ensures done { IfOk result (λ done. D.observed ≡ true → Syncs spot.now path.now (D.shown dir.old) (D.shown dir.new)) }
+        → EndsWithStrayBuilding (builds_at spot.now) (D.shown dir.old) (D.shown dir.new) }
+    ensures done { IfOk result (λ done. D.observed ≡ true → SyncsPath spot.now path.now (D.shown dir.old) (D.shown dir.new)) }
     ensures refused { IfErr result (λ e. D.observed ≡ true → Unsyncs spot.now path.now (D.shown dir.old) (D.shown dir.new)) }
 {
     let spot = *spot;
@@ -90,10 +91,10 @@ fn add_given<D: Dir>(
     ensures fault { IsErrOf result BuildError.DirFault → Rose (D.shown dir.old).faults (D.shown dir.new).faults }
     ensures never { IfErr result (λ e. e ≡ BuildError.SourceFault → ⊥) }
     ensures plain { (n : ℕ) → IsErrOf result (BuildError.Unlike n) → ⊥ }
-    ensures worked { Worked D.observed (builds_at spot.now) (D.shown dir.old) (D.shown dir.new) }
+    ensures worked { OnlyAsks D.observed (builds_at spot.now) (D.shown dir.old) (D.shown dir.new) }
     ensures stray { IsErrOf result BuildError.Stray → D.observed ≡ true
-        → EndsStray (builds_at spot.now) (D.shown dir.old) (D.shown dir.new) }
-    ensures done { IfOk result (λ done. Gives D.observed spot.now path.now bytes.now (D.shown dir.old) (D.shown dir.new)) }
+        → EndsWithStrayBuilding (builds_at spot.now) (D.shown dir.old) (D.shown dir.new) }
+    ensures done { IfOk result (λ done. MakesGivenFile D.observed spot.now path.now bytes.now (D.shown dir.old) (D.shown dir.new)) }
     ensures refused { IfErr result (λ e. D.observed ≡ true → TriesFile spot.now path.now (D.shown dir.old) (D.shown dir.new)) }
 {
     make_file(alloc, dir, spot, path)?;
@@ -120,14 +121,14 @@ fn add_copied<D: Dir, S: Source>(
     ensures unlike { (n : ℕ) → IsErrOf result (BuildError.Unlike n) → (n ≡ place) × IsUnlike (S.shown source.old) origin.now size sha }
     ensures lacks { (n : ℕ) → IsErrOf result (BuildError.Unlike n) → D.observed ≡ true → WasUnlike (S.stored origin.now) size sha (D.shown dir.old) (D.shown dir.new) }
     ensures same { Same (S.shown source.old) (S.shown source.new) }
-    ensures worked { Worked D.observed (either (builds_at spot.now) (S.shown source.old).asks) (D.shown dir.old) (D.shown dir.new) }
-    ensures copies { Worked D.observed (either (builds_at spot.now) (reads_stored (S.stored origin.now))) (D.shown dir.old) (D.shown dir.new) }
+    ensures worked { OnlyAsks D.observed (either (builds_at spot.now) (S.shown source.old).asks) (D.shown dir.old) (D.shown dir.new) }
+    ensures copies { OnlyAsks D.observed (either (builds_at spot.now) (reads_stored (S.stored origin.now))) (D.shown dir.old) (D.shown dir.new) }
     ensures stray { IsErrOf result BuildError.Stray → D.observed ≡ true
-        → EndsStray (either (builds_at spot.now) (S.shown source.old).asks) (D.shown dir.old) (D.shown dir.new) }
+        → EndsWithStrayBuilding (either (builds_at spot.now) (S.shown source.old).asks) (D.shown dir.old) (D.shown dir.new) }
     ensures like { IfOk result (λ done. IsLike (S.shown source.old) origin.now size sha) }
     ensures had { IfOk result (λ done. D.observed ≡ true → WasLike (S.stored origin.now) size sha (D.shown dir.old) (D.shown dir.new)) }
-    ensures done { IfOk result (λ done. Takes D.observed (S.shown source.old) spot.now path.now size sha (D.shown dir.old) (D.shown dir.new)) }
-    ensures refused { IfErr result (λ e. D.observed ≡ true → TriesUnder (S.shown source.old) spot.now path.now (D.shown dir.old) (D.shown dir.new)) }
+    ensures done { IfOk result (λ done. MakesCopiedFile D.observed (S.shown source.old) spot.now path.now size sha (D.shown dir.old) (D.shown dir.new)) }
+    ensures refused { IfErr result (λ e. D.observed ≡ true → TriesCopiedFile (S.shown source.old) spot.now path.now (D.shown dir.old) (D.shown dir.new)) }
 {
     make_file(alloc, dir, spot, path)?;
     copy(alloc, dir, source, spot, path, origin, place, size, sha)
@@ -150,13 +151,13 @@ fn add<D: Dir, S: Source>(
     ensures unlike { (n : ℕ) → IsErrOf result (BuildError.Unlike n) → (n ≡ place) × UnlikeContent (S.shown source.old) entry.now.content }
     ensures lacks { (n : ℕ) → IsErrOf result (BuildError.Unlike n) → D.observed ≡ true → LacksContent S.stored entry.now.content (D.shown dir.old) (D.shown dir.new) }
     ensures same { Same (S.shown source.old) (S.shown source.new) }
-    ensures worked { Worked D.observed (either (builds_at spot.now) (S.shown source.old).asks) (D.shown dir.old) (D.shown dir.new) }
-    ensures copies { Worked D.observed (either (builds_at spot.now) (reads_content S.stored entry.now.content)) (D.shown dir.old) (D.shown dir.new) }
+    ensures worked { OnlyAsks D.observed (either (builds_at spot.now) (S.shown source.old).asks) (D.shown dir.old) (D.shown dir.new) }
+    ensures copies { OnlyAsks D.observed (either (builds_at spot.now) (reads_content S.stored entry.now.content)) (D.shown dir.old) (D.shown dir.new) }
     ensures stray { IsErrOf result BuildError.Stray → D.observed ≡ true
-        → EndsStray (either (builds_at spot.now) (S.shown source.old).asks) (D.shown dir.old) (D.shown dir.new) }
+        → EndsWithStrayBuilding (either (builds_at spot.now) (S.shown source.old).asks) (D.shown dir.old) (D.shown dir.new) }
     ensures like { IfOk result (λ done. LikeContent (S.shown source.old) entry.now.content) }
     ensures had { IfOk result (λ done. D.observed ≡ true → HadContent S.stored entry.now.content (D.shown dir.old) (D.shown dir.new)) }
-    ensures done { IfOk result (λ done. Adds D.observed (S.shown source.old) spot.now entry.now (D.shown dir.old) (D.shown dir.new)) }
+    ensures done { IfOk result (λ done. AddsPlanEntry D.observed (S.shown source.old) spot.now entry.now (D.shown dir.old) (D.shown dir.new)) }
     ensures refused { IfErr result (λ e. D.observed ≡ true → Tries (S.shown source.old) spot.now entry.now (D.shown dir.old) (D.shown dir.new)) }
 {
     let path = entry.path.as_str();
@@ -184,14 +185,14 @@ fn add_all<D: Dir, S: Source>(
     ensures unlike { (n : ℕ) → IsErrOf result (BuildError.Unlike n) → UnlikeAt (S.shown source.old) plan.now n }
     ensures lacks { (n : ℕ) → IsErrOf result (BuildError.Unlike n) → D.observed ≡ true → LacksAt S.stored plan.now n (D.shown dir.old) (D.shown dir.new) }
     ensures same { Same (S.shown source.old) (S.shown source.new) }
-    ensures worked { Worked D.observed (either (builds_at spot.now) (S.shown source.old).asks) (D.shown dir.old) (D.shown dir.new) }
-    ensures copies { Worked D.observed (either (builds_at spot.now) (reads_contents S.stored plan.now)) (D.shown dir.old) (D.shown dir.new) }
+    ensures worked { OnlyAsks D.observed (either (builds_at spot.now) (S.shown source.old).asks) (D.shown dir.old) (D.shown dir.new) }
+    ensures copies { OnlyAsks D.observed (either (builds_at spot.now) (reads_contents S.stored plan.now)) (D.shown dir.old) (D.shown dir.new) }
     ensures stray { IsErrOf result BuildError.Stray → D.observed ≡ true
-        → EndsStray (either (builds_at spot.now) (S.shown source.old).asks) (D.shown dir.old) (D.shown dir.new) }
+        → EndsWithStrayBuilding (either (builds_at spot.now) (S.shown source.old).asks) (D.shown dir.old) (D.shown dir.new) }
     ensures like { IfOk result (λ done. AreLike (S.shown source.old) plan.now) }
     ensures had { IfOk result (λ done. D.observed ≡ true → HadContents S.stored plan.now (D.shown dir.old) (D.shown dir.new)) }
     ensures done { IfOk result (λ done. FillsWith D.observed (S.shown source.old) spot.now plan.now plan.now (D.shown dir.old) (D.shown dir.new)) }
-    ensures refused { IfErr result (λ e. D.observed ≡ true → Begins (S.shown source.old) spot.now plan.now (D.shown dir.old) (D.shown dir.new)) }
+    ensures refused { IfErr result (λ e. D.observed ≡ true → BeginsPlan (S.shown source.old) spot.now plan.now (D.shown dir.old) (D.shown dir.new)) }
 {
     let mut place = 0;
     'entries: for entry in plan {
@@ -213,9 +214,9 @@ fn sync_all<D: Dir>(
     ensures fault { IsErrOf result BuildError.DirFault → Rose (D.shown dir.old).faults (D.shown dir.new).faults }
     ensures never { IfErr result (λ e. e ≡ BuildError.SourceFault → ⊥) }
     ensures plain { (n : ℕ) → IsErrOf result (BuildError.Unlike n) → ⊥ }
-    ensures worked { Worked D.observed (builds_at spot.now) (D.shown dir.old) (D.shown dir.new) }
+    ensures worked { OnlyAsks D.observed (builds_at spot.now) (D.shown dir.old) (D.shown dir.new) }
     ensures stray { IsErrOf result BuildError.Stray → D.observed ≡ true
-        → EndsStray (builds_at spot.now) (D.shown dir.old) (D.shown dir.new) }
+        → EndsWithStrayBuilding (builds_at spot.now) (D.shown dir.old) (D.shown dir.new) }
     ensures done { IfOk result (λ done. D.observed ≡ true → SyncsAll spot.now plan.now (D.shown dir.old) (D.shown dir.new)) }
     ensures refused { IfErr result (λ e. D.observed ≡ true → UnsyncsAll spot.now plan.now (D.shown dir.old) (D.shown dir.new)) }
 {
@@ -247,14 +248,14 @@ pub fn carry_out<D: Dir, S: Source>(
     ensures unlike { (n : ℕ) → IsErrOf result (BuildError.Unlike n) → UnlikeAt (S.shown source.old) plan.now n }
     ensures lacks { (n : ℕ) → IsErrOf result (BuildError.Unlike n) → D.observed ≡ true → LacksAt S.stored plan.now n (D.shown dir.old) (D.shown dir.new) }
     ensures same { Same (S.shown source.old) (S.shown source.new) }
-    ensures worked { Worked D.observed (either (builds_at spot) (S.shown source.old).asks) (D.shown dir.old) (D.shown dir.new) }
-    ensures copies { Worked D.observed (either (builds_at spot) (reads_contents S.stored plan.now)) (D.shown dir.old) (D.shown dir.new) }
+    ensures worked { OnlyAsks D.observed (either (builds_at spot) (S.shown source.old).asks) (D.shown dir.old) (D.shown dir.new) }
+    ensures copies { OnlyAsks D.observed (either (builds_at spot) (reads_contents S.stored plan.now)) (D.shown dir.old) (D.shown dir.new) }
     ensures stray { IsErrOf result BuildError.Stray → D.observed ≡ true
-        → EndsStray (either (builds_at spot) (S.shown source.old).asks) (D.shown dir.old) (D.shown dir.new) }
+        → EndsWithStrayBuilding (either (builds_at spot) (S.shown source.old).asks) (D.shown dir.old) (D.shown dir.new) }
     ensures like { IfOk result (λ done. AreLike (S.shown source.old) plan.now) }
     ensures had { IfOk result (λ done. D.observed ≡ true → HadContents S.stored plan.now (D.shown dir.old) (D.shown dir.new)) }
     ensures done { IfOk result (λ done. CarriesOut D.observed (S.shown source.old) spot plan.now (D.shown dir.old) (D.shown dir.new)) }
-    ensures refused { IfErr result (λ e. D.observed ≡ true → Begins (S.shown source.old) spot plan.now (D.shown dir.old) (D.shown dir.new)) }
+    ensures refused { IfErr result (λ e. D.observed ≡ true → BeginsPlan (S.shown source.old) spot plan.now (D.shown dir.old) (D.shown dir.new)) }
 {
     let spot = &spot;
     add_all(alloc, dir, source, spot, plan)?;

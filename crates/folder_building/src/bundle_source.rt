@@ -49,7 +49,7 @@ fn joined(alloc: Global, root: &str, path: &str) -> Result<String, SourceError>
 
 impl<'a, B: Bundle> Source for BundleSource<'a, B> {
     ghost use Rattle.std.specs.Prelude.{false, true, Some, None};
-    ghost use Rattle.dir_trait.specs.Bundles.{child_path, file_bytes};
+    ghost use Rattle.dir_trait.specs.Bundles.{child_path, bytes_of_node};
     ghost use Rattle.folder_building.specs.Sources.{SourceAt};
 
     ghost stored = { λ o. None };
@@ -59,7 +59,7 @@ impl<'a, B: Bundle> Source for BundleSource<'a, B> {
       asks = λ r. false;
       may = λ st. true;
       told = B.observed;
-      file = λ o. file_bytes ((B.shown s.bundle.now).tree (child_path s.root.now o.path));
+      file = λ o. bytes_of_node ((B.shown s.bundle.now).tree (child_path s.root.now o.path));
       reference = Some s.bundle.ghost_name;
     } };
 

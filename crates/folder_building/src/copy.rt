@@ -3,11 +3,12 @@ ghost use Rattle.std.specs.Prelude.{◌≡◌, ◌≤◌, ◌+◌, ℕ, true, Li
 ghost use Rattle.dir_trait.specs.Causes.{Rose};
 ghost use Rattle.dir_trait.specs.Paths.{is_path};
 ghost use Rattle.dir_trait.specs.Local.{IsActive};
-ghost use Rattle.folder_building.specs.Work.{Worked, EndsStray, builds_at, either};
+ghost use Rattle.dir_trait.specs.Effects.{OnlyAsks};
+ghost use Rattle.folder_building.specs.Work.{EndsWithStrayBuilding, builds_at, either};
 ghost use Rattle.tree_digest.specs.FileChecks.{HasTaken};
-ghost use Rattle.folder_building.specs.Sources.{Same, ReadsOn, Reads, IsLonger, IsUnlike, IsLike};
-ghost use Rattle.folder_building.specs.Stored.{Sees, EndsCopy, WasLike, WasUnlike, reads_stored};
-ghost use Rattle.folder_building.specs.Making.{Appends, Writes, CopiesOn, Copies, Spoils, SpoilsUnder};
+ghost use Rattle.folder_building.specs.Sources.{Same, ReadsOn, ReadsOrigin, IsLonger, IsUnlike, IsLike};
+ghost use Rattle.folder_building.specs.Stored.{SeesStoredBytes, EndsCopy, WasLike, WasUnlike, reads_stored};
+ghost use Rattle.folder_building.specs.Making.{Appends, AppendsInPieces, CopiesOn, Copies, Spoils, SpoilsUnder};
 
 use crate::error::{BuildError, build_error};
 use crate::plan::Origin;
@@ -32,8 +33,8 @@ fn append<D: Dir>(
     ensures fault { IsErrOf result BuildError.DirFault → Rose (D.shown dir.old).faults (D.shown dir.new).faults }
     ensures never { IfErr result (λ e. e ≡ BuildError.SourceFault → ⊥) }
     ensures plain { (n : ℕ) → IsErrOf result (BuildError.Unlike n) → ⊥ }
-    ensures worked { Worked D.observed (builds_at spot.now) (D.shown dir.old) (D.shown dir.new) }
-    ensures stray { IsErrOf result BuildError.Stray → D.observed ≡ true → EndsStray (builds_at spot.now) (D.shown dir.old) (D.shown dir.new) }
+    ensures worked { OnlyAsks D.observed (builds_at spot.now) (D.shown dir.old) (D.shown dir.new) }
+    ensures stray { IsErrOf result BuildError.Stray → D.observed ≡ true → EndsWithStrayBuilding (builds_at spot.now) (D.shown dir.old) (D.shown dir.new) }
     ensures done { IfOk result (λ done. D.observed ≡ true → Appends spot.now path.now (piece.now ∷ []) (D.shown dir.old) (D.shown dir.new)) }
     ensures refused { IfErr result (λ e. D.observed ≡ true → Spoils spot.now path.now (D.shown dir.old) (D.shown dir.new)) }
 {
@@ -57,9 +58,9 @@ pub fn write<D: Dir>(
     ensures fault { IsErrOf result BuildError.DirFault → Rose (D.shown dir.old).faults (D.shown dir.new).faults }
     ensures never { IfErr result (λ e. e ≡ BuildError.SourceFault → ⊥) }
     ensures plain { (n : ℕ) → IsErrOf result (BuildError.Unlike n) → ⊥ }
-    ensures worked { Worked D.observed (builds_at spot.now) (D.shown dir.old) (D.shown dir.new) }
-    ensures stray { IsErrOf result BuildError.Stray → D.observed ≡ true → EndsStray (builds_at spot.now) (D.shown dir.old) (D.shown dir.new) }
-    ensures done { IfOk result (λ done. Writes D.observed spot.now path.now bytes.now (D.shown dir.old) (D.shown dir.new)) }
+    ensures worked { OnlyAsks D.observed (builds_at spot.now) (D.shown dir.old) (D.shown dir.new) }
+    ensures stray { IsErrOf result BuildError.Stray → D.observed ≡ true → EndsWithStrayBuilding (builds_at spot.now) (D.shown dir.old) (D.shown dir.new) }
+    ensures done { IfOk result (λ done. AppendsInPieces D.observed spot.now path.now bytes.now (D.shown dir.old) (D.shown dir.new)) }
     ensures refused { IfErr result (λ e. D.observed ≡ true → Spoils spot.now path.now (D.shown dir.old) (D.shown dir.new)) }
 {
     let mut at = 0;
@@ -109,14 +110,14 @@ fn take_piece<D: Dir, S: Source>(
     ensures source { IsErrOf result BuildError.SourceFault → Rose (S.shown source.old).faults (S.shown source.new).faults }
     ensures never { IfErr result (λ e. e ≡ BuildError.Stray → ⊥) }
     ensures same { Same (S.shown source.old) (S.shown source.new) }
-    ensures worked { Worked D.observed (S.shown source.old).asks (D.shown dir.old) (D.shown dir.new) }
-    ensures copies { Worked D.observed (reads_stored (S.stored origin.now)) (D.shown dir.old) (D.shown dir.new) }
+    ensures worked { OnlyAsks D.observed (S.shown source.old).asks (D.shown dir.old) (D.shown dir.new) }
+    ensures copies { OnlyAsks D.observed (reads_stored (S.stored origin.now)) (D.shown dir.old) (D.shown dir.new) }
     ensures known { D.observed ≡ true → ReadsOn (S.shown source.old) (D.shown dir.old) (D.shown dir.new) }
     ensures room { length room.new ≡ length room.old }
     ensures unlike { (n : ℕ) → IsErrOf result (BuildError.Unlike n) → (n ≡ place) × IsLonger (S.shown source.old) origin.now (at + left) }
     ensures lacks { (n : ℕ) → IsErrOf result (BuildError.Unlike n) → D.observed ≡ true → EndsCopy (S.stored origin.now) at left (D.shown dir.old) (D.shown dir.new) }
-    ensures read { IfOk result (λ count. Reads (S.shown source.old) origin.now at (length room.old) count room.new) }
-    ensures sees { IfOk result (λ count. D.observed ≡ true → Sees (S.stored origin.now) at (length room.old) (take count room.new) (D.shown dir.old) (D.shown dir.new)) }
+    ensures read { IfOk result (λ count. ReadsOrigin (S.shown source.old) origin.now at (length room.old) count room.new) }
+    ensures sees { IfOk result (λ count. D.observed ≡ true → SeesStoredBytes (S.stored origin.now) at (length room.old) (take count room.new) (D.shown dir.old) (D.shown dir.new)) }
     ensures most { IfOk result (λ count. count ≤ length room.new) }
     ensures left { IfOk result (λ count. count ≤ left) }
     ensures taken { IfOk result (λ count. (size : ℕ) (sha message : List ℕ)
@@ -153,15 +154,15 @@ fn copy_piece<D: Dir, S: Source>(
     ensures fault { IsErrOf result BuildError.DirFault → Rose (D.shown dir.old).faults (D.shown dir.new).faults }
     ensures source { IsErrOf result BuildError.SourceFault → Rose (S.shown source.old).faults (S.shown source.new).faults }
     ensures same { Same (S.shown source.old) (S.shown source.new) }
-    ensures worked { Worked D.observed (either (builds_at spot.now) (S.shown source.old).asks) (D.shown dir.old) (D.shown dir.new) }
-    ensures copies { Worked D.observed (either (builds_at spot.now) (reads_stored (S.stored origin.now))) (D.shown dir.old) (D.shown dir.new) }
+    ensures worked { OnlyAsks D.observed (either (builds_at spot.now) (S.shown source.old).asks) (D.shown dir.old) (D.shown dir.new) }
+    ensures copies { OnlyAsks D.observed (either (builds_at spot.now) (reads_stored (S.stored origin.now))) (D.shown dir.old) (D.shown dir.new) }
     ensures stray { IsErrOf result BuildError.Stray → D.observed ≡ true
-        → EndsStray (either (builds_at spot.now) (S.shown source.old).asks) (D.shown dir.old) (D.shown dir.new) }
+        → EndsWithStrayBuilding (either (builds_at spot.now) (S.shown source.old).asks) (D.shown dir.old) (D.shown dir.new) }
     ensures room { length room.new ≡ length room.old }
     ensures unlike { (n : ℕ) → IsErrOf result (BuildError.Unlike n) → (n ≡ place) × IsLonger (S.shown source.old) origin.now (at + left) }
     ensures lacks { (n : ℕ) → IsErrOf result (BuildError.Unlike n) → D.observed ≡ true → EndsCopy (S.stored origin.now) at left (D.shown dir.old) (D.shown dir.new) }
-    ensures read { IfOk result (λ count. Reads (S.shown source.old) origin.now at (length room.old) count room.new) }
-    ensures sees { IfOk result (λ count. D.observed ≡ true → Sees (S.stored origin.now) at (length room.old) (take count room.new) (D.shown dir.old) (D.shown dir.new)) }
+    ensures read { IfOk result (λ count. ReadsOrigin (S.shown source.old) origin.now at (length room.old) count room.new) }
+    ensures sees { IfOk result (λ count. D.observed ≡ true → SeesStoredBytes (S.stored origin.now) at (length room.old) (take count room.new) (D.shown dir.old) (D.shown dir.new)) }
     ensures most { IfOk result (λ count. count ≤ length room.new) }
     ensures left { IfOk result (λ count. count ≤ left) }
     ensures taken { IfOk result (λ count. (size : ℕ) (sha message : List ℕ)
@@ -197,10 +198,10 @@ pub fn copy<D: Dir, S: Source>(
     ensures unlike { (n : ℕ) → IsErrOf result (BuildError.Unlike n) → (n ≡ place) × IsUnlike (S.shown source.old) origin.now size sha }
     ensures lacks { (n : ℕ) → IsErrOf result (BuildError.Unlike n) → D.observed ≡ true → WasUnlike (S.stored origin.now) size sha (D.shown dir.old) (D.shown dir.new) }
     ensures same { Same (S.shown source.old) (S.shown source.new) }
-    ensures worked { Worked D.observed (either (builds_at spot.now) (S.shown source.old).asks) (D.shown dir.old) (D.shown dir.new) }
-    ensures copies { Worked D.observed (either (builds_at spot.now) (reads_stored (S.stored origin.now))) (D.shown dir.old) (D.shown dir.new) }
+    ensures worked { OnlyAsks D.observed (either (builds_at spot.now) (S.shown source.old).asks) (D.shown dir.old) (D.shown dir.new) }
+    ensures copies { OnlyAsks D.observed (either (builds_at spot.now) (reads_stored (S.stored origin.now))) (D.shown dir.old) (D.shown dir.new) }
     ensures stray { IsErrOf result BuildError.Stray → D.observed ≡ true
-        → EndsStray (either (builds_at spot.now) (S.shown source.old).asks) (D.shown dir.old) (D.shown dir.new) }
+        → EndsWithStrayBuilding (either (builds_at spot.now) (S.shown source.old).asks) (D.shown dir.old) (D.shown dir.new) }
     ensures like { IfOk result (λ done. IsLike (S.shown source.old) origin.now size sha) }
     ensures had { IfOk result (λ done. D.observed ≡ true → WasLike (S.stored origin.now) size sha (D.shown dir.old) (D.shown dir.new)) }
     ensures done { IfOk result (λ done. Copies D.observed (S.shown source.old) spot.now path.now size sha (D.shown dir.old) (D.shown dir.new)) }

@@ -1,14 +1,13 @@
 // What the folder of an image holds.
 ghost use Rattle.std.specs.Prelude.{◌≡◌, ◌++◌, ◌∷◌, [], true, codes, IfOk};
 ghost use Rattle.folder_building.specs.Plans.{is_plan};
-ghost use Rattle.folder_building.specs.TreePlans.{entry_at};
+ghost use Rattle.folder_building.specs.TreePlans.{plan_entry_at};
 ghost use Rattle.folder_building.specs.ImagePlans.{id_file, given_file, mark_file, image_entries, MakesImage};
 
-use crate::mark::mark_text;
+use crate::{Content, PlanEntry, tree_plan};
 use ac_types::{ImageId, NoMemory, Text};
 use dir_trait::Bytes;
-use crate::{Content, PlanEntry};
-use crate::tree_plan;
+use marks::mark_text;
 use std::alloc::Global;
 use tree_digest::Listing;
 
@@ -42,7 +41,7 @@ fn mark_file(alloc: Global, now: u64) -> Result<PlanEntry, NoMemory>
 
 // The directory of the image's tree.
 fn root(alloc: Global) -> Result<PlanEntry, NoMemory>
-    ensures { IfOk result (λ entry. entry ≡ entry_at (codes "rootfs") Content.Directory) }
+    ensures { IfOk result (λ entry. entry ≡ plan_entry_at (codes "rootfs") Content.Directory) }
 {
     let path = Text::of(alloc, "rootfs")?;
     let content = Content::Directory;

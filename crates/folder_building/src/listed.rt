@@ -1,18 +1,18 @@
 // The part of a plan that makes the tree of a listing.
 ghost use Rattle.std.specs.Prelude.{◌≡◌, ◌++◌, IfOk, option_to_list};
-ghost use Rattle.folder_building.specs.Materialized.{below};
+ghost use Rattle.folder_building.specs.Materialized.{prefixed_path};
 ghost use Rattle.folder_building.specs.TreePlans.{tree_entry, tree_entries, content_of, MakesTree, CarriesOn};
 
+use crate::{Content, Origin, PlanEntry};
 use ac_types::{NoMemory, Text};
 use dir_trait::Name;
-use crate::{Content, Origin, PlanEntry};
 use path_map::Entry;
 use std::alloc::Global;
 use tree_digest::{Listing, ListingLine};
 
 // The path in a folder of what a listing has at an absolute path.
 fn below(alloc: Global, prefix: &str, path: &str) -> Result<Text, NoMemory>
-    ensures { IfOk result (λ text. text ≡ below prefix.now path.now) }
+    ensures { IfOk result (λ text. text ≡ prefixed_path prefix.now path.now) }
 {
     let mut text = String::from_str(alloc, prefix)?;
     text.push_str(path)?;
@@ -26,7 +26,7 @@ fn content_of(
     from: &str,
     line: &ListingLine,
 ) -> Result<Option<Content>, NoMemory>
-    ensures { IfOk result (λ content. content ≡ content_of folder.now (below from.now line.now.path) line.now.entry) }
+    ensures { IfOk result (λ content. content ≡ content_of folder.now (prefixed_path from.now line.now.path) line.now.entry) }
 {
     match &line.entry {
         Entry::Dir(_) => Ok(Some(Content::Directory)),

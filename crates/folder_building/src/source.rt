@@ -3,9 +3,9 @@ ghost use Rattle.std.specs.Prelude.{◌≡◌, ◌≤◌, true, length, take, If
 ghost use Rattle.dir_trait.specs.Causes.{Rose};
 ghost use Rattle.dir_trait.specs.Paths.{is_path};
 ghost use Rattle.dir_trait.specs.Local.{IsActive};
-ghost use Rattle.folder_building.specs.Work.{Worked};
-ghost use Rattle.folder_building.specs.Sources.{Same, ReadsOn, IsMissing, Reads};
-ghost use Rattle.folder_building.specs.Stored.{WasGone, Sees, reads_stored};
+ghost use Rattle.dir_trait.specs.Effects.{OnlyAsks};
+ghost use Rattle.folder_building.specs.Sources.{Same, ReadsOn, LacksOrigin, ReadsOrigin};
+ghost use Rattle.folder_building.specs.Stored.{WasGone, SeesStoredBytes, reads_stored};
 
 use crate::plan::Origin;
 use dir_trait::Dir;
@@ -55,12 +55,12 @@ pub trait Source {
         ensures fault { IsErrOf result SourceError.DirFault → Rose (D.shown dir.old).faults (D.shown dir.new).faults }
         ensures cause { IsErrOf result SourceError.Failed → Rose (shown self.old).faults (shown self.new).faults }
         ensures most { IfOk result (λ n. n ≤ length room.old) }
-        ensures missing { IsErrOf result SourceError.Missing → IsMissing (shown self.old) origin.now }
-        ensures read { IfOk result (λ n. Reads (shown self.old) origin.now at (length room.old) n room.new) }
+        ensures missing { IsErrOf result SourceError.Missing → LacksOrigin (shown self.old) origin.now }
+        ensures read { IfOk result (λ n. ReadsOrigin (shown self.old) origin.now at (length room.old) n room.new) }
         ensures gone { IsErrOf result SourceError.Missing → D.observed ≡ true → WasGone (stored origin.now) (D.shown dir.old) (D.shown dir.new) }
-        ensures sees { IfOk result (λ n. D.observed ≡ true → Sees (stored origin.now) at (length room.old) (take n room.new) (D.shown dir.old) (D.shown dir.new)) }
+        ensures sees { IfOk result (λ n. D.observed ≡ true → SeesStoredBytes (stored origin.now) at (length room.old) (take n room.new) (D.shown dir.old) (D.shown dir.new)) }
         ensures same { Same (shown self.old) (shown self.new) }
-        ensures worked { Worked D.observed (shown self.old).asks (D.shown dir.old) (D.shown dir.new) }
-        ensures copies { Worked D.observed (reads_stored (stored origin.now)) (D.shown dir.old) (D.shown dir.new) }
+        ensures worked { OnlyAsks D.observed (shown self.old).asks (D.shown dir.old) (D.shown dir.new) }
+        ensures copies { OnlyAsks D.observed (reads_stored (stored origin.now)) (D.shown dir.old) (D.shown dir.new) }
         ensures known { D.observed ≡ true → ReadsOn (shown self.old) (D.shown dir.old) (D.shown dir.new) };
 }

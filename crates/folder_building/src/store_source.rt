@@ -27,11 +27,11 @@ fn store_error(error: DirError) -> SourceError
 impl Source for StoreSource {
     ghost use Rattle.folder_building.specs.Sources.{SourceAt};
     ghost use Rattle.std.specs.Prelude.{false, None};
-    ghost use Rattle.folder_building.specs.Sources.{reads_images, may_read_images, in_images};
+    ghost use Rattle.folder_building.specs.Sources.{reads_image_files, may_read_images, in_images};
 
     ghost stored = { in_images };
 
-    ghost shown = { λ s. record { faults = 0; asks = reads_images; may = may_read_images; told = false; file = λ o. None; reference = None } };
+    ghost shown = { λ s. record { faults = 0; asks = reads_image_files; may = may_read_images; told = false; file = λ o. None; reference = None } };
 
     fn read<D: Dir>(
         &mut self,

@@ -1,5 +1,7 @@
 -- What stands in prepared and in run was handed over by its maker, and lasts.
-use Rattle.std.proofs.Common.{◌≡◌, ◌⊎◌, inl, inr, ◌<◌, ℕ, Bool, true, false, Some, None, unwrap_or, List, [], ◌∷◌, ◌++◌, append_assoc, refl, sym, ap, subst, ◌∙◌}
+use Rattle.std.proofs.Common.{◌≡◌, ◌⊎◌, inl, inr, ◌<◌, ℕ, Bool, true, false, Some, None, List, [], ◌∷◌, ◌++◌, append_assoc, refl, sym, ap, subst, ◌∙◌}
+use Rattle.plain_laws.proofs.Booleans.{clash}
+use Rattle.plain_laws.proofs.Numbers.{one_number}
 use Rattle.dir_model.specs.declared.area.Area.{Area}
 use Rattle.dir_model.specs.declared.area.Area.TheVariants.{Prepare, Prepared, Run}
 use Rattle.dir_model.specs.declared.event.Event.{Event}
@@ -15,18 +17,17 @@ use Rattle.dir_model.proofs.Chains.{state_after-push}
 use Rattle.dir_model.proofs.Lists.{and_right}
 use Rattle.dir_model.proofs.Spots.{spot_self}
 use Rattle.dir_rules.specs.declared.seen.Seen.{Seen}
-use Rattle.dir_rules.specs.LockRules.{may_ask}
-use Rattle.dir_rules.specs.Rules.{allows, may_make_in, may_bring_between}
+use Rattle.dir_rules.specs.LockRules.{lock_rules_allow}
+use Rattle.dir_rules.specs.Rules.{allows, may_make_in, contents_allow_move}
 use Rattle.dir_rules.specs.Conforms.{seen_of}
 use Rattle.lifecycle.specs.Executions.{IsConforming}
-use Rattle.lifecycle.proofs.Handles.{clash}
 use Rattle.lifecycle.proofs.Places.{made_elsewhere, moved_there, moved_away, moved_elsewhere, removed_there, removed_elsewhere, none_stands}
 use Rattle.lifecycle.proofs.Step.{stands_from}
 use Rattle.folder_contents.specs.Handing.{hands_over, then_moved, HandsOver}
 use Rattle.folder_contents.proofs.Along.{Happens, along, happens}
 use Rattle.folder_contents.proofs.Handed.{brought, handed}
 use Rattle.folder_contents.proofs.Spots.{one_location}
-use Rattle.folder_contents.specs.Filled.{is_filled, lasting, lasting_after, IsFilled, PodsAreFilled}
+use Rattle.folder_contents.specs.Filled.{is_after_handover, lasting, lasting_after, KeepsMadeContents, PodsAreFilled}
 use Rattle.folder_contents.proofs.FilledSteps.{lasts}
 use Rattle.folder_contents.proofs.LeftThere.{none_found}
 
@@ -70,7 +71,7 @@ came st p request reply spot folder at = inl at
 
 -- one event later
 later_filled : (h : List Event) (e : Event) (folder : ℕ) → lasting_after folder (h ++ e ∷ []) ≡ lasting_after folder h →
-    IsFilled h folder → IsFilled (h ++ e ∷ []) folder
+    KeepsMadeContents h folder → KeepsMadeContents (h ++ e ∷ []) folder
 later_filled h e folder same l = record {
   before = l.before;
   later = l.later ++ e ∷ [];
@@ -86,32 +87,29 @@ later_filled h e folder same l = record {
 
 -- a move there is a handing over, or a move on from prepared
 abbrev Enters : Area → Area → Type 0
-Enters a b = ((a ≡ Prepare) × (hands_over a b ≡ true)) ⊎ (is_filled a ≡ true)
+Enters a b = ((a ≡ Prepare) × (hands_over a b ≡ true)) ⊎ (is_after_handover a ≡ true)
 
-enters : (s : Seen) (from to : Spot) (a b : Area) → is_filled b ≡ true → may_bring_between s from to a b ≡ true → Enters a b
+enters : (s : Seen) (from to : Spot) (a b : Area) → is_after_handover b ≡ true → contents_allow_move s from to a b ≡ true → Enters a b
 enters s from to a Prepared f h = by a h
   where
-    by : (a : Area) → may_bring_between s from to a Prepared ≡ true → Enters a Prepared
+    by : (a : Area) → contents_allow_move s from to a Prepared ≡ true → Enters a Prepared
     by Prepare h = inl (refl, refl)
     by a h = cc
 enters s from to a Run f h = by a h
   where
-    by : (a : Area) → may_bring_between s from to a Run ≡ true → Enters a Run
+    by : (a : Area) → contents_allow_move s from to a Run ≡ true → Enters a Run
     by Prepare h = inl (refl, refl)
     by Prepared h = inr refl
     by a h = cc
 enters s from to a b f h = cc
 
-no_make : (s : Seen) (name : List ℕ) (a : Area) → is_filled a ≡ true → may_make_in s name a ≡ false
+no_make : (s : Seen) (name : List ℕ) (a : Area) → is_after_handover a ≡ true → may_make_in s name a ≡ false
 no_make s name Prepared f = refl
 no_make s name Run f = refl
 no_make s name a f = cc
 
-one_number : (f g : ℕ) → Some f ≡ Some g → f ≡ g
-one_number f g e = ap (λ o. unwrap_or o f) e
-
 moved_in : (h : List Event) (p : ℕ) (from to : Spot) (folder : ℕ) → IsConforming (then_moved h p from to) → PodsAreFilled h →
-    is_filled to.area ≡ true → folder_at (state_after (then_moved h p from to)).namespace to ≡ Some folder → IsFilled (then_moved h p from to) folder
+    is_after_handover to.area ≡ true → folder_at (state_after (then_moved h p from to)).namespace to ≡ Some folder → KeepsMadeContents (then_moved h p from to) folder
 moved_in h p from to folder c left filled at = by (enters (seen_of p h) from to from.area to.area filled (brought (seen_of p h) from to (x.may refl)))
   where
     e : Event
@@ -120,7 +118,7 @@ moved_in h p from to folder c left filled at = by (enters (seen_of p h) from to 
     x : Happens h e
     x = happens h e c
 
-    by : Enters from.area to.area → IsFilled (then_moved h p from to) folder
+    by : Enters from.area to.area → KeepsMadeContents (then_moved h p from to) folder
     by (inl (source, hands)) =
         let h_o = handed h p from to c hands in
         let over : HandsOver h p from to folder = subst (λ (f : ℕ). HandsOver h p from to f) (one_number h_o.0 folder (sym h_o.1.stands ∙ at)) h_o.1 in
@@ -139,20 +137,20 @@ filled_next h e c left spot folder filled at =
     x : Happens h e
     x = happens h e c
 
-    by : Came spot folder (state_after h) e.request e.reply → IsFilled (h ++ e ∷ []) folder
+    by : Came spot folder (state_after h) e.request e.reply → KeepsMadeContents (h ++ e ∷ []) folder
     by (inl was) = later_filled h e folder (lasts h e x spot folder filled was) (left spot folder filled was)
     by (inr (new, (there, inl make))) =
         let may : allows (seen_of e.process h) (MakeFolder new) ≡ true =
         ap (λ (q : Request). allows (seen_of e.process h) q) (sym make) ∙ x.may (ap is_kill make) in
         clash (may_make_in (seen_of e.process h) new.name new.area)
-        (and_right (may_ask (seen_of e.process h).standing (MakeFolder new)) _ may)
-        (no_make (seen_of e.process h) new.name new.area (ap (λ (z : Spot). is_filled z.area) there ∙ filled))
+        (and_right (lock_rules_allow (seen_of e.process h).standing (MakeFolder new)) _ may)
+        (no_make (seen_of e.process h) new.name new.area (ap (λ (z : Spot). is_after_handover z.area) there ∙ filled))
     by (inr (new, (there, inr (from, (move, done))))) =
         let same : h ++ e ∷ [] ≡ then_moved h e.process from new =
         ap (λ (q : Request). h ++ event e.process q e.reply ∷ []) move ∙ ap (λ (y : Reply). h ++ event e.process (MoveFolder from new) y ∷ []) done in
-        subst (λ (t : List Event). IsFilled t folder) (sym same)
+        subst (λ (t : List Event). KeepsMadeContents t folder) (sym same)
         (moved_in h e.process from new folder (subst (λ (t : List Event). IsConforming t) same c) left
-        (ap (λ (z : Spot). is_filled z.area) there ∙ filled)
+        (ap (λ (z : Spot). is_after_handover z.area) there ∙ filled)
         (subst (λ (t : List Event). folder_at (state_after t).namespace new ≡ Some folder) same
         (subst (λ (z : Spot). folder_at (state_after (h ++ e ∷ [])).namespace z ≡ Some folder) (sym there) at)))
 

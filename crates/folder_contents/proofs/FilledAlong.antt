@@ -2,6 +2,7 @@
 use Rattle.std.proofs.Common.{arith, ◌≡◌, ◌⊎◌, inl, inr, ◌<◌, ℕ, Bool, true, false, cond, Option, Some, None, option_map, unwrap_or, List, [], ◌∷◌, ◌++◌, slice_get, append_assoc, append-nil, refl, sym, ap, subst, ◌∙◌}
 use Rattle.std.specs.Prelude.{nat_lt}
 use Rattle.std.proofs.lemmas.Option.{slice_get-map}
+use Rattle.plain_laws.proofs.Booleans.{clash}
 use Rattle.dir_model.specs.declared.area.Area.{Area}
 use Rattle.dir_model.specs.declared.area.Area.TheVariants.{Prepared, Run}
 use Rattle.dir_model.specs.declared.event.Event.{Event}
@@ -18,22 +19,21 @@ use Rattle.dir_model.specs.Calls.{is_kill, event}
 use Rattle.dir_model.proofs.Chains.{state_after-push}
 use Rattle.dir_model.proofs.Lists.{and_left}
 use Rattle.dir_model.proofs.Spots.{spot_self}
-use Rattle.dir_rules.specs.LockRules.{may_ask}
-use Rattle.dir_rules.specs.Rules.{allows, may_change}
+use Rattle.dir_rules.specs.LockRules.{lock_rules_allow}
+use Rattle.dir_rules.specs.Rules.{allows, content_rules_allow}
 use Rattle.dir_rules.specs.Conforms.{seen_of}
 use Rattle.lifecycle.specs.Executions.{IsConforming}
-use Rattle.lifecycle.proofs.Handles.{clash}
 use Rattle.lifecycle.proofs.Draws.{conforming_left}
 use Rattle.lifecycle.proofs.Places.{area_same, moved_there, none_stands}
 use Rattle.lifecycle.proofs.Step.{stands_from}
 use Rattle.folder_contents.specs.Handing.{then_moved}
-use Rattle.folder_contents.specs.UnderGate.{takes}
+use Rattle.folder_contents.specs.UnderGate.{is_taken_from}
 use Rattle.folder_contents.proofs.Along.{Happens, happens, each_beginning, conforming_to}
 use Rattle.folder_contents.proofs.Handed.{brought}
 use Rattle.folder_contents.proofs.Places.{located, stands_there, untaken}
 use Rattle.folder_contents.proofs.Spots.{one_location}
 use Rattle.folder_contents.proofs.Unmoved.{further}
-use Rattle.folder_contents.specs.Filled.{is_filled, lasting_after, StaysFilled}
+use Rattle.folder_contents.specs.Filled.{is_after_handover, lasting_after, KeepsItsContents}
 use Rattle.folder_contents.proofs.Notes.{no_removal}
 use Rattle.folder_contents.proofs.FilledSteps.{lasts, is_late, IsLate, late_next, goes_on}
 
@@ -43,7 +43,7 @@ Taking spot request reply =
     ((from : Spot) × ((to : Spot) × ((request ≡ MoveFolder from to) × ((reply ≡ Done) × (from ≡ spot))))) ⊎
     ((gone : Spot) × ((request ≡ RemoveFolder gone) × (gone ≡ spot)))
 
-pub taking : (spot : Spot) (request : Request) (reply : Reply) → takes spot request reply ≡ true → Taking spot request reply
+pub taking : (spot : Spot) (request : Request) (reply : Reply) → is_taken_from spot request reply ≡ true → Taking spot request reply
 taking spot (MoveFolder from to) Done h = inl (from, (to, (refl, (refl, one_location from spot h))))
 taking spot (RemoveFolder gone) Done h = inr (gone, (refl, one_location gone spot h))
 taking spot (MoveFolder from to) reply h = cc
@@ -54,7 +54,7 @@ module _ (before : List Event) (folder : ℕ) where
   -- it stands in prepared or in run, and what lasts there is what lasted
   pub record Here (h : List Event) : Type 0 where
     pub spot : Spot
-    pub filled : is_filled spot.area ≡ true
+    pub filled : is_after_handover spot.area ≡ true
     pub there : folder_at (state_after h).namespace spot ≡ Some folder
     pub same : lasting_after folder h ≡ lasting_after folder before
 
@@ -67,7 +67,7 @@ module _ (before : List Event) (folder : ℕ) where
       (n.0, (ap (λ (z : DirState). slice_get z.namespace.folders folder) (state_after-push h e) ∙ n.1.0, n.1.1))
 
   -- it is moved from there: to run, or further
-  pub moved_on : (h : List Event) (p : ℕ) (from to : Spot) → Happens h (event p (MoveFolder from to) Done) → is_filled from.area ≡ true →
+  pub moved_on : (h : List Event) (p : ℕ) (from to : Spot) → Happens h (event p (MoveFolder from to) Done) → is_after_handover from.area ≡ true →
       folder_at (state_after h).namespace from ≡ Some folder → lasting_after folder h ≡ lasting_after folder before →
       Here (then_moved h p from to) ⊎ Late (then_moved h p from to)
   moved_on h p from to x filled at same = by (goes_on from.area to.area filled (further (seen_of p h) from to from.area to.area (brought (seen_of p h) from to (x.may refl))))
@@ -78,7 +78,7 @@ module _ (before : List Event) (folder : ℕ) where
       n : Namespace
       n = (state_after h).namespace
 
-      by : (is_filled to.area ≡ true) ⊎ (nat_lt 3 (rank to.area) ≡ true) → Here (then_moved h p from to) ⊎ Late (then_moved h p from to)
+      by : (is_after_handover to.area ≡ true) ⊎ (nat_lt 3 (rank to.area) ≡ true) → Here (then_moved h p from to) ⊎ Late (then_moved h p from to)
       by (inl reached) = inl (record {
         spot = to;
         filled = reached;
@@ -100,7 +100,7 @@ module _ (before : List Event) (folder : ℕ) where
 
   next : (h : List Event) (e : Event) → Happens h e → Here h ⊎ Late h → Here (h ++ e ∷ []) ⊎ Late (h ++ e ∷ [])
   next h e x (inr late) = inr (late_step h e x late)
-  next h e x (inl here) = by (takes here.spot e.request e.reply) refl
+  next h e x (inl here) = by (is_taken_from here.spot e.request e.reply) refl
     where
       went : Taking here.spot e.request e.reply → Here (h ++ e ∷ []) ⊎ Late (h ++ e ∷ [])
       went (inl m) =
@@ -110,16 +110,16 @@ module _ (before : List Event) (folder : ℕ) where
           ap (λ (q : Request). event e.process q e.reply) m.1.1.0 ∙ ap (λ (y : Reply). event e.process (MoveFolder from to) y) m.1.1.1.0 in
           subst (λ (z : Event). Here (h ++ z ∷ []) ⊎ Late (h ++ z ∷ [])) (sym is)
           (moved_on h e.process from to (subst (λ (z : Event). Happens h z) is x)
-          (subst (λ (s : Spot). is_filled s.area ≡ true) (sym m.1.1.1.1) here.filled)
+          (subst (λ (s : Spot). is_after_handover s.area ≡ true) (sym m.1.1.1.1) here.filled)
           (subst (λ (s : Spot). folder_at (state_after h).namespace s ≡ Some folder) (sym m.1.1.1.1) here.there) here.same)
       went (inr r) =
           let may : allows (seen_of e.process h) (RemoveFolder r.0) ≡ true =
           ap (λ (q : Request). allows (seen_of e.process h) q) (sym r.1.0) ∙ x.may (ap is_kill r.1.0) in
-          clash (is_filled here.spot.area) here.filled
-          (subst (λ (s : Spot). is_filled s.area ≡ false) r.1.1
-          (no_removal (seen_of e.process h).standing r.0 (and_left (may_ask (seen_of e.process h).standing (RemoveFolder r.0)) (may_change (seen_of e.process h) (RemoveFolder r.0)) may)))
+          clash (is_after_handover here.spot.area) here.filled
+          (subst (λ (s : Spot). is_after_handover s.area ≡ false) r.1.1
+          (no_removal (seen_of e.process h).standing r.0 (and_left (lock_rules_allow (seen_of e.process h).standing (RemoveFolder r.0)) (content_rules_allow (seen_of e.process h) (RemoveFolder r.0)) may)))
 
-      by : (b : Bool) → takes here.spot e.request e.reply ≡ b → Here (h ++ e ∷ []) ⊎ Late (h ++ e ∷ [])
+      by : (b : Bool) → is_taken_from here.spot e.request e.reply ≡ b → Here (h ++ e ∷ []) ⊎ Late (h ++ e ∷ [])
       by true taken = went (taking here.spot e.request e.reply taken)
       by false off = inl (record {
         spot = here.spot;
@@ -142,12 +142,12 @@ module _ (before : List Event) (folder : ℕ) where
           subst (λ (h : List Event). Here h ⊎ Late h) (append_assoc before x (e ∷ []))
           (next (before ++ x) e (happens (before ++ x) e (conforming_to (before ++ more) (before ++ x) e y conforming whole)) q)
 
-never_late : (a : Area) → is_filled a ≡ true → nat_lt 3 (rank a) ≡ false
+never_late : (a : Area) → is_after_handover a ≡ true → nat_lt 3 (rank a) ≡ false
 never_late Prepared f = refl
 never_late Run f = refl
 never_late a f = cc
 
-pub stays_filled : (trace : List Event) → IsConforming trace → StaysFilled trace
+pub stays_filled : (trace : List Event) → IsConforming trace → KeepsItsContents trace
 stays_filled trace conforming before more later a b folder is a_filled b_filled at again =
     by (here_or_late before folder more (conforming_left (before ++ more) later (subst (λ (h : List Event). IsConforming h) is conforming))
     (record { spot = a; filled = a_filled; there = at; same = refl }))

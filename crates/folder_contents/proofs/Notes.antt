@@ -2,7 +2,9 @@
 use Rattle.std.proofs.Common.{arith, ◌≡◌, ℕ, zero, suc, ◌/◌, ◌%◌, ◌+◌, ◌<◌, Bool, true, false, not, ◌&&◌, ◌||◌, ◌==◌, cond, bytes_eq, Option, Some, None, List, [], ◌∷◌, ◌++◌, codes, length, nat_lt, drop, refl, sym, ap, subst, ◌∙◌}
 use Rattle.std.specs.List.{list_all}
 use Rattle.std.proofs.lemmas.Bool.Decides.{nat_tests}
+use Rattle.std.proofs.lemmas.Bool.{and_parts}
 use native.Mathlib.Nat.{mod-lt}
+use Rattle.plain_laws.proofs.Texts.{same_text}
 use Rattle.dir_model.specs.declared.area.Area.{Area}
 use Rattle.dir_model.specs.declared.area.Area.TheVariants.{Prepare, Prepared, Run, ExitedGarbage, Garbage, Removed}
 use Rattle.dir_model.specs.declared.intent.Intent.{Intent}
@@ -20,12 +22,10 @@ use Rattle.dir_rules.specs.declared.standing.Standing.{Standing}
 use Rattle.dir_rules.specs.Marks.{has_slash, begins, digits, marked_mark, is_started_mark, is_status_file, is_below_status, is_later_mark}
 use Rattle.dir_rules.specs.Seen.{is_own_mark, is_free}
 use Rattle.dir_rules.specs.Standing.{began_as, is_remover}
-use Rattle.dir_rules.specs.LockRules.{may_ask, may_remove, is_removal_held, is_removal_target}
-use Rattle.dir_rules.specs.Rules.{allows, may_change, may_note, may_mark, has_note, runs, makes_here, may_make_dir, may_make_file_in, may_append_in}
+use Rattle.dir_rules.specs.LockRules.{lock_rules_allow, may_remove, is_removal_held, is_removal_target}
+use Rattle.dir_rules.specs.Rules.{allows, content_rules_allow, may_note, may_mark, has_note, runs, makes_here, may_make_dir, may_make_file_in, may_append_in}
 use Rattle.lifecycle.proofs.Lists.{any_in}
-use Rattle.lifecycle.proofs.Handles.{both}
-use Rattle.lifecycle.proofs.Places.{name_same}
-use Rattle.folder_contents.specs.Filled.{is_filled, is_note}
+use Rattle.folder_contents.specs.Filled.{is_after_handover, is_note}
 
 -- no digit is a slash
 abbrev no_slash_byte : ℕ → Bool
@@ -67,7 +67,7 @@ mark_note now = by (has_slash (marked_mark now)) (no_slashes (marked_mark now) (
 
 own_note : (o : Option Intent) (path : List ℕ) → is_own_mark o path ≡ true → is_note path ≡ true
 own_note None path h = cc
-own_note (Some intent) path h = subst (λ (p : List ℕ). is_note p ≡ true) (sym (name_same path (marked_mark intent.now) h)) (mark_note intent.now)
+own_note (Some intent) path h = subst (λ (p : List ℕ). is_note p ≡ true) (sym (same_text path (marked_mark intent.now) h)) (mark_note intent.now)
 
 -- the mark of a started app is one, and the file of a status
 started : (a b s m z : Bool) → (a && b && not s) ≡ true → (cond s false (cond a true m) || z) ≡ true
@@ -91,11 +91,11 @@ either_note true b path f g h = f refl
 either_note false b path f g h = g h
 
 -- a file that is made there
-pub make_note : (g : Seen) (i : Inner) → is_filled i.spot.area ≡ true → allows g (MakeFileIn i) ≡ true → is_note i.path ≡ true
+pub make_note : (g : Seen) (i : Inner) → is_after_handover i.spot.area ≡ true → allows g (MakeFileIn i) ≡ true → is_note i.path ≡ true
 make_note g i filled may =
-    by i.spot.area filled (and_left (may_make_file_in g i i.spot.area) _ (and_right (may_ask g.standing (MakeFileIn i)) (may_change g (MakeFileIn i)) may))
+    by i.spot.area filled (and_left (may_make_file_in g i i.spot.area) _ (and_right (lock_rules_allow g.standing (MakeFileIn i)) (content_rules_allow g (MakeFileIn i)) may))
   where
-    by : (a : Area) → is_filled a ≡ true → may_make_file_in g i a ≡ true → is_note i.path ≡ true
+    by : (a : Area) → is_after_handover a ≡ true → may_make_file_in g i a ≡ true → is_note i.path ≡ true
     by Prepared f h = cc
     by Run f h =
         either_note (may_note g i) (may_mark g i) i.path
@@ -106,32 +106,32 @@ make_note g i filled may =
     by a f h = cc
 
 -- a file that is appended to there
-pub append_note : (g : Seen) (i : Inner) (piece : List ℕ) → is_filled i.spot.area ≡ true → allows g (AppendIn i piece) ≡ true → is_note i.path ≡ true
+pub append_note : (g : Seen) (i : Inner) (piece : List ℕ) → is_after_handover i.spot.area ≡ true → allows g (AppendIn i piece) ≡ true → is_note i.path ≡ true
 append_note g i piece filled may =
-    by i.spot.area filled (and_left (may_append_in g i i.spot.area) _ (and_right (may_ask g.standing (AppendIn i piece)) (may_change g (AppendIn i piece)) may))
+    by i.spot.area filled (and_left (may_append_in g i i.spot.area) _ (and_right (lock_rules_allow g.standing (AppendIn i piece)) (content_rules_allow g (AppendIn i piece)) may))
   where
-    by : (a : Area) → is_filled a ≡ true → may_append_in g i a ≡ true → is_note i.path ≡ true
+    by : (a : Area) → is_after_handover a ≡ true → may_append_in g i a ≡ true → is_note i.path ≡ true
     by Prepared f h = cc
     by Run f h = status_note i.path (and_left (is_status_file i.path) (has_note g i) (and_right (runs g i.spot.name) _ h))
     by a f h = cc
 
 -- no directory is made there
-pub no_directory : (g : Seen) (i : Inner) → is_filled i.spot.area ≡ true → allows g (MakeDirIn i) ≡ true → ⊥
+pub no_directory : (g : Seen) (i : Inner) → is_after_handover i.spot.area ≡ true → allows g (MakeDirIn i) ≡ true → ⊥
 no_directory g i filled may =
-    by i.spot.area filled (and_left _ _ (and_left (may_make_dir g i) _ (and_right (may_ask g.standing (MakeDirIn i)) (may_change g (MakeDirIn i)) may)))
+    by i.spot.area filled (and_left _ _ (and_left (may_make_dir g i) _ (and_right (lock_rules_allow g.standing (MakeDirIn i)) (content_rules_allow g (MakeDirIn i)) may)))
   where
-    by : (a : Area) → is_filled a ≡ true → makes_here g i.spot a ≡ true → ⊥
+    by : (a : Area) → is_after_handover a ≡ true → makes_here g i.spot a ≡ true → ⊥
     by Prepared f h = cc
     by Run f h = cc
     by a f h = cc
 
 -- nothing is removed there
-pub no_removal : (k : Standing) (spot : Spot) → may_remove k spot ≡ true → is_filled spot.area ≡ false
+pub no_removal : (k : Standing) (spot : Spot) → may_remove k spot ≡ true → is_after_handover spot.area ≡ false
 no_removal k spot h =
     let e = any_in (is_removal_held spot) k.holdings h in
-    by e.0.target spot.area (both (is_exclusive e.0.lock) (is_removal_target spot e.0.target) e.1.1).1
+    by e.0.target spot.area (and_parts (is_exclusive e.0.lock) (is_removal_target spot e.0.target) e.1.1).1
   where
-    by : (t : Target) (a : Area) → is_removal_target (record { area = a; name = spot.name }) t ≡ true → is_filled a ≡ false
+    by : (t : Target) (a : Area) → is_removal_target (record { area = a; name = spot.name }) t ≡ true → is_after_handover a ≡ false
     by (Own here) ExitedGarbage h = refl
     by (Own here) Garbage h = refl
     by (Own here) a h = cc

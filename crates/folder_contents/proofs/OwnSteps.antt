@@ -1,5 +1,7 @@
 -- What a maker's own step is to the folder that it makes.
 use Rattle.std.proofs.Common.{◌≡◌, inl, inr, ℕ, Bool, true, false, ◌&&◌, ◌||◌, ◌==◌, cond, bytes_eq, Option, Some, None, option_to_list, List, [], ◌∷◌, ◌++◌, length, take, append-nil, refl, sym, ap, subst, ◌∙◌}
+use Rattle.std.proofs.lemmas.Bool.{and_parts}
+use Rattle.plain_laws.proofs.Booleans.{clash}
 use Rattle.dir_model.specs.declared.area.Area.{Area}
 use Rattle.dir_model.specs.declared.area.Area.TheVariants as area
 use Rattle.dir_model.specs.declared.item.Inner.{Inner}
@@ -21,20 +23,20 @@ use Rattle.dir_rules.specs.declared.seen.Entry.{Entry}
 use Rattle.dir_rules.specs.declared.seen.Making.{Making}
 use Rattle.dir_rules.specs.declared.seen.Seen.{Seen}
 use Rattle.dir_rules.specs.Marks.{parent}
-use Rattle.dir_rules.specs.Seen.{learned, makes_at, is_making_area, making_changed, with_entry, without_path, spoilt}
+use Rattle.dir_rules.specs.Seen.{learned, makes_at, is_making_area, making_changed, making_with_entry, with_path_synced, spoilt}
 use Rattle.dir_rules.specs.Standing.{draws, holds_own}
-use Rattle.dir_rules.specs.LockRules.{may_ask, may_move, may_move_between, may_remove}
-use Rattle.dir_rules.specs.Rules.{allows, may_bring, may_bring_between, may_append_in, has_file, makes_here, spares}
+use Rattle.dir_rules.specs.LockRules.{lock_rules_allow, may_move_by_locks, locks_allow_move, may_remove}
+use Rattle.dir_rules.specs.Rules.{allows, may_move_by_contents, contents_allow_move, may_append_in, has_file_among, makes_here, spares_deleted_pod}
 use Rattle.dir_rules.specs.Conforms.{seen_replied}
 use Rattle.dir_model.proofs.Lists.{and_left, and_right}
 use Rattle.dir_model.proofs.Spots.{spot_self}
-use Rattle.lifecycle.proofs.Handles.{Sound, both, clash, none_refused, refused_if}
+use Rattle.lifecycle.proofs.Handles.{Sound, none_refused, refused_if}
 use Rattle.lifecycle.proofs.Linked.{Linked}
 use Rattle.lifecycle.proofs.Places.{made_there, moved_there, none_stands, spot_turn}
 use Rattle.lifecycle.proofs.Step.{stands_from}
 use Rattle.folder_contents.specs.Entries.{entries_in, SameNames}
 use Rattle.folder_contents.specs.Makers.{guards, is_guarded, StandsAsKnown}
-use Rattle.folder_contents.specs.UnderGate.{takes}
+use Rattle.folder_contents.specs.UnderGate.{is_taken_from}
 use Rattle.folder_contents.proofs.Places.{untaken, stands_there}
 use Rattle.folder_contents.proofs.Names.{names_pushed, names_again}
 use Rattle.folder_contents.proofs.Entries.{placed_here, placed_away, removed_away}
@@ -69,17 +71,17 @@ names_same xs ys ms is same = subst (λ (l : List Entry). SameNames l ms) (sym i
 
 -- an append is to a file that it made there
 appends : (g : Seen) (m : Making) (i : Inner) (piece : List ℕ) → is_making_area i.spot.area ≡ true →
-    allows (record g { making = Some m }) (AppendIn i piece) ≡ true → has_file i.path m.entries ≡ true
+    allows (record g { making = Some m }) (AppendIn i piece) ≡ true → has_file_among i.path m.entries ≡ true
 appends g m i piece making may = by i.spot.area making
-    (and_left (may_append_in s i i.spot.area) (spares s i) (and_right (may_ask s.standing (AppendIn i piece)) (may_append_in s i i.spot.area && spares s i) may))
+    (and_left (may_append_in s i i.spot.area) (spares_deleted_pod s i) (and_right (lock_rules_allow s.standing (AppendIn i piece)) (may_append_in s i i.spot.area && spares_deleted_pod s i) may))
   where
     s : Seen
     s = record g { making = Some m }
 
-    by : (a : Area) → is_making_area a ≡ true → may_append_in s i a ≡ true → has_file i.path m.entries ≡ true
-    by area.Embryo on h = and_right (makes_here s i.spot area.Embryo) (has_file i.path m.entries) h
-    by area.Prepare on h = and_right (makes_here s i.spot area.Prepare) (has_file i.path m.entries) h
-    by area.Incoming on h = and_right (makes_here s i.spot area.Incoming) (has_file i.path m.entries) h
+    by : (a : Area) → is_making_area a ≡ true → may_append_in s i a ≡ true → has_file_among i.path m.entries ≡ true
+    by area.Embryo on h = and_right (makes_here s i.spot area.Embryo) (has_file_among i.path m.entries) h
+    by area.Prepare on h = and_right (makes_here s i.spot area.Prepare) (has_file_among i.path m.entries) h
+    by area.Incoming on h = and_right (makes_here s i.spot area.Incoming) (has_file_among i.path m.entries) h
     by a on h = cc
 
 module _ (st : DirState) (p : ℕ) (s : Seen) (m : Making) (sound : Sound st.namespace)
@@ -95,7 +97,7 @@ module _ (st : DirState) (p : ℕ) (s : Seen) (m : Making) (sound : Sound st.nam
   -- the folder stays, and its entries are again what is known
   on : (request : Request) (reply : Reply) (clean : Bool) (entries : List Entry) (unsynced : List (List ℕ)) →
       is_reply st p request reply ≡ true → allows g request ≡ true → is_make request ≡ false →
-      (is_changeable m.spot.area ≡ false → takes m.spot request reply ≡ false)
+      (is_changeable m.spot.area ≡ false → is_taken_from m.spot request reply ≡ false)
       → ((k : ℕ) → folder_at st.namespace m.spot ≡ Some k → is_changeable m.spot.area ≡ false →
       SameNames (entries_in k st.entries) m.entries →
       SameNames (entries_in k (state_next st (event p request reply)).entries) entries)
@@ -118,7 +120,7 @@ module _ (st : DirState) (p : ℕ) (s : Seen) (m : Making) (sound : Sound st.nam
 
   -- nothing changes in it
   still : (request : Request) (reply : Reply) → is_reply st p request reply ≡ true → allows g request ≡ true →
-      is_make request ≡ false → (is_changeable m.spot.area ≡ false → takes m.spot request reply ≡ false)
+      is_make request ≡ false → (is_changeable m.spot.area ≡ false → is_taken_from m.spot request reply ≡ false)
       → ((k : ℕ) → entries_in k (state_next st (event p request reply)).entries ≡ entries_in k st.entries)
       → is_guarded (seen_replied g request reply) m ≡ true → StandsAsKnown (state_next st (event p request reply)) m
   still request reply is may off free same guarded =
@@ -137,16 +139,16 @@ module _ (st : DirState) (p : ℕ) (s : Seen) (m : Making) (sound : Sound st.nam
 
   -- an entry more, in this folder or in another
   pushed : (request : Request) (i : Inner) (node : TreeNode) (directory : List ℕ) → is_reply st p request Done ≡ true →
-      allows g request ≡ true → is_make request ≡ false → takes m.spot request Done ≡ false → Site g i.spot
+      allows g request ≡ true → is_make request ≡ false → is_taken_from m.spot request Done ≡ false → Site g i.spot
       → ((k : ℕ) → entries_in k (state_next st (event p request Done)).entries ≡
       entries_in k (st.entries ++ option_to_list (placed (folder_at st.namespace i.spot) i.path node)))
       → KnownOf (state_next st (event p request Done)) (seen_replied g request Done)
-      (making_changed i.spot (with_entry i.path node directory) (Some m))
+      (making_changed i.spot (making_with_entry i.path node directory) (Some m))
   pushed request i node directory is may off free at grown = by (makes_at (Some m) i.spot) refl
     where
       by : (b : Bool) → makes_at (Some m) i.spot ≡ b →
           KnownOf (state_next st (event p request Done)) (seen_replied g request Done)
-          (cond b (Some (with_entry i.path node directory m)) (Some m))
+          (cond b (Some (making_with_entry i.path node directory m)) (Some m))
       by true e = λ guarded.
           on request Done m.clean (m.entries ++ record { path = i.path; node = node } ∷ []) (directory ∷ m.unsynced) is may off
           (λ quiet. free)
@@ -168,7 +170,7 @@ module _ (st : DirState) (p : ℕ) (s : Seen) (m : Making) (sound : Sound st.nam
 
   -- a change that is refused
   spoils : (request : Request) (error : DirError) (left : ℕ) (i : Inner) → is_reply st p request (Refused error left) ≡ true →
-      allows g request ≡ true → is_make request ≡ false → takes m.spot request (Refused error left) ≡ false
+      allows g request ≡ true → is_make request ≡ false → is_taken_from m.spot request (Refused error left) ≡ false
       → ((k : ℕ) → folder_at st.namespace m.spot ≡ Some k → (spot_eq m.spot i.spot ≡ false) →
       entries_in k (state_next st (event p request (Refused error left))).entries ≡ entries_in k st.entries)
       → (is_changeable m.spot.area ≡ false → makes_at (Some m) i.spot ≡ false → spot_eq m.spot i.spot ≡ false)
@@ -196,8 +198,8 @@ module _ (st : DirState) (p : ℕ) (s : Seen) (m : Making) (sound : Sound st.nam
   synced i is may = by (makes_at (Some m) i.spot)
     where
       by : (b : Bool) → KnownOf (state_next st (event p (SyncIn i) Done)) (seen_replied g (SyncIn i) Done)
-          (cond b (Some (without_path i.path m)) (Some m))
-      by true = λ guarded. on (SyncIn i) Done m.clean m.entries (without_path i.path m).unsynced is may refl (λ quiet. refl)
+          (cond b (Some (with_path_synced i.path m)) (Some m))
+      by true = λ guarded. on (SyncIn i) Done m.clean m.entries (with_path_synced i.path m).unsynced is may refl (λ quiet. refl)
           (λ k there quiet was. names_same (entries_in k (st.entries ++ [])) (entries_in k st.entries) m.entries (unmade k) was)
           (λ k there quiet was clean. unmade k ∙ was clean) guarded
       by false = still (SyncIn i) Done is may refl (λ quiet. refl) unmade
@@ -240,7 +242,7 @@ module _ (st : DirState) (p : ℕ) (s : Seen) (m : Making) (sound : Sound st.nam
 
   -- a removal is in another folder
   removed : (request : Request) (i : Inner) → is_reply st p request Done ≡ true → allows g request ≡ true →
-      is_make request ≡ false → takes m.spot request Done ≡ false → may_remove s.standing i.spot ≡ true
+      is_make request ≡ false → is_taken_from m.spot request Done ≡ false → may_remove s.standing i.spot ≡ true
       → ((k : ℕ) → folder_at st.namespace m.spot ≡ Some k → spot_eq m.spot i.spot ≡ false →
       entries_in k (state_next st (event p request Done)).entries ≡ entries_in k st.entries)
       → is_guarded (seen_replied g request Done) m ≡ true → StandsAsKnown (state_next st (event p request Done)) m
@@ -251,12 +253,12 @@ module _ (st : DirState) (p : ℕ) (s : Seen) (m : Making) (sound : Sound st.nam
       (λ k there quiet was clean. same k there (apart m.spot i.spot quiet (removal_area s.standing i.spot rule)) ∙ was clean) guarded
 
   -- the folder is moved, or another
-  guard_of_move : (from to : Spot) (a b : Area) → may_bring_between g from to a b ≡ true →
-      (is_stage a ≡ true → may_move_between s.standing from.name a b ≡ true) →
+  guard_of_move : (from to : Spot) (a b : Area) → contents_allow_move g from to a b ≡ true →
+      (is_stage a ≡ true → locks_allow_move s.standing from.name a b ≡ true) →
       guards (seen_replied g (MoveFolder from to) Done) to.name b ≡ true → guards g from.name a ≡ true
   guard_of_move from to area.Embryo area.Prepare bring ask guarded =
-      and_left s.standing.gated (draws from.name s.standing)
-      (and_left (s.standing.gated && draws from.name s.standing) (holds_own from.name s.standing) (ask refl))
+      and_left s.standing.embryo_under_lock (draws from.name s.standing)
+      (and_left (s.standing.embryo_under_lock && draws from.name s.standing) (holds_own from.name s.standing) (ask refl))
   guard_of_move from to a area.Prepare bring ask guarded = cc
   guard_of_move from to a area.Embryo bring ask guarded = cc
   guard_of_move from to a area.Incoming bring ask guarded = cc
@@ -266,19 +268,19 @@ module _ (st : DirState) (p : ℕ) (s : Seen) (m : Making) (sound : Sound st.nam
       After (MoveFolder from to) Done
   moves from to is may = by (spot_eq m.spot from) refl
     where
-      x : (may_move s.standing from to ≡ true) × (may_bring g from to ≡ true)
-      x = both (may_move s.standing from to) (may_bring g from to) may
+      x : (may_move_by_locks s.standing from to ≡ true) × (may_move_by_contents g from to ≡ true)
+      x = and_parts (may_move_by_locks s.standing from to) (may_move_by_contents g from to) may
 
-      ask : is_stage from.area ≡ true → may_move_between s.standing from.name from.area to.area ≡ true
-      ask stage = and_right (bytes_eq from.name to.name) (may_move_between s.standing from.name from.area to.area)
-          (sym (ap (λ b. cond (b || is_stage to.area) (bytes_eq from.name to.name && may_move_between s.standing from.name from.area to.area) true) stage)
+      ask : is_stage from.area ≡ true → locks_allow_move s.standing from.name from.area to.area ≡ true
+      ask stage = and_right (bytes_eq from.name to.name) (locks_allow_move s.standing from.name from.area to.area)
+          (sym (ap (λ b. cond (b || is_stage to.area) (bytes_eq from.name to.name && locks_allow_move s.standing from.name from.area to.area) true) stage)
           ∙ x.0)
 
       goes : m.spot ≡ from → guards (seen_replied g (MoveFolder from to) Done) to.name to.area ≡ true →
           StandsAsKnown (state_next st (event p (MoveFolder from to) Done)) (record m { spot = to })
       goes same guarded =
           let before : guards g from.name from.area ≡ true =
-          guard_of_move from to from.area to.area (and_left (may_bring_between g from to from.area to.area) _ x.1) ask guarded in
+          guard_of_move from to from.area to.area (and_left (contents_allow_move g from to from.area to.area) _ x.1) ask guarded in
           let w = known (subst (λ (z : Spot). guards g z.name z.area ≡ true) (sym same) before) in record {
             folder = w.folder;
             there = moved_there st.namespace to from to (none_stands st.namespace to (stands_from st p from to is).1) (spot_self to)

@@ -1,6 +1,6 @@
 // The law of what pods hold in prepared and in run, as the contract of a function.
 ghost use Rattle.lifecycle.specs.Executions.{IsConforming};
-ghost use Rattle.folder_contents.specs.Filled.{StaysFilled, PodsAreFilled};
+ghost use Rattle.folder_contents.specs.Filled.{KeepsItsContents, PodsAreFilled};
 
 use dir_model::History;
 
@@ -11,7 +11,7 @@ use dir_model::History;
 /// what the pod's maker left by its own move out of prepare, when it knew all of it whole and synced.
 /// What a started app itself writes is no call on the directory, and nothing is said of it.
 pub fn filled(history: &History)
-    ensures stays { IsConforming history.now.items → StaysFilled history.now.items }
+    ensures stays { IsConforming history.now.items → KeepsItsContents history.now.items }
     ensures left { IsConforming history.now.items → PodsAreFilled history.now.items }
 {
     let _events = history.as_slice();

@@ -4,29 +4,19 @@ use Rattle.dir_model.specs.declared.event.Event.{Event}
 use Rattle.dir_model.specs.declared.item.Inner.{Inner}
 use Rattle.dir_model.specs.declared.item.Item.{Item}
 use Rattle.dir_model.specs.declared.request.DirError.{DirError}
-use Rattle.dir_model.specs.declared.request.Request.{Request}
 use Rattle.dir_model.specs.declared.request.Request.TheVariants.{ListIn}
 use Rattle.dir_model.specs.declared.request.Reply.{Reply}
 use Rattle.dir_model.specs.declared.request.Reply.TheVariants.{Begun}
-use Rattle.dir_model.specs.Calls.{CallStep, Unlisted, ListStep, Extends}
+use Rattle.dir_model.specs.Calls.{ListStep}
 use Rattle.dir_model.specs.Local.{Local, local_replied}
 use Rattle.dir_model.specs.Replies.{items_reply}
-use Rattle.dir_model.proofs.Chains.{step_extends, extends_more}
 use Rattle.dir_rules.specs.declared.seen.Seen.{Seen}
 use Rattle.dir_rules.specs.Standing.{standing_replied}
 use Rattle.dir_rules.specs.Conforms.{seen_replied, seen_listed, IsTied}
 use Rattle.dir_rules.proofs.Tied.{tied_step, tied_unbegun}
 use Rattle.dir_trait.specs.DirCalls.{DirAt, ListCall}
 use Rattle.dir_trait.specs.Knowledge.{SameHandles, Knows}
-
--- one that left nothing is one call
-left_step : {me : ℕ} {old new : List Event} {request : Request} {reply : Reply} → Unlisted me old request reply new → CallStep me old request reply new
-left_step u = record { before = u.before; meanwhile = u.meanwhile; own = inr u.late; run = u.run }
-
-pub list_extends : {asks : Request → Bool} {me : ℕ} {old new : List Event} {request : Request} {reply : Reply} → asks request ≡ true → ListStep me old request reply new → Extends asks me old new
-list_extends {asks} {me} {old} {new} {request} {reply} asked (inl l) =
-    extends_more asks me old l.between new (step_extends asks me old request Begun l.between asked l.begins) (step_extends asks me l.between request reply new asked l.ends)
-list_extends {asks} {me} {old} {new} {request} {reply} asked (inr u) = step_extends asks me old request reply new asked (left_step u)
+use Rattle.dir_trait.proofs.ListCalls.{left_step}
 
 tied_list : {me : ℕ} {old new : List Event} {s : Seen} (inner : Inner) (reply : Reply) → IsTied me old s → ListStep me old (ListIn inner) reply new → IsTied me new (seen_listed s (ListIn inner) reply)
 tied_list {me} {old} {new} {s} inner reply tied (inl l) =

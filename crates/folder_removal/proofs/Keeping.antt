@@ -1,6 +1,7 @@
 -- Stretches in which a process removed no folder.
 use Rattle.std.proofs.Common.{◌≡◌, ◌⊎◌, inl, inr, ◌||◌, ℕ, Bool, true, false, not, List, [], ◌∷◌, ◌++◌, refl, ap, subst, ◌∙◌, append_assoc}
 use Rattle.std.specs.List.{AllByRecursion}
+use Rattle.plain_laws.proofs.Booleans.{own_kept}
 use Rattle.dir_model.specs.declared.event.Event.{Event}
 use Rattle.dir_model.specs.declared.request.Request.{Request}
 use Rattle.dir_model.specs.declared.request.Request.TheVariants.{RemoveFolder}
@@ -28,10 +29,6 @@ kept_more {me} {other} {a} {b} {c} ab same bc =
 others_kept : (me : ℕ) (es : List Event) → AllByRecursion (λ e. is_foreign me e ≡ true) es → AllByRecursion (Kept me) es
 others_kept me [] a = tt
 others_kept me (e ∷ es) a = (rw a.0 refl, others_kept me es a.1)
-
-own_kept : (a b : Bool) → b ≡ false → (a || not b) ≡ true
-own_kept true b h = refl
-own_kept false b h = rw h refl
 
 -- a call that wasn't answered so
 pub kept_call : {me : ℕ} {request : Request} {reply : Reply} {a b : List Event} → removes_folder request reply ≡ false → CallStep me a request reply b → KeptFolders me a b

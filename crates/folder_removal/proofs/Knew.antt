@@ -15,22 +15,22 @@ use Rattle.dir_model.proofs.Spots.{spot_self}
 use Rattle.dir_rules.specs.declared.seen.Seen.{Seen}
 use Rattle.dir_rules.specs.Conforms.{IsTied}
 use Rattle.dir_rules.specs.LockRules.{may_remove}
-use Rattle.dir_rules.specs.Rules.{root_of, shows, is_file_item}
+use Rattle.dir_rules.specs.Rules.{root_of, is_item_shown, is_file_item}
 use Rattle.dir_trait.specs.DirCalls.{DirAt}
 use Rattle.dir_trait.specs.Knowledge.{Knows}
 use Rattle.folder_removal.specs.declared.task.Task.{Task}
 use Rattle.folder_removal.specs.Tasks.{is_unlisted, is_dir_item}
-use Rattle.folder_removal.specs.Removal.{is_removal_area, inner_at, task_inner, removal_by, removal_of, is_stray, RemovesStray}
-use Rattle.folder_removal.specs.Known.{MayDelete, IsAtWork, WorksOff, IsListed, IsDue, StrayKnowing, StrayAtWork, StrayDeleting, ListedStray}
+use Rattle.folder_removal.specs.Removal.{is_removal_area, inner_at, task_inner, removal_by, removal_of, is_stray_deletion, RemovesStray}
+use Rattle.folder_removal.specs.Known.{MayDelete, IsDeletionUnderWay, WorksOff, IsListedAsTasks, IsListingDue, StrayKnowing, StrayAtWork, StrayDeleting, ListedStray}
 use Rattle.folder_removal.proofs.Steps.{asks_removal, shown_as}
 use Rattle.folder_removal.proofs.Strays.{in_time}
 use Rattle.folder_removal.proofs.Knowing.{at_work, seen_root}
 
-pub listed_stray : {me : ℕ} {old new : List Event} (inner : Inner) (reply : Reply) → is_stray (ListIn inner) reply ≡ true → ListStep me old (ListIn inner) reply new → ListedStray inner me old new
+pub listed_stray : {me : ℕ} {old new : List Event} (inner : Inner) (reply : Reply) → is_stray_deletion (ListIn inner) reply ≡ true → ListStep me old (ListIn inner) reply new → ListedStray inner me old new
 listed_stray inner reply stray step = record { reply = reply; stray = stray; step = step }
 
 -- a directory was listed
-listing_knew : (spot : Spot) (path : List ℕ) {me : ℕ} {old new : List Event} (s : Seen) → IsTied me old s → may_remove s.standing spot ≡ true → IsDue s (ListIn (inner_at spot path)) → ListedStray (inner_at spot path) me old new → StrayKnowing spot me new
+listing_knew : (spot : Spot) (path : List ℕ) {me : ℕ} {old new : List Event} (s : Seen) → IsTied me old s → may_remove s.standing spot ≡ true → IsListingDue s (ListIn (inner_at spot path)) → ListedStray (inner_at spot path) me old new → StrayKnowing spot me new
 listing_knew spot path {me} {old} {new} s tied lock due l = by l.step
   where
     by : Listing me old (ListIn (inner_at spot path)) l.reply new ⊎ Unlisted me old (ListIn (inner_at spot path)) l.reply new → StrayKnowing spot me new
@@ -50,10 +50,10 @@ listing_knew spot path {me} {old} {new} s tied lock due l = by l.step
     }
     by (inr u) = absurd (in_time (inner_at spot path) l.reply u.late.late l.stray)
 
-removal_due : (s : Seen) (spot : Spot) (t : Task) → IsDue s (removal_of spot t)
+removal_due : (s : Seen) (spot : Spot) (t : Task) → IsListingDue s (removal_of spot t)
 removal_due s spot t = by t.kind
   where
-    by : (kind : ItemKind) → IsDue s (removal_by kind (task_inner spot t))
+    by : (kind : ItemKind) → IsListingDue s (removal_by kind (task_inner spot t))
     by item.Dir = tt
     by item.File = tt
     by item.Other = tt
@@ -97,11 +97,11 @@ knew_then {spot} {xs} {ys} a b c same f g s k w =
 pub root_lists : (spot : Spot) (old new : DirAt) → ListedStray (inner_at spot []) old.process old.trace new.trace → StrayDeleting spot old new
 root_lists spot old new l s k m = listing_knew spot [] s k.tied m.lock (inl refl) l
 
-module _ (spot : Spot) (tasks : List Task) (a b c : DirAt) (area : is_removal_area spot.area ≡ true) (l : IsListed spot [] tasks a b) (same : b.process ≡ a.process) where
+module _ (spot : Spot) (tasks : List Task) (a b c : DirAt) (area : is_removal_area spot.area ≡ true) (l : IsListedAsTasks spot [] tasks a b) (same : b.process ≡ a.process) where
   pub emptying_knew : StrayAtWork spot tasks b c → StrayDeleting spot a c
   emptying_knew g s k m = subst (λ (p : ℕ). StrayKnowing spot p c.trace) same (g (seen_root spot tasks area l s) (l.knows s k) (at_work spot tasks area l s m))
 
-  pub folder_knew : (d : DirAt) (error : DirError) → is_stray (RemoveFolder spot) (Refused error 0) ≡ true → WorksOff spot tasks [] b c → c.process ≡ b.process → CallStep c.process c.trace (RemoveFolder spot) (Refused error 0) d.trace → StrayDeleting spot a d
+  pub folder_knew : (d : DirAt) (error : DirError) → is_stray_deletion (RemoveFolder spot) (Refused error 0) ≡ true → WorksOff spot tasks [] b c → c.process ≡ b.process → CallStep c.process c.trace (RemoveFolder spot) (Refused error 0) d.trace → StrayDeleting spot a d
   folder_knew d error stray f then last s k m =
       let x = f (seen_root spot tasks area l s) (l.knows s k) (at_work spot tasks area l s m) in
       subst (λ (p : ℕ). StrayKnowing spot p d.trace) (then ∙ same) record {

@@ -16,7 +16,7 @@ use Rattle.dir_trait.proofs.Knowing.{knows_call}
 use Rattle.folder_removal.specs.declared.task.Task.{Task}
 use Rattle.folder_removal.specs.Tasks.{with_listed, is_unlisted}
 use Rattle.folder_removal.specs.Removal.{is_removal_area, task_inner, removal_by, removal_of}
-use Rattle.folder_removal.specs.Known.{IsAtWork, MayDelete, Learns, IsListed, OnlyLists, OnlyRemoves, OnlyWorks, WorksOff, OnlyTries, Deletes}
+use Rattle.folder_removal.specs.Known.{IsDeletionUnderWay, MayDelete, Learns, IsListedAsTasks, OnlyLists, OnlyRemoves, OnlyWorks, WorksOff, OnlyTries, Deletes}
 use Rattle.folder_removal.proofs.Calls.{knows_list}
 use Rattle.folder_removal.proofs.Steps.{only_same, only_more, only_listed, only_removed, only_folder, folder_gone, ready_at, ready_at_root, after_list, after_remove, may_remove_task}
 
@@ -53,13 +53,13 @@ removes_only spot t r o c s k may = record {
 }
 
 -- a turn that listed the last task
-pub lists_off : {old new : DirAt} (spot : Spot) (xs : List Task) (t : Task) (children : List Task) → is_removal_area spot.area ≡ true → IsListed spot t.path children old new → WorksOff spot (xs ++ t ∷ []) ((xs ++ with_listed t ∷ []) ++ children) old new
+pub lists_off : {old new : DirAt} (spot : Spot) (xs : List Task) (t : Task) (children : List Task) → is_removal_area spot.area ≡ true → IsListedAsTasks spot t.path children old new → WorksOff spot (xs ++ t ∷ []) ((xs ++ with_listed t ∷ []) ++ children) old new
 lists_off {old} {new} spot xs t children area l s k w =
     let seen : Seen = seen_listed s (ListIn (record { spot = spot; path = t.path })) (Items l.items) in
     record {
       known = seen;
       only = only_listed spot t.path s area (Ok l.items);
-      work = subst (λ (ts : List Task). IsAtWork spot ((xs ++ with_listed t ∷ []) ++ ts) seen) (sym l.are) (after_list spot t.path (xs ++ with_listed t ∷ []) l.items s area (ready_at spot xs t s w) l.plain l.once);
+      work = subst (λ (ts : List Task). IsDeletionUnderWay spot ((xs ++ with_listed t ∷ []) ++ ts) seen) (sym l.are) (after_list spot t.path (xs ++ with_listed t ∷ []) l.items s area (ready_at spot xs t s w) l.plain l.once);
       knows = l.knows s k;
     }
 
@@ -95,12 +95,12 @@ pub works_only : {spot : Spot} {xs ys : List Task} {a b : DirAt} → WorksOff sp
 works_only f s k w = let x = f s k w in record { known = x.known; only = x.only; knows = x.knows }
 
 -- the whole
-module _ (spot : Spot) (tasks : List Task) {a b : DirAt} (area : is_removal_area spot.area ≡ true) (l : IsListed spot [] tasks a b) where
+module _ (spot : Spot) (tasks : List Task) {a b : DirAt} (area : is_removal_area spot.area ≡ true) (l : IsListedAsTasks spot [] tasks a b) where
   abbrev pub seen_root : Seen → Seen
   seen_root s = seen_listed s (ListIn (record { spot = spot; path = [] })) (Items l.items)
 
-  pub at_work : (s : Seen) → MayDelete spot s → IsAtWork spot tasks (seen_root s)
-  at_work s m = subst (λ (ts : List Task). IsAtWork spot ts (seen_root s)) (sym l.are) (after_list spot [] [] l.items s area (ready_at_root m) l.plain l.once)
+  pub at_work : (s : Seen) → MayDelete spot s → IsDeletionUnderWay spot tasks (seen_root s)
+  at_work s m = subst (λ (ts : List Task). IsDeletionUnderWay spot ts (seen_root s)) (sym l.are) (after_list spot [] [] l.items s area (ready_at_root m) l.plain l.once)
 
   pub tries_tasks : {c : DirAt} → OnlyWorks spot tasks b c → OnlyTries spot a c
   tries_tasks f s k m =

@@ -16,16 +16,16 @@ use Rattle.dir_rules.specs.declared.seen.ShownItem.{ShownItem}
 use Rattle.dir_rules.specs.declared.seen.Seen.{Seen}
 use Rattle.dir_rules.specs.LockRules.{may_remove}
 use Rattle.dir_rules.specs.Seen.{inner_eq, forget_listed, forget_items, moved_away}
-use Rattle.dir_rules.specs.Rules.{root_of, allows, shows, is_file_item}
+use Rattle.dir_rules.specs.Rules.{root_of, allows, is_item_shown, is_file_item}
 use Rattle.dir_rules.specs.Conforms.{seen_replied, seen_listed, IsTied}
 use Rattle.dir_trait.specs.DirCalls.{DirAt}
 use Rattle.dir_trait.specs.Knowledge.{Knows}
 use Rattle.folder_removal.specs.declared.task.Task.{Task}
-use Rattle.folder_removal.specs.Tasks.{task_of, has_plain_name, are_distinct, are_nested}
-use Rattle.folder_removal.specs.Removal.{task_inner, removal_of, deletes_at, is_stray}
+use Rattle.folder_removal.specs.Tasks.{deletion_task_of, has_plain_name, are_distinct, are_nested}
+use Rattle.folder_removal.specs.Removal.{task_inner, removal_of, asks_deletion_at, is_stray_deletion}
 
-abbrev pub shown_at : Spot → Task → ShownItem
-shown_at spot t = record { inner = task_inner spot t; kind = t.kind }
+abbrev pub task_shown_at : Spot → Task → ShownItem
+task_shown_at spot t = record { inner = task_inner spot t; kind = t.kind }
 
 -- it was shown in this folder
 abbrev pub is_there : Spot → ShownItem → Bool
@@ -44,7 +44,7 @@ pub record OnlyThere (spot : Spot) (old new : Seen) : Type 0 where
   pub same : new ≡ record old { listed = new.listed; items = new.items; created = new.created }
 
 -- the same, and what was known of the folder is forgotten: it stands nowhere any more
-pub record IsDeleted (spot : Spot) (old new : Seen) : Type 0 where
+pub record ForgetsFolder (spot : Spot) (old new : Seen) : Type 0 where
   pub created : List Created
   pub same : new ≡ record old {
     listed = forget_listed spot old.listed;
@@ -59,10 +59,10 @@ abbrev pub has_listed : Spot → List Inner → Task → Bool
 has_listed spot ls t = not t.listed || list_any (inner_eq (task_inner spot t)) ls
 
 -- what was shown in the folder and not removed since are just the tasks
-pub record IsAtWork (spot : Spot) (tasks : List Task) (s : Seen) : Type 0 where
+pub record IsDeletionUnderWay (spot : Spot) (tasks : List Task) (s : Seen) : Type 0 where
   pub others : List ShownItem
   pub apart : list_any (is_there spot) others ≡ false
-  pub items : s.items ≡ others ++ map (shown_at spot) tasks
+  pub items : s.items ≡ others ++ map (task_shown_at spot) tasks
   pub lock : may_remove s.standing spot ≡ true
   pub nested : are_nested [] tasks ≡ true
   pub root : list_any (inner_eq (root_of spot)) s.listed ≡ true
@@ -78,13 +78,13 @@ pub record KnowsBut (spot : Spot) (s : Seen) (new : DirAt) : Type 0 where
 pub record StillAtWork (spot : Spot) (tasks : List Task) (s : Seen) (new : DirAt) : Type 0 where
   pub known : Seen
   pub only : OnlyThere spot s known
-  pub work : IsAtWork spot tasks known
+  pub work : IsDeletionUnderWay spot tasks known
   pub knows : Knows new known
 
 -- what it knew, without the folder
 pub record KnowsDeleted (spot : Spot) (s : Seen) (new : DirAt) : Type 0 where
   pub known : Seen
-  pub is : IsDeleted spot s known
+  pub is : ForgetsFolder spot s known
   pub knows : Knows new known
 
 -- whatever a process knew, it knows that and this reply
@@ -92,9 +92,9 @@ abbrev pub Learns : Request → Reply → DirAt → DirAt → Type 0
 Learns request reply old new = (s : Seen) → Knows old s → Knows new (seen_replied s request reply)
 
 -- the directory was listed, and showed what the tasks are
-pub record IsListed (spot : Spot) (path : List ℕ) (tasks : List Task) (old new : DirAt) : Type 0 where
+pub record IsListedAsTasks (spot : Spot) (path : List ℕ) (tasks : List Task) (old new : DirAt) : Type 0 where
   pub items : List Item
-  pub are : tasks ≡ map (task_of path) items
+  pub are : tasks ≡ map (deletion_task_of path) items
   pub plain : list_all has_plain_name items ≡ true
   pub once : are_distinct items ≡ true
   pub knows : (s : Seen) → Knows old s → Knows new (seen_listed s (ListIn (record { spot = spot; path = path })) (Items items))
@@ -109,11 +109,11 @@ OnlyRemoves spot t old new = (s : Seen) → Knows old s → allows s (removal_of
 
 -- nor does the work at these tasks
 abbrev pub OnlyWorks : Spot → List Task → DirAt → DirAt → Type 0
-OnlyWorks spot tasks old new = (s : Seen) → Knows old s → IsAtWork spot tasks s → KnowsBut spot s new
+OnlyWorks spot tasks old new = (s : Seen) → Knows old s → IsDeletionUnderWay spot tasks s → KnowsBut spot s new
 
 -- which leaves these of them
 abbrev pub WorksOff : Spot → List Task → List Task → DirAt → DirAt → Type 0
-WorksOff spot tasks left old new = (s : Seen) → Knows old s → IsAtWork spot tasks s → StillAtWork spot left s new
+WorksOff spot tasks left old new = (s : Seen) → Knows old s → IsDeletionUnderWay spot tasks s → StillAtWork spot left s new
 
 -- where the folder may be deleted: it was, and is forgotten
 abbrev pub Deletes : Spot → DirAt → DirAt → Type 0
@@ -124,9 +124,9 @@ abbrev pub OnlyTries : Spot → DirAt → DirAt → Type 0
 OnlyTries spot old new = (s : Seen) → Knows old s → MayDelete spot s → KnowsBut spot s new
 
 -- where it listed a directory, that was the folder itself, or a listing had shown it and it wasn't removed since
-abbrev pub IsDue : Seen → Request → Type 0
-IsDue s (ListIn inner) = (inner ≡ root_of inner.spot) ⊎ (shows (λ k. not (is_file_item k)) inner s.items ≡ true)
-IsDue s request = Unit {0}
+abbrev pub IsListingDue : Seen → Request → Type 0
+IsListingDue s (ListIn inner) = (inner ≡ root_of inner.spot) ⊎ (is_item_shown (λ k. not (is_file_item k)) inner s.items ≡ true)
+IsListingDue s request = Unit {0}
 
 -- it had asked for this, and nothing else since: a listing had begun, or nothing had come
 abbrev pub HasAsked : Request → ℕ → List Event → List Event → Type 0
@@ -140,16 +140,16 @@ pub record StrayKnowing (spot : Spot) (me : ℕ) (new : List Event) : Type 0 whe
   pub lock : may_remove seen.standing spot ≡ true
   pub request : Request
   pub reply : Reply
-  pub about : deletes_at spot request ≡ true
-  pub stray : is_stray request reply ≡ true
-  pub due : IsDue seen request
+  pub about : asks_deletion_at spot request ≡ true
+  pub stray : is_stray_deletion request reply ≡ true
+  pub due : IsListingDue seen request
   pub before : List Event
   pub begun : HasAsked request me asked before
   pub last : CallStep me before request reply new
 
 -- wherever it was at work there
 abbrev pub StrayAtWork : Spot → List Task → DirAt → DirAt → Type 0
-StrayAtWork spot tasks old new = (s : Seen) → Knows old s → IsAtWork spot tasks s → StrayKnowing spot old.process new.trace
+StrayAtWork spot tasks old new = (s : Seen) → Knows old s → IsDeletionUnderWay spot tasks s → StrayKnowing spot old.process new.trace
 
 -- wherever the folder might be deleted
 abbrev pub StrayDeleting : Spot → DirAt → DirAt → Type 0
@@ -158,5 +158,5 @@ StrayDeleting spot old new = (s : Seen) → Knows old s → MayDelete spot s →
 -- the directory was listed, which was answered so
 pub record ListedStray (inner : Inner) (me : ℕ) (old new : List Event) : Type 0 where
   pub reply : Reply
-  pub stray : is_stray (ListIn inner) reply ≡ true
+  pub stray : is_stray_deletion (ListIn inner) reply ≡ true
   pub step : ListStep me old (ListIn inner) reply new

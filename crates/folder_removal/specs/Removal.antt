@@ -20,7 +20,7 @@ use Rattle.dir_rules.specs.Marks.{path_in}
 use Rattle.dir_rules.specs.Rules.{root_of}
 use Rattle.dir_trait.specs.DirCalls.{DirAt}
 use Rattle.folder_removal.specs.declared.task.Task.{Task}
-use Rattle.folder_removal.specs.Tasks.{is_too_long, is_dir_item, is_unlisted, are_nested}
+use Rattle.folder_removal.specs.Tasks.{has_too_long_path, is_dir_item, is_unlisted, are_nested}
 
 -- where folders are deleted
 abbrev pub is_removal_area : Area → Bool
@@ -30,12 +30,12 @@ is_removal_area Removed = true
 is_removal_area _ = false
 
 -- the requests at this spot: listings and removals
-abbrev pub deletes_at : Spot → Request → Bool
-deletes_at spot (ListIn inner) = spot_eq inner.spot spot
-deletes_at spot (RemoveFileIn inner) = spot_eq inner.spot spot
-deletes_at spot (RemoveDirIn inner) = spot_eq inner.spot spot
-deletes_at spot (RemoveFolder at) = spot_eq at spot
-deletes_at spot _ = false
+abbrev pub asks_deletion_at : Spot → Request → Bool
+asks_deletion_at spot (ListIn inner) = spot_eq inner.spot spot
+asks_deletion_at spot (RemoveFileIn inner) = spot_eq inner.spot spot
+asks_deletion_at spot (RemoveDirIn inner) = spot_eq inner.spot spot
+asks_deletion_at spot (RemoveFolder at) = spot_eq at spot
+asks_deletion_at spot _ = false
 
 abbrev pub inner_at : Spot → List ℕ → Inner
 inner_at spot path = record { spot = spot; path = path }
@@ -54,22 +54,22 @@ removal_of spot t = removal_by t.kind (task_inner spot t)
 -- its last step was the folder's own removal, answered Ok
 pub record WasRemoved (spot : Spot) (me : ℕ) (old new : List Event) : Type 0 where
   pub before : List Event
-  pub first : Extends (deletes_at spot) me old before
+  pub first : Extends (asks_deletion_at spot) me old before
   pub last : CallStep me before (RemoveFolder spot) Done new
 
 abbrev pub EndsRemoved : Spot → DirAt → DirAt → Type 0
 EndsRemoved spot old new = WasRemoved spot old.process old.trace new.trace
 
 -- an answer that what the lock keeps doesn't explain
-abbrev pub is_stray : Request → Reply → Bool
-is_stray (ListIn inner) (Refused Missing left) = true
-is_stray (ListIn inner) (Items items) = list_any (is_too_long inner.path) items
-is_stray (RemoveFileIn inner) (Refused Missing left) = true
-is_stray (RemoveDirIn inner) (Refused Missing left) = true
-is_stray (RemoveDirIn inner) (Refused NotEmpty left) = true
-is_stray (RemoveFolder spot) (Refused Missing left) = true
-is_stray (RemoveFolder spot) (Refused NotEmpty left) = true
-is_stray _ _ = false
+abbrev pub is_stray_deletion : Request → Reply → Bool
+is_stray_deletion (ListIn inner) (Refused Missing left) = true
+is_stray_deletion (ListIn inner) (Items items) = list_any (has_too_long_path inner.path) items
+is_stray_deletion (RemoveFileIn inner) (Refused Missing left) = true
+is_stray_deletion (RemoveDirIn inner) (Refused Missing left) = true
+is_stray_deletion (RemoveDirIn inner) (Refused NotEmpty left) = true
+is_stray_deletion (RemoveFolder spot) (Refused Missing left) = true
+is_stray_deletion (RemoveFolder spot) (Refused NotEmpty left) = true
+is_stray_deletion _ _ = false
 
 -- a listing of its directory showed a directory at this path
 abbrev pub is_dir_named : List ℕ → List ℕ → Item → Bool
@@ -85,7 +85,7 @@ spares_dir inner (RemoveDirIn at) = not (spot_eq at.spot inner.spot && bytes_eq 
 spares_dir inner request = true
 
 -- an own listing between these moments showed it, and after that this process didn't ask for its removal
-pub record WasShown (inner : Inner) (me : ℕ) (old new : List Event) : Type 0 where
+pub record DirectoryWasShown (inner : Inner) (me : ℕ) (old new : List Event) : Type 0 where
   pub before : List Event
   pub step : Event
   pub later : List Event
@@ -116,7 +116,7 @@ KeepsFolders old new = KeptFolders old.process old.trace new.trace
 -- a directory that was missing when it was listed is the folder itself, which this process hadn't removed, or a listing had
 -- shown it
 abbrev pub IsCalledFor : Spot → Request → Reply → ℕ → List Event → List Event → Type 0
-IsCalledFor spot (ListIn inner) (Refused Missing left) me old new = ((inner ≡ root_of spot) × Extends spares_folders me old new) ⊎ WasShown inner me old new
+IsCalledFor spot (ListIn inner) (Refused Missing left) me old new = ((inner ≡ root_of spot) × Extends spares_folders me old new) ⊎ DirectoryWasShown inner me old new
 IsCalledFor spot request reply me old new = Unit {0}
 
 -- a folder stood there at an own step, and after that this process asked for no removal of a folder, until it was missing
@@ -137,7 +137,7 @@ pub record WentUnremoved (inner : Inner) (me : ℕ) (old new : List Event) : Typ
   pub after : List Event
   pub rest : List Event
   pub left : ℕ
-  pub shown : WasShown inner me old before
+  pub shown : DirectoryWasShown inner me old before
   pub missed : CallStep me before (ListIn inner) (Refused Missing left) after
   pub ends : new ≡ after ++ rest
 
@@ -156,24 +156,24 @@ pub record ListsStray (inner : Inner) (me : ℕ) (old new : List Event) : Type 0
   pub before : List Event
   pub reply : Reply
   pub first : Extends (lists_at inner.spot) me old before
-  pub stray : is_stray (ListIn inner) reply ≡ true
+  pub stray : is_stray_deletion (ListIn inner) reply ≡ true
   pub last : CallStep me before (ListIn inner) reply new
 
 -- its last step was answered so, and no directory was listed that none had shown
-pub record WasStray (spot : Spot) (me : ℕ) (old new : List Event) : Type 0 where
+pub record WasStrayDeletion (spot : Spot) (me : ℕ) (old new : List Event) : Type 0 where
   pub before : List Event
   pub request : Request
   pub reply : Reply
-  pub first : Extends (deletes_at spot) me old before
-  pub asked : deletes_at spot request ≡ true
-  pub stray : is_stray request reply ≡ true
+  pub first : Extends (asks_deletion_at spot) me old before
+  pub asked : asks_deletion_at spot request ≡ true
+  pub stray : is_stray_deletion request reply ≡ true
   pub called : IsCalledFor spot request reply me old before
   pub last : CallStep me before request reply new
 
 -- its one step was the task's removal, which was answered so
 pub record RemovesStray (spot : Spot) (t : Task) (me : ℕ) (old new : List Event) : Type 0 where
   pub reply : Reply
-  pub stray : is_stray (removal_of spot t) reply ≡ true
+  pub stray : is_stray_deletion (removal_of spot t) reply ≡ true
   pub last : CallStep me old (removal_of spot t) reply new
 
 -- its one step was the task's removal, whatever it was answered
@@ -187,7 +187,7 @@ StrayTurn spot t me old new = ((is_unlisted t ≡ true) × ListsStray (task_inne
 
 -- each task that is a directory to be listed was shown between these moments
 abbrev pub WasTaskShown : Spot → ℕ → List Event → List Event → Task → Type 0
-WasTaskShown spot me old new t = is_unlisted t ≡ true → WasShown (task_inner spot t) me old new
+WasTaskShown spot me old new t = is_unlisted t ≡ true → DirectoryWasShown (task_inner spot t) me old new
 
 abbrev pub AreShown : Spot → List Task → ℕ → List Event → List Event → Type 0
 AreShown spot tasks me old new = AllByRecursion (WasTaskShown spot me old new) tasks
@@ -200,11 +200,11 @@ pub record AreAtHand (spot : Spot) (tasks : List Task) (me : ℕ) (old new : Lis
 
 -- where the tasks were at hand since some moment, its last step was answered so after that
 abbrev pub StrayAfter : Spot → List Task → DirAt → DirAt → Type 0
-StrayAfter spot tasks old new = (start : List Event) → Extends (deletes_at spot) old.process start old.trace → AreAtHand spot tasks old.process start old.trace → WasStray spot old.process start new.trace
+StrayAfter spot tasks old new = (start : List Event) → Extends (asks_deletion_at spot) old.process start old.trace → AreAtHand spot tasks old.process start old.trace → WasStrayDeletion spot old.process start new.trace
 
 -- where some tasks were at hand since some moment, these are then
 abbrev pub HandsOn : Spot → List Task → List Task → DirAt → DirAt → Type 0
-HandsOn spot tasks left old new = (start : List Event) → Extends (deletes_at spot) old.process start old.trace → AreAtHand spot tasks old.process start old.trace → AreAtHand spot left old.process start new.trace
+HandsOn spot tasks left old new = (start : List Event) → Extends (asks_deletion_at spot) old.process start old.trace → AreAtHand spot tasks old.process start old.trace → AreAtHand spot left old.process start new.trace
 
-abbrev pub EndsStray : Spot → DirAt → DirAt → Type 0
-EndsStray spot old new = WasStray spot old.process old.trace new.trace
+abbrev pub EndsWithStrayDeletion : Spot → DirAt → DirAt → Type 0
+EndsWithStrayDeletion spot old new = WasStrayDeletion spot old.process old.trace new.trace

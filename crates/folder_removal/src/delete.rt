@@ -8,9 +8,9 @@ ghost use Rattle.dir_trait.specs.DirCalls.{DirCall, ExtendsBy};
 ghost use Rattle.dir_model.specs.declared.request.Reply.TheVariants.{Done};
 ghost use Rattle.folder_removal.specs.Tasks.{HasChildren};
 ghost use Rattle.folder_removal.specs.Weights.{weigh};
-ghost use Rattle.folder_removal.specs.Removal.{is_removal_area, deletes_at, spares_folders, KeepsFolders};
-ghost use Rattle.folder_removal.specs.Removal.{inner_at, lists_at, removal_of, ListsStray, RemovesStray, AsksRemoval, StrayTurn, AreShown, HandsOn, StrayAfter, EndsStray, EndsRemoved};
-ghost use Rattle.folder_removal.specs.Known.{Learns, StrayAtWork, StrayDeleting, ListedStray, IsListed, OnlyLists, OnlyRemoves, OnlyWorks, WorksOff, OnlyTries, Deletes};
+ghost use Rattle.folder_removal.specs.Removal.{is_removal_area, asks_deletion_at, spares_folders, KeepsFolders};
+ghost use Rattle.folder_removal.specs.Removal.{inner_at, lists_at, removal_of, ListsStray, RemovesStray, AsksRemoval, StrayTurn, AreShown, HandsOn, StrayAfter, EndsWithStrayDeletion, EndsRemoved};
+ghost use Rattle.folder_removal.specs.Known.{Learns, StrayAtWork, StrayDeleting, ListedStray, IsListedAsTasks, OnlyLists, OnlyRemoves, OnlyWorks, WorksOff, OnlyTries, Deletes};
 
 use crate::error::{DeleteError, delete_error};
 use crate::task::{Task, add, children};
@@ -31,7 +31,7 @@ fn list<D: Dir>(
     ensures faults { (D.shown dir.old).faults ≤ (D.shown dir.new).faults }
     ensures cause { IsErrOf result DeleteError.DirFault → Rose (D.shown dir.old).faults (D.shown dir.new).faults }
     ensures local { (D.shown dir.new).local ≡ (D.shown dir.old).local }
-    ensures extends { D.observed ≡ true → ExtendsBy (deletes_at spot.now) (D.shown dir.old) (D.shown dir.new) }
+    ensures extends { D.observed ≡ true → ExtendsBy (asks_deletion_at spot.now) (D.shown dir.old) (D.shown dir.new) }
     ensures lists { D.observed ≡ true → ExtendsBy (lists_at spot.now) (D.shown dir.old) (D.shown dir.new) }
     ensures spares { D.observed ≡ true → ExtendsBy spares_folders (D.shown dir.old) (D.shown dir.new) }
     ensures stray { IsErrOf result DeleteError.Stray → D.observed ≡ true → ListsStray (inner_at spot.now path.now) (D.shown dir.old).process (D.shown dir.old).trace (D.shown dir.new).trace }
@@ -39,7 +39,7 @@ fn list<D: Dir>(
     ensures known { D.observed ≡ true → OnlyLists spot.now (D.shown dir.old) (D.shown dir.new) }
     ensures shown { IfOk result (λ tasks. D.observed ≡ true → AreShown spot.now tasks.items (D.shown dir.old).process (D.shown dir.old).trace (D.shown dir.new).trace) }
     ensures children { IfOk result (λ tasks. HasChildren path.now tasks.items) }
-    ensures listed { IfOk result (λ tasks. D.observed ≡ true → IsListed spot.now path.now tasks.items (D.shown dir.old) (D.shown dir.new)) }
+    ensures listed { IfOk result (λ tasks. D.observed ≡ true → IsListedAsTasks spot.now path.now tasks.items (D.shown dir.old) (D.shown dir.new)) }
 {
     let spot = *spot;
     match dir.list_in(alloc, spot, path) {
@@ -71,7 +71,7 @@ fn remove<D: Dir>(alloc: Global, dir: &mut D, spot: &Spot, task: &Task) -> Resul
     ensures faults { (D.shown dir.old).faults ≤ (D.shown dir.new).faults }
     ensures cause { IsErrOf result DeleteError.DirFault → Rose (D.shown dir.old).faults (D.shown dir.new).faults }
     ensures local { (D.shown dir.new).local ≡ (D.shown dir.old).local }
-    ensures extends { D.observed ≡ true → ExtendsBy (deletes_at spot.now) (D.shown dir.old) (D.shown dir.new) }
+    ensures extends { D.observed ≡ true → ExtendsBy (asks_deletion_at spot.now) (D.shown dir.old) (D.shown dir.new) }
     ensures spares { D.observed ≡ true → ExtendsBy spares_folders (D.shown dir.old) (D.shown dir.new) }
     ensures stray { IsErrOf result DeleteError.Stray → D.observed ≡ true → RemovesStray spot.now task.now (D.shown dir.old).process (D.shown dir.old).trace (D.shown dir.new).trace }
     ensures asked { D.observed ≡ true → AsksRemoval spot.now task.now (D.shown dir.old).process (D.shown dir.old).trace (D.shown dir.new).trace }
@@ -98,7 +98,7 @@ fn turn<D: Dir>(
     ensures faults { (D.shown dir.old).faults ≤ (D.shown dir.new).faults }
     ensures cause { IsErrOf result DeleteError.DirFault → Rose (D.shown dir.old).faults (D.shown dir.new).faults }
     ensures local { (D.shown dir.new).local ≡ (D.shown dir.old).local }
-    ensures extends { D.observed ≡ true → ExtendsBy (deletes_at spot.now) (D.shown dir.old) (D.shown dir.new) }
+    ensures extends { D.observed ≡ true → ExtendsBy (asks_deletion_at spot.now) (D.shown dir.old) (D.shown dir.new) }
     ensures spares { D.observed ≡ true → ExtendsBy spares_folders (D.shown dir.old) (D.shown dir.new) }
     ensures stray { IsErrOf result DeleteError.Stray → D.observed ≡ true → StrayTurn spot.now task (D.shown dir.old).process (D.shown dir.old).trace (D.shown dir.new).trace }
     ensures knew { IsErrOf result DeleteError.Stray → D.observed ≡ true → StrayAtWork spot.now (tasks.old.items ++ task ∷ []) (D.shown dir.old) (D.shown dir.new) }
@@ -128,7 +128,7 @@ fn empty<D: Dir>(
     ensures faults { (D.shown dir.old).faults ≤ (D.shown dir.new).faults }
     ensures cause { IsErrOf result DeleteError.DirFault → Rose (D.shown dir.old).faults (D.shown dir.new).faults }
     ensures local { (D.shown dir.new).local ≡ (D.shown dir.old).local }
-    ensures extends { D.observed ≡ true → ExtendsBy (deletes_at spot.now) (D.shown dir.old) (D.shown dir.new) }
+    ensures extends { D.observed ≡ true → ExtendsBy (asks_deletion_at spot.now) (D.shown dir.old) (D.shown dir.new) }
     ensures spares { D.observed ≡ true → ExtendsBy spares_folders (D.shown dir.old) (D.shown dir.new) }
     ensures stray { IsErrOf result DeleteError.Stray → D.observed ≡ true → StrayAfter spot.now tasks.items (D.shown dir.old) (D.shown dir.new) }
     ensures knew { IsErrOf result DeleteError.Stray → D.observed ≡ true → StrayAtWork spot.now tasks.items (D.shown dir.old) (D.shown dir.new) }
@@ -154,8 +154,8 @@ pub fn delete_folder<D: Dir>(alloc: Global, dir: &mut D, spot: Spot) -> Result<(
     ensures faults { (D.shown dir.old).faults ≤ (D.shown dir.new).faults }
     ensures cause { IsErrOf result DeleteError.DirFault → Rose (D.shown dir.old).faults (D.shown dir.new).faults }
     ensures local { (D.shown dir.new).local ≡ (D.shown dir.old).local }
-    ensures extends { D.observed ≡ true → ExtendsBy (deletes_at spot) (D.shown dir.old) (D.shown dir.new) }
-    ensures stray { IsErrOf result DeleteError.Stray → D.observed ≡ true → EndsStray spot (D.shown dir.old) (D.shown dir.new) }
+    ensures extends { D.observed ≡ true → ExtendsBy (asks_deletion_at spot) (D.shown dir.old) (D.shown dir.new) }
+    ensures stray { IsErrOf result DeleteError.Stray → D.observed ≡ true → EndsWithStrayDeletion spot (D.shown dir.old) (D.shown dir.new) }
     ensures knew { IsErrOf result DeleteError.Stray → D.observed ≡ true → StrayDeleting spot (D.shown dir.old) (D.shown dir.new) }
     ensures refused { IfErr result (λ error. D.observed ≡ true → OnlyTries spot (D.shown dir.old) (D.shown dir.new)) }
     ensures kept { IfErr result (λ error. D.observed ≡ true → KeepsFolders (D.shown dir.old) (D.shown dir.new)) }

@@ -2,7 +2,7 @@
 ghost use Rattle.std.specs.Prelude.{◌≡◌, ◌≤◌, true, length, IfOk, IfErr, IsErrOf, ◌++◌, ◌∷◌, []};
 ghost use Rattle.std.specs.List.{list_any};
 ghost use Rattle.dir_trait.specs.Paths.{is_path};
-ghost use Rattle.folder_removal.specs.Tasks.{is_plain, is_too_long, task_of, with_listed, is_unlisted, AreChildren};
+ghost use Rattle.folder_removal.specs.Tasks.{is_plain_name, has_too_long_path, deletion_task_of, with_listed, is_unlisted, AreChildren};
 
 use crate::error::DeleteError;
 use crate::path::{ItemPath, join};
@@ -34,10 +34,10 @@ impl Task {
 // What an item of a directory asks for.
 fn child(alloc: Global, directory: &str, item: &Item) -> Result<Task, DeleteError>
     requires { is_path directory.now ≡ true }
-    ensures is { IfOk result (λ t. t ≡ task_of directory.now item.now) }
-    ensures plain { IfOk result (λ t. is_plain item.now.name ≡ true) }
+    ensures is { IfOk result (λ t. t ≡ deletion_task_of directory.now item.now) }
+    ensures plain { IfOk result (λ t. is_plain_name item.now.name ≡ true) }
     ensures within { IfOk result (λ t. length t.path ≤ 8192) }
-    ensures stray { IsErrOf result DeleteError.Stray → is_too_long directory.now item.now ≡ true }
+    ensures stray { IsErrOf result DeleteError.Stray → has_too_long_path directory.now item.now ≡ true }
     ensures cause { IfErr result (λ e. e ≡ DeleteError.DirFault → ⊥) }
 {
     let path = match join(alloc, directory, &item.name) {
@@ -70,7 +70,7 @@ fn push(tasks: &mut Vec<Task>, task: Task) -> Result<(), DeleteError>
 pub fn children(alloc: Global, directory: &str, items: &[Item]) -> Result<Vec<Task>, DeleteError>
     requires { is_path directory.now ≡ true }
     ensures are { IfOk result (λ tasks. AreChildren directory.now items.now tasks.items) }
-    ensures stray { IsErrOf result DeleteError.Stray → list_any (is_too_long directory.now) items.now ≡ true }
+    ensures stray { IsErrOf result DeleteError.Stray → list_any (has_too_long_path directory.now) items.now ≡ true }
     ensures cause { IfErr result (λ e. e ≡ DeleteError.DirFault → ⊥) }
 {
     let mut tasks = Vec::new(alloc);

@@ -1,7 +1,8 @@
 -- The listing of the area of images under the gate.
-use Rattle.std.proofs.Common.{◌≡◌, ◌+◌, ℕ, Bool, true, false, ◌&&◌, ◌||◌, ◌==◌, cond, bytes_eq, Option, Some, None, is_some, List, [], ◌∷◌, refl, sym, ap, ◌∙◌}
-use Rattle.std.specs.List.{list_any, position_from, cons_option}
+use Rattle.std.proofs.Common.{◌≡◌, ℕ, Bool, true, false, ◌&&◌, ◌||◌, ◌==◌, cond, bytes_eq, Option, Some, None, is_some, List, [], ◌∷◌, refl, sym, ap, ◌∙◌}
+use Rattle.std.specs.List.{list_any, cons_option}
 use Rattle.std.proofs.lemmas.Iterator.Adapters.{position_from-zero}
+use Rattle.plain_laws.proofs.Lists.{some_position}
 use Rattle.dir_model.specs.declared.area.Area.TheVariants.{Images}
 use Rattle.dir_model.specs.declared.event.Event.{Event}
 use Rattle.dir_model.specs.declared.spot.Spot.{Spot}
@@ -32,17 +33,8 @@ named_at name (Some here ∷ places) = by (rank here.area == rank Images) (named
     by true go = ap (λ c. bytes_eq here.name name || c) go
     by false go = go
 
-some_position : {X : Type 0} (t : X → Bool) (i : ℕ) (xs : List X) → is_some (position_from t i xs) ≡ list_any t xs
-some_position t i [] = refl
-some_position t i (x ∷ xs) = by (t x) (some_position t (i + 1) xs)
-  where
-    by : (b : Bool) → is_some (position_from t (i + 1) xs) ≡ list_any t xs →
-        is_some (cond b (Some i) (position_from t (i + 1) xs)) ≡ (b || list_any t xs)
-    by true go = refl
-    by false go = go
-
 -- a name of the area is that of an image that stands
-image_named : (s : DirState) (name : List ℕ) → has_name (names_in Images s.namespace.folders) name ≡ is_image s name
+pub image_named : (s : DirState) (name : List ℕ) → has_name (names_in Images s.namespace.folders) name ≡ is_image s name
 image_named s name =
     named_at name s.namespace.folders
     ∙ (sym (some_position (is_at (image name)) 0 s.namespace.folders)

@@ -14,8 +14,9 @@ use Rattle.dir_model.proofs.Moments.{some_number}
 use Rattle.dir_rules.specs.declared.seen.Seen.{Seen}
 use Rattle.dir_rules.specs.Standing.{is_in}
 use Rattle.dir_trait.specs.DirCalls.{DirAt, ExtendsBy}
-use Rattle.dir_files.specs.Reads.{inner_at, file_at, StaysBetween}
+use Rattle.dir_files.specs.Reads.{inner_at, file_at, FileStaysBetween}
 use Rattle.dir_model.specs.declared.item.Item.{Item}
+use Rattle.dir_laws.proofs.Living.{lived_first}
 use Rattle.dir_files.specs.Listed.{Stretch, ShowsArea, ShowsAreaBetween, ShowsDirectory, ShowsDirectoryBetween}
 use Rattle.folder_contents.specs.Entries.{entries_in}
 use Rattle.folder_contents.proofs.GateKept.{gate_is_kept}
@@ -24,21 +25,21 @@ use Rattle.gate_reading.proofs.ImageItems.{listings_tell}
 use Rattle.gate_reading.proofs.AreaNames.{areas_tell}
 use Rattle.gate_reading.specs.Listings.{ShowsEntries}
 use Rattle.gate_reading.specs.Areas.{NamesImages}
-use Rattle.gate_reading.specs.Gate.{HasGate, GoesOn}
-use Rattle.gate_reading.specs.Files.{is_plain, FindsFrom}
+use Rattle.gate_reading.specs.Gate.{HasGate, GoesOnUnderLock}
+use Rattle.gate_reading.specs.Files.{is_outside_stage1, FindsFrom}
 use Rattle.gate_reading.proofs.StoredFiles.{finds, files_stay, none_comes}
-use Rattle.gate_reading.proofs.GoingOn.{lived_first, begins_never, lived_at_first, has_gate, whole_trace}
+use Rattle.gate_reading.proofs.GoingOn.{begins_never, lived_at_first, has_gate, whole_trace}
 
-module _ {asks : Request → Bool} {s : Seen} {old new : DirAt} (g : GoesOn asks s old new) where
+module _ {asks : Request → Bool} {s : Seen} {old new : DirAt} (g : GoesOnUnderLock asks s old new) where
   -- a file that stands there stays
-  pub file_stays : (spot : Spot) (path file : List ℕ) → is_in Images spot.area ≡ true → is_plain path ≡ true →
-      file_at (state_after old.trace) (inner_at spot path) ≡ Some file → StaysBetween (inner_at spot path) file old new
+  pub file_stays : (spot : Spot) (path file : List ℕ) → is_in Images spot.area ≡ true → is_outside_stage1 path ≡ true →
+      file_at (state_after old.trace) (inner_at spot path) ≡ Some file → FileStaysBetween (inner_at spot path) file old new
   file_stays spot path file is plain found x rest step split own =
       files_stay new.trace g.conforms old.process old.trace g.extends.more [] spot path file (whole_trace g) is plain
       (has_gate g (lived_at_first g x rest step split own)) found x rest step (sym g.extends.grown ∙ split) own
 
   -- in an image that stands, the file at a path stays, or stays missing
-  pub file_found : (spot : Spot) (path : List ℕ) → is_in Images spot.area ≡ true → is_plain path ≡ true →
+  pub file_found : (spot : Spot) (path : List ℕ) → is_in Images spot.area ≡ true → is_outside_stage1 path ≡ true →
       stands (state_after old.trace).namespace spot ≡ true →
       FindsFrom old.process (inner_at spot path) (file_at (state_after old.trace) (inner_at spot path)) old.trace new.trace
   file_found spot path is plain there x rest step split own =
@@ -47,7 +48,7 @@ module _ {asks : Request → Bool} {s : Seen} {old new : DirAt} (g : GoesOn asks
       (has_gate g (lived_at_first g x rest step split own)) k.1 x rest step (sym g.extends.grown ∙ split) own
 
   -- where an image has none, none comes
-  pub none_stays : (spot : Spot) (path : List ℕ) → is_in Images spot.area ≡ true → is_plain path ≡ true →
+  pub none_stays : (spot : Spot) (path : List ℕ) → is_in Images spot.area ≡ true → is_outside_stage1 path ≡ true →
       stands (state_after old.trace).namespace spot ≡ true → file_at (state_after old.trace) (inner_at spot path) ≡ None →
       FindsFrom old.process (inner_at spot path) None old.trace new.trace
   none_stays spot path is plain there none x rest step split own =

@@ -2,6 +2,8 @@
 use Rattle.std.proofs.Common.{◌≡◌, ℕ, Bool, true, false, not, ◌&&◌, ◌||◌, ◌==◌, cond, bytes_eq, nat_le, Some, None, List, [], ◌∷◌, map, filter, length, refl, sym, ap, ◌∙◌}
 use Rattle.std.specs.List.{list_any, list_all, cons_option}
 use Rattle.std.specs.Str.{is_utf8}
+use Rattle.std.proofs.lemmas.Bool.{and_parts}
+use Rattle.plain_laws.proofs.Texts.{same_text}
 use Rattle.dir_model.specs.declared.item.Item.{Item}
 use Rattle.dir_model.specs.declared.tree.TreeEntry.{TreeEntry}
 use Rattle.dir_model.specs.Names.{is_file_byte}
@@ -10,11 +12,9 @@ use Rattle.dir_model.specs.Trees.{items_in}
 use Rattle.dir_model.specs.Listings.{is_named, has_named, is_item, has_item}
 use Rattle.dir_model.proofs.Lists.{and_left, and_right, and_both, and_false, or_none, not_true}
 use Rattle.dir_rules.specs.declared.seen.Entry.{Entry}
-use Rattle.lifecycle.proofs.Handles.{both}
-use Rattle.lifecycle.proofs.Places.{name_same}
+use Rattle.dir_laws.proofs.Paths.{below_root}
 use Rattle.folder_contents.specs.Entries.{is_inside, entry_of, entries_in}
-use Rattle.gate_reading.specs.Listings.{has_direct, item_of, has_direct_item}
-use Rattle.dir_laws.proofs.Apps.{not_empty}
+use Rattle.gate_reading.specs.Listings.{has_direct, shown_item_of, has_direct_item}
 
 -- a file name is a path of one name
 pub no_slash : (bs : List ℕ) → list_all is_file_byte bs ≡ true → list_any is_slash bs ≡ false
@@ -24,10 +24,6 @@ no_slash (b ∷ bs) h =
     (not_true (b == 47) (and_left (not (b == 47)) (not (b == 0)) (and_left (is_file_byte b) (list_all is_file_byte bs) h)))
     (no_slash bs (and_right (is_file_byte b) (list_all is_file_byte bs) h))
 
-pub below_all : (x : ℕ) (xs : List ℕ) → lies_below (x ∷ xs) [] ≡ true
-unfolding lies_below
-below_all x xs = ap not (not_empty x xs)
-
 one_name : (path : List ℕ) → (is_directly_in [] path && is_file_name path) ≡ is_file_name path
 one_name [] = and_false (is_directly_in [] [])
 one_name (b ∷ bs) = by (is_file_name (b ∷ bs)) refl
@@ -35,23 +31,23 @@ one_name (b ∷ bs) = by (is_file_name (b ∷ bs)) refl
     by : (c : Bool) → is_file_name (b ∷ bs) ≡ c → (is_directly_in [] (b ∷ bs) && c) ≡ c
     by false e = and_false (is_directly_in [] (b ∷ bs))
     by true e =
-        let rest = (both (nat_le (length (b ∷ bs)) 255) (list_all is_file_byte (b ∷ bs) && is_utf8 (b ∷ bs)) e).1 in
-        let plain = (both (list_all is_file_byte (b ∷ bs)) (is_utf8 (b ∷ bs)) rest).0 in
+        let rest = (and_parts (nat_le (length (b ∷ bs)) 255) (list_all is_file_byte (b ∷ bs) && is_utf8 (b ∷ bs)) e).1 in
+        let plain = (and_parts (list_all is_file_byte (b ∷ bs)) (is_utf8 (b ∷ bs)) rest).0 in
         let there : is_directly_in [] (b ∷ bs) ≡ true =
-        and_both (lies_below (b ∷ bs) []) (not (list_any is_slash (b ∷ bs))) (below_all b bs) (ap not (no_slash (b ∷ bs) plain)) in
+        and_both (lies_below (b ∷ bs) []) (not (list_any is_slash (b ∷ bs))) (below_root b bs) (ap not (no_slash (b ∷ bs) plain)) in
         and_both (is_directly_in [] (b ∷ bs)) true there refl
 
 -- a test of what a listing shows is one of the entries with one name
 module _ (t : Item → Bool) (k : ℕ) where
   abbrev shown : Entry → Bool
-  shown e = is_file_name e.path && t (item_of e)
+  shown e = is_file_name e.path && t (shown_item_of e)
 
   items_tested : (es : List TreeEntry) → list_any t (items_in k [] es) ≡ list_any shown (entries_in k es)
   items_tested [] = refl
   items_tested (x ∷ es) = by (x.folder == k) (items_tested es)
     where
       item : Item
-      item = item_of (entry_of x)
+      item = shown_item_of (entry_of x)
 
       one : (c : Bool) → list_any t (items_in k [] es) ≡ list_any shown (entries_in k es) →
           list_any t (cons_option (cond c (Some item) None) (items_in k [] es)) ≡ ((c && t item) || list_any shown (entries_in k es))
@@ -85,10 +81,10 @@ one_path t name named (e ∷ es) = by (t e) refl (one_path t name named es)
 pub named_direct : (k : ℕ) (es : List TreeEntry) (item : Item) → has_named (items_in k [] es) item ≡ has_direct (entries_in k es) item.name
 named_direct k es item =
     items_tested (is_named item.name) k es
-    ∙ one_path (λ e. bytes_eq e.path item.name) item.name (λ e is. name_same e.path item.name is) (entries_in k es)
+    ∙ one_path (λ e. bytes_eq e.path item.name) item.name (λ e is. same_text e.path item.name is) (entries_in k es)
 
 pub item_direct : (k : ℕ) (es : List TreeEntry) (item : Item) → has_item (items_in k [] es) item ≡ has_direct_item (entries_in k es) item
 item_direct k es item =
     items_tested (is_item item) k es
-    ∙ one_path (λ e. is_item item (item_of e)) item.name
-    (λ e is. name_same e.path item.name (and_left (bytes_eq e.path item.name) _ is)) (entries_in k es)
+    ∙ one_path (λ e. is_item item (shown_item_of e)) item.name
+    (λ e is. same_text e.path item.name (and_left (bytes_eq e.path item.name) _ is)) (entries_in k es)

@@ -1,30 +1,27 @@
 -- From what the calls of a process promised and what it knows, to the gate that it has.
-use Rattle.std.proofs.Common.{◌≡◌, ℕ, Bool, true, false, not, ◌&&◌, ◌||◌, ◌==◌, List, [], ◌∷◌, ◌++◌, append_assoc, append-nil, refl, sym, ap, subst, ◌∙◌}
-use Rattle.std.specs.List.{list_any, AllByRecursion}
+use Rattle.std.proofs.Common.{◌≡◌, ℕ, Bool, true, false, not, ◌||◌, List, [], ◌∷◌, ◌++◌, append_assoc, append-nil, refl, sym, ap, subst, ◌∙◌}
+use Rattle.std.specs.List.{AllByRecursion}
 use Rattle.dir_model.specs.declared.area.Area.TheVariants.{Images}
 use Rattle.dir_model.specs.declared.event.Event.{Event}
 use Rattle.dir_model.specs.declared.request.Request.{Request}
-use Rattle.dir_model.specs.declared.request.Request.TheVariants.{Begin, Open, OpenArea, Finish, Kill, ReadIn, ListArea, ListIn}
-use Rattle.dir_model.specs.declared.request.Reply.{Reply}
-use Rattle.dir_model.specs.declared.request.Reply.TheVariants.{Done, Opened}
+use Rattle.dir_model.specs.declared.request.Request.TheVariants.{ReadIn, ListArea, ListIn}
 use Rattle.dir_model.specs.declared.item.Inner.{Inner}
 use Rattle.dir_model.specs.Listings.{is_listing_request}
-use Rattle.dir_model.specs.State.{Namespace, DirState, empty_state, has_begun, has_ended, lives}
-use Rattle.dir_model.specs.Trace.{namespace_replied, state_next, states_next, state_after}
-use Rattle.dir_model.specs.Calls.{is_begin, is_kill, is_foreign, Extends}
+use Rattle.dir_model.specs.State.{DirState, empty_state, lives}
+use Rattle.dir_model.specs.Trace.{state_after}
+use Rattle.dir_model.specs.Calls.{is_begin, is_foreign, Extends}
 use Rattle.dir_model.proofs.Chains.{states_next-append}
-use Rattle.dir_model.proofs.Lists.{and_left, and_right, and_both, any_push, not_true, all_left, all_right, all_weaker, or_map, same_rest}
+use Rattle.dir_model.proofs.Lists.{and_left, and_right, not_true, all_left, all_right, all_weaker, or_map, same_rest}
 use Rattle.dir_rules.specs.declared.seen.Seen.{Seen}
-use Rattle.dir_rules.specs.Standing.{holds_gate}
+use Rattle.dir_rules.specs.Standing.{shares_area}
 use Rattle.dir_rules.specs.Conforms.{seen_of, IsTied}
+use Rattle.dir_laws.proofs.Living.{lived_first}
 use Rattle.dir_trait.specs.DirCalls.{DirAt}
 use Rattle.dir_files.specs.Reads.{reads_at}
-use Rattle.lifecycle.proofs.Handles.{clash}
-use Rattle.lifecycle.proofs.Lives.{lived}
 use Rattle.folder_contents.specs.UnderGate.{keeps_handles, shares_images}
 use Rattle.folder_contents.proofs.Along.{happens, conforming_to}
 use Rattle.folder_contents.proofs.Known.{alive_at}
-use Rattle.gate_reading.specs.Gate.{HasGate, goes_on, GoesOn}
+use Rattle.gate_reading.specs.Gate.{HasGate, goes_on, GoesOnUnderLock}
 use Rattle.gate_reading.proofs.OwnSteps.{own_is}
 
 asked_wider : (asks wider : Request → Bool) {me : ℕ} {old new : List Event} →
@@ -57,47 +54,9 @@ knows_standing {p} {trace} {s} t living = ap (λ (x : Seen). x.standing) (t.livi
 
 pub knows_gate : {p : ℕ} {trace : List Event} {s : Seen} → IsTied p trace s → lives (state_after trace).namespace p ≡ true →
     shares_images s ≡ true → shares_images (seen_of p trace) ≡ true
-knows_gate {p} {trace} {s} t living held = ap (holds_gate Images) (sym (knows_standing t living)) ∙ held
+knows_gate {p} {trace} {s} t living held = ap (shares_area Images) (sym (knows_standing t living)) ∙ held
 
--- who lives after such steps lived before them
-not_me : (b : Bool) → ((not b || false) || false) ≡ true → b ≡ false
-not_me true h = cc
-not_me false h = refl
-
-not_before : (me p : ℕ) (xs : List ℕ) → not (list_any (λ q. q == me) (xs ++ p ∷ [])) ≡ true → not (list_any (λ q. q == me) xs) ≡ true
-not_before me p xs h = by (list_any (λ q. q == me) xs) refl
-  where
-    by : (b : Bool) → list_any (λ q. q == me) xs ≡ b → not b ≡ true
-    by true is = clash (list_any (λ q. q == me) (xs ++ p ∷ [])) (any_push (λ q. q == me) xs p is)
-        (not_true (list_any (λ q. q == me) (xs ++ p ∷ [])) h)
-    by false is = refl
-
-ended_before : (me p : ℕ) (n : Namespace) → (has_begun n me && not (list_any (λ q. q == me) (n.ended ++ p ∷ []))) ≡ true →
-    lives n me ≡ true
-ended_before me p n h =
-    let begun = and_left (has_begun n me) (not (list_any (λ q. q == me) (n.ended ++ p ∷ []))) h in
-    let on = and_right (has_begun n me) (not (list_any (λ q. q == me) (n.ended ++ p ∷ []))) h in
-    and_both (has_begun n me) (not (has_ended n me)) begun (not_before me p n.ended on)
-
-lived_step : (me : ℕ) (n : Namespace) (p : ℕ) (request : Request) (reply : Reply) →
-    ((not (p == me) || is_kill request) || not (is_begin request)) ≡ true → lives (namespace_replied n p request reply) me ≡ true →
-    lives n me ≡ true
-lived_step me n p (Begin intent) Done f a = lived n p me (Begin intent) Done (not_me (p == me) f) a
-lived_step me n p Finish Done f a = ended_before me p n a
-lived_step me n p Kill Done f a = ended_before me p n a
-lived_step me n p request Done f a = a
-lived_step me n p (Open spot which) (Opened handle) f a = a
-lived_step me n p (OpenArea area) (Opened handle) f a = a
-lived_step me n p request (Opened handle) f a = a
-lived_step me n p request reply f a = a
-
-pub lived_first : (me : ℕ) (s : DirState) (es : List Event) → AllByRecursion (λ e. (is_foreign me e || not (is_begin e.request)) ≡ true) es →
-    lives (states_next s es).namespace me ≡ true → lives s.namespace me ≡ true
-lived_first me s [] a living = living
-lived_first me s (e ∷ es) a living =
-    lived_step me s.namespace e.process e.request e.reply a.0 (lived_first me (state_next s e) es a.1 living)
-
-module _ {asks : Request → Bool} {s : Seen} {old new : DirAt} (g : GoesOn asks s old new) where
+module _ {asks : Request → Bool} {s : Seen} {old new : DirAt} (g : GoesOnUnderLock asks s old new) where
   abbrev pub Each : List Event → Type 0
   Each es = AllByRecursion (λ e. (is_foreign old.process e || goes_on e.request) ≡ true) es
 

@@ -1,6 +1,9 @@
 -- The listing of an image under the gate.
 use Rattle.std.proofs.Common.{◌≡◌, ℕ, Bool, true, false, ◌||◌, ◌==◌, bytes_eq, Option, unwrap_or, List, [], ◌∷◌, ◌++◌, refl, sym, ap, subst, ◌∙◌}
 use Rattle.std.specs.List.{list_any}
+use Rattle.plain_laws.proofs.Texts.{same_text}
+use Rattle.plain_laws.proofs.Booleans.{same_test}
+use Rattle.plain_laws.proofs.Lists.{any_wider}
 use Rattle.dir_model.specs.declared.event.Event.{Event}
 use Rattle.dir_model.specs.declared.item.Item.{Item}
 use Rattle.dir_model.specs.declared.item.ItemKind.TheVariants as kind
@@ -17,21 +20,12 @@ use Rattle.dir_laws.specs.Stretches.{StandsNamed, StandsInside}
 use Rattle.dir_files.specs.Reads.{inner_at}
 use Rattle.dir_files.specs.Listed.{ShowsInside, ShowsDirectory}
 use Rattle.lifecycle.specs.Executions.{IsConforming}
-use Rattle.lifecycle.proofs.Places.{name_same, same_name}
+use Rattle.lifecycle.proofs.Places.{same_name}
 use Rattle.folder_contents.specs.Entries.{entries_in}
-use Rattle.gate_reading.specs.Listings.{has_direct, item_of, has_direct_item, ShowsEntries, ListingsTell}
+use Rattle.gate_reading.specs.Listings.{has_direct, shown_item_of, has_direct_item, ShowsEntries, ListingsTell}
 use Rattle.gate_reading.proofs.PlainPaths.{plain_own}
 use Rattle.gate_reading.proofs.DirectItems.{named_direct, item_direct}
 use Rattle.gate_reading.proofs.Listed.{throughout, sometime, stands_in}
-
-any_wider : {X : Type 0} (t q : X → Bool) → ((x : X) → t x ≡ true → q x ≡ true) → (xs : List X) → list_any t xs ≡ true →
-    list_any q xs ≡ true
-any_wider t q f [] h = cc
-any_wider t q f (x ∷ xs) h = by (t x) refl h (λ l. any_wider t q f xs l)
-  where
-    by : (b : Bool) → t x ≡ b → (b || list_any t xs) ≡ true → (list_any t xs ≡ true → list_any q xs ≡ true) → (q x || list_any q xs) ≡ true
-    by true is h go = ap (λ c. c || list_any q xs) (f x is)
-    by false is h go = or_last (q x) (list_any q xs) (go h)
 
 -- an item of a name that is shown
 pub record Shown (items : List Item) (name : List ℕ) : Type 0 where
@@ -50,25 +44,20 @@ shown_item (x ∷ xs) name h = by (bytes_eq x.name name) refl h (λ l. shown_ite
       there = ap (λ c. c || has_item xs x)
           (and_both (bytes_eq x.name x.name) (kind_number x.kind == kind_number x.kind) (same_name x.name x.name refl)
           (same_self (kind_number x.kind)));
-      named = name_same x.name name is;
+      named = same_text x.name name is;
     }
     by false is h go =
         let s = go h in
         record { item = s.item; there = or_last (is_item s.item x) (has_item xs s.item) s.there; named = s.named }
 
 -- an item that stands has its name among the entries
-item_named : (es : List Entry) (item : Item) → has_direct_item es item ≡ true → has_direct es item.name ≡ true
+pub item_named : (es : List Entry) (item : Item) → has_direct_item es item ≡ true → has_direct es item.name ≡ true
 item_named es item h =
     and_both (is_file_name item.name) (list_any (λ e. bytes_eq e.path item.name) es)
-    (and_left (is_file_name item.name) (list_any (λ e. is_item item (item_of e)) es) h)
-    (any_wider (λ e. is_item item (item_of e)) (λ e. bytes_eq e.path item.name)
+    (and_left (is_file_name item.name) (list_any (λ e. is_item item (shown_item_of e)) es) h)
+    (any_wider (λ e. is_item item (shown_item_of e)) (λ e. bytes_eq e.path item.name)
     (λ e is. and_left (bytes_eq e.path item.name) _ is) es
-    (and_right (is_file_name item.name) (list_any (λ e. is_item item (item_of e)) es) h))
-
-pub same_test : (a b : Bool) → (a ≡ true → b ≡ true) → (b ≡ true → a ≡ true) → a ≡ b
-same_test true b f g = sym (f refl)
-same_test false true f g = g refl
-same_test false false f g = refl
+    (and_right (is_file_name item.name) (list_any (λ e. is_item item (shown_item_of e)) es) h))
 
 -- a listing in whose whole time a folder had these entries
 shows_entries : (p : ℕ) (old new : List Event) (spot : Spot) (items : List Item) (d : ShowsDirectory p old new (inner_at spot []) items) →

@@ -1,6 +1,8 @@
 -- A process that has the gate lives at its own steps, and up to each of them images stay.
 use Rattle.std.proofs.Common.{◌≡◌, ◌⊎◌, inl, inr, ℕ, Bool, true, false, not, ◌||◌, ◌==◌, cond, Some, List, [], ◌∷◌, ◌++◌, append_assoc, refl, sym, ap, subst, ◌∙◌}
 use Rattle.std.specs.List.{list_any}
+use Rattle.std.proofs.lemmas.Bool.{and_parts}
+use Rattle.plain_laws.proofs.Booleans.{clash}
 use Rattle.dir_model.specs.declared.area.Area.TheVariants.{Images}
 use Rattle.dir_model.specs.declared.event.Event.{Event}
 use Rattle.dir_model.specs.declared.spot.Spot.{Spot}
@@ -16,25 +18,15 @@ use Rattle.dir_model.proofs.Chains.{states_next-append, state_after-push}
 use Rattle.dir_model.proofs.Lists.{and_both, not_true}
 use Rattle.dir_rules.specs.Standing.{is_in}
 use Rattle.dir_rules.specs.Conforms.{seen_of}
-use Rattle.dir_rules.proofs.Unborn.{unborn_saw_nothing}
 use Rattle.lifecycle.specs.Executions.{IsConforming}
-use Rattle.lifecycle.proofs.Handles.{both, clash}
 use Rattle.lifecycle.proofs.Lives.{begun_stays as begun_still}
 use Rattle.lifecycle.proofs.Draws.{conforming_left}
 use Rattle.folder_contents.specs.UnderGate.{keeps_handles, shares_images, KnowsAlong, StaysAlong}
 use Rattle.folder_contents.proofs.Along.{Happens, one_of, happens, whose}
 use Rattle.folder_contents.proofs.Known.{alive_at}
-use Rattle.folder_contents.proofs.GateKept.{gate_is_kept}
+use Rattle.folder_contents.proofs.GateKept.{gate_is_kept, begun_holder}
 use Rattle.folder_contents.proofs.UnderGate.{images_stay_shared}
 use Rattle.gate_reading.specs.Gate.{HasGate}
-
--- who has the gate has begun
-begun_holder : (h : List Event) (p : ℕ) → IsConforming h → shares_images (seen_of p h) ≡ true → has_begun (state_after h).namespace p ≡ true
-begun_holder h p conforming held = by (has_begun (state_after h).namespace p) refl
-  where
-    by : (b : Bool) → has_begun (state_after h).namespace p ≡ b → b ≡ true
-    by true e = refl
-    by false e = ap shares_images (sym (unborn_saw_nothing p h conforming.run e)) ∙ held
 
 -- a step that gives up no handle ends no process
 ended_same : (n : Namespace) (p : ℕ) (request : Request) (reply : Reply) → keeps_handles request ≡ true → is_kill request ≡ false →
@@ -50,7 +42,7 @@ ended_same n p request reply keeps alive = refl
 lives_on : (n : Namespace) (p q : ℕ) (request : Request) (reply : Reply) → keeps_handles request ≡ true → is_kill request ≡ false →
     lives n q ≡ true → lives (namespace_replied n p request reply) q ≡ true
 lives_on n p q request reply keeps alive living =
-    let x = both (has_begun n q) (not (has_ended n q)) living in
+    let x = and_parts (has_begun n q) (not (has_ended n q)) living in
     and_both (has_begun (namespace_replied n p request reply) q) (not (has_ended (namespace_replied n p request reply) q))
     (begun_still n p q request reply x.0)
     (ap (λ (l : List ℕ). not (list_any (λ r. r == q) l)) (ended_same n p request reply keeps alive) ∙ x.1)

@@ -20,12 +20,12 @@ use Rattle.folder_contents.specs.Entries.{is_inside, entry_of, entries_in, file_
 use Rattle.folder_contents.specs.UnderGate.{keeps_handles}
 use Rattle.folder_contents.proofs.Entries.{content_is}
 use Rattle.gate_reading.specs.Gate.{HasGate}
-use Rattle.gate_reading.specs.Files.{is_plain, FindsFrom, FilesStay, NoneComes}
+use Rattle.gate_reading.specs.Files.{is_outside_stage1, FindsFrom, FilesStay, NoneComes}
 use Rattle.gate_reading.proofs.OwnSteps.{stays_to}
 use Rattle.gate_reading.proofs.PlainPaths.{plain_own}
 
 -- what file stands at a path the folder's entries tell
-abbrev is_file_at : List ℕ → Entry → Bool
+abbrev pub is_file_at : List ℕ → Entry → Bool
 is_file_at path e = bytes_eq e.path path && not (is_dir e.node)
 
 pub has_file_is : (k : ℕ) (path : List ℕ) (es : List TreeEntry) → has_file es k path ≡ list_any (is_file_at path) (entries_in k es)
@@ -45,7 +45,7 @@ pub file_told : (k : ℕ) (path : List ℕ) (es : List TreeEntry) → bytes_in e
 file_told k path es = ap (λ b. cond b (Some (content es k path)) None) (has_file_is k path es)
     ∙ ap (λ (l : List ℕ). cond (list_any (is_file_at path) (entries_in k es)) (Some l) None) (content_is k path es)
 
-same_file : (s t : DirState) (inner : Inner) (k : ℕ) → folder_at s.namespace inner.spot ≡ Some k →
+pub same_file : (s t : DirState) (inner : Inner) (k : ℕ) → folder_at s.namespace inner.spot ≡ Some k →
     folder_at t.namespace inner.spot ≡ Some k → entries_in k s.entries ≡ entries_in k t.entries → file_at s inner ≡ file_at t inner
 same_file s t inner k here there same =
     ap (bytes_in s.entries inner.path) here
@@ -56,7 +56,7 @@ same_file s t inner k here there same =
 
 -- at each own step the file is that of the beginning
 pub finds : (trace : List Event) → IsConforming trace → (p : ℕ) (before more later : List Event) (spot : Spot) (path : List ℕ) (folder : ℕ) →
-    trace ≡ (before ++ more) ++ later → is_in Images spot.area ≡ true → is_plain path ≡ true → HasGate p before more →
+    trace ≡ (before ++ more) ++ later → is_in Images spot.area ≡ true → is_outside_stage1 path ≡ true → HasGate p before more →
     folder_at (state_after before).namespace spot ≡ Some folder →
     FindsFrom p (inner_at spot path) (file_at (state_after before) (inner_at spot path)) before (before ++ more)
 finds trace conforming p before more later spot path folder whole is plain gate at x rest step split own =

@@ -12,9 +12,9 @@ use Rattle.dir_model.proofs.Moments.{at_within, at_grown}
 use Rattle.dir_rules.specs.declared.seen.Seen.{Seen}
 use Rattle.dir_rules.specs.Standing.{is_in}
 use Rattle.dir_trait.specs.DirCalls.{DirAt}
-use Rattle.dir_files.specs.Reads.{inner_at, file_at, TellsFile, IsPiece, Piece, joined, AreTold, IsShort, ReadsUp, WasMissing, StaysBetween}
-use Rattle.gate_reading.specs.Gate.{GoesOn}
-use Rattle.gate_reading.specs.Files.{is_plain, FindsFrom}
+use Rattle.dir_files.specs.Reads.{inner_at, file_at, TellsFile, IsPiece, Piece, joined_pieces, AreTold, IsShort, ReadsUp, WasMissing, FileStaysBetween}
+use Rattle.gate_reading.specs.Gate.{GoesOnUnderLock}
+use Rattle.gate_reading.specs.Files.{is_outside_stage1, FindsFrom}
 use Rattle.gate_reading.proofs.Callers.{file_found}
 
 module _ (me : ℕ) (inner : Inner) (old : List Event) where
@@ -35,20 +35,20 @@ module _ (me : ℕ) (inner : Inner) (old : List Event) where
 
   -- where none is found, none was read
   nothing_read : (most : ℕ) (bytes : List ℕ) (pieces : List Piece) {new : List Event} → 0 < most → FindsFrom me inner None old new →
-      bytes ≡ joined pieces → AreTold me inner old pieces new → (length bytes ≡ most) ⊎ IsShort pieces → ⊥
+      bytes ≡ joined_pieces pieces → AreTold me inner old pieces new → (length bytes ≡ most) ⊎ IsShort pieces → ⊥
   nothing_read most bytes [] {new} some finds whole told (inl full) = let e = ap length whole in omega (arith, e, full, some)
   nothing_read most bytes [] {new} some finds whole told (inr short) = short
   nothing_read most bytes (p ∷ earlier) {new} some finds whole told ended =
       let e = told_grown earlier told.earlier in
-      found_at None (IsPiece (length (joined earlier)) p.room p.bytes) finds
+      found_at None (IsPiece (length (joined_pieces earlier)) p.room p.bytes) finds
       (at_within e.0 [] e.1 (sym (append-nil new)) told.told)
 
 -- by what its calls promised and what it knows
-module _ {asks : Request → Bool} {s : Seen} {old new : DirAt} (g : GoesOn asks s old new) (spot : Spot) (path : List ℕ)
-    (is : is_in Images spot.area ≡ true) (plain : is_plain path ≡ true) (there : stands (state_after old.trace).namespace spot ≡ true) where
+module _ {asks : Request → Bool} {s : Seen} {old new : DirAt} (g : GoesOnUnderLock asks s old new) (spot : Spot) (path : List ℕ)
+    (is : is_in Images spot.area ≡ true) (plain : is_outside_stage1 path ≡ true) (there : stands (state_after old.trace).namespace spot ≡ true) where
   -- a file that was read to its end or to a limit, and is that part of one that stays, is that part of the one that stood there
   pub read_is : {most : ℕ} {bytes : List ℕ} → 0 < most → ReadsUp (inner_at spot path) most old new bytes
-      → ((file : List ℕ) → StaysBetween (inner_at spot path) file old new → bytes ≡ take most file) →
+      → ((file : List ℕ) → FileStaysBetween (inner_at spot path) file old new → bytes ≡ take most file) →
       option_map (take most) (file_at (state_after old.trace) (inner_at spot path)) ≡ Some bytes
   read_is {most} {bytes} some r whole = by (file_at (state_after old.trace) (inner_at spot path)) (file_found g spot path is plain there)
     where

@@ -21,7 +21,7 @@ goes_on request = not (is_begin request) && keeps_handles request
 
 -- between these two moments of a conforming execution a process makes only such requests, and at the first it knows that it has
 -- the gate
-pub record GoesOn (asks : Request → Bool) (s : Seen) (old new : DirAt) : Type 0 where
+pub record GoesOnUnderLock (asks : Request → Bool) (s : Seen) (old new : DirAt) : Type 0 where
   pub conforms : IsConforming new.trace
   pub tied : IsTied old.process old.trace s
   pub shares : shares_images s ≡ true

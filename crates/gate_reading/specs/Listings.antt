@@ -22,12 +22,12 @@ abbrev pub has_direct : List Entry → List ℕ → Bool
 has_direct es name = is_file_name name && list_any (λ e. bytes_eq e.path name) es
 
 -- what a listing shows of an entry that stands directly in the folder
-abbrev pub item_of : Entry → Item
-item_of e = record { name = e.path; kind = kind_of e.node }
+abbrev pub shown_item_of : Entry → Item
+shown_item_of e = record { name = e.path; kind = kind_of e.node }
 
 -- something of this item's name and kind stands directly in the folder
 abbrev pub has_direct_item : List Entry → Item → Bool
-has_direct_item es item = is_file_name item.name && list_any (λ e. is_item item (item_of e)) es
+has_direct_item es item = is_file_name item.name && list_any (λ e. is_item item (shown_item_of e)) es
 
 -- the items show exactly the names of what stands directly in a folder with these entries, each with a kind that stands so
 pub record ShowsEntries (es : List Entry) (items : List Item) : Type 0 where

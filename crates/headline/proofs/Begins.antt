@@ -1,6 +1,7 @@
 -- With which intent a process begins: a call, several calls that begin nothing, and one after the other.
 use Rattle.std.proofs.Common.{◌≡◌, ◌⊎◌, inl, inr, ℕ, Bool, true, false, ◌||◌, Option, Some, List, [], ◌∷◌, ◌++◌, sym, ap, ◌∙◌, append_assoc}
 use Rattle.std.specs.List.{AllByRecursion}
+use Rattle.plain_laws.proofs.Booleans.{unused}
 use Rattle.dir_model.specs.declared.event.Event.{Event}
 use Rattle.dir_model.specs.declared.intent.Intent.{Intent}
 use Rattle.dir_model.specs.declared.request.Request.{Request}
@@ -10,9 +11,6 @@ use Rattle.dir_model.specs.Calls.{CallStep, TookPlace, LeftNothing, Extends, eve
 use Rattle.dir_model.proofs.Lists.{all_both}
 use Rattle.headline.specs.Keeping.{BeginsAs}
 
-never : {X : Type 0} → true ≡ false → X
-never {X} clash = cc
-
 module _ (intent : Option Intent) (me : ℕ) where
   abbrev Fits : Event → Type 0
   Fits e = (i : Intent) → is_foreign me e ≡ false → e.request ≡ Begin i → intent ≡ Some i
@@ -20,13 +18,13 @@ module _ (intent : Option Intent) (me : ℕ) where
   -- others' begins, and own requests that are none, are nothing to it
   foreign_fits : (es : List Event) → AllByRecursion (λ e. is_foreign me e ≡ true) es → AllByRecursion Fits es
   foreign_fits [] a = tt
-  foreign_fits (e ∷ es) a = (λ i own is. never (sym a.0 ∙ own), foreign_fits es a.1)
+  foreign_fits (e ∷ es) a = (λ i own is. unused (sym a.0 ∙ own), foreign_fits es a.1)
 
   asked_fits : (asks : Request → Bool) → ((r : Request) → asks r ≡ true → is_begin r ≡ false) → (es : List Event) →
       AllByRecursion (λ e. (is_foreign me e || asks e.request) ≡ true) es → AllByRecursion Fits es
   asked_fits asks none [] a = tt
   asked_fits asks none (e ∷ es) a =
-      (λ i own is. never (sym (ap is_begin is) ∙ none e.request (sym (ap (λ b. b || asks e.request) own) ∙ a.0)), asked_fits asks none es a.1)
+      (λ i own is. unused (sym (ap is_begin is) ∙ none e.request (sym (ap (λ b. b || asks e.request) own) ∙ a.0)), asked_fits asks none es a.1)
 
   -- one call
   pub call_begins : {old new : List Event} {request : Request} {reply : Reply} → CallStep me old request reply new → ((i : Intent) → request ≡ Begin i → intent ≡ Some i) → BeginsAs intent me old new

@@ -1,5 +1,6 @@
 -- The headline of legal executions.
-use Rattle.std.proofs.Common.{◌≡◌, ℕ, Option, Some, List, ◌++◌, unwrap_or, sym, ap, subst, ◌∙◌}
+use Rattle.std.proofs.Common.{ℕ, List, ◌++◌, subst}
+use Rattle.plain_laws.proofs.Numbers.{one_of_two}
 use Rattle.dir_model.specs.declared.event.Event.{Event}
 use Rattle.lifecycle.specs.PodMachine.{pod_state, owner_of}
 use Rattle.lifecycle.specs.Ownership.{IsHeldByItsOwner}
@@ -12,10 +13,6 @@ use Rattle.pod_build.specs.LegalExecutions.{IsLegal}
 use Rattle.headline.proofs.Standing.{legal_before, makers_are, pods_stand, apps_start}
 use Rattle.headline.specs.Headline.{Headline, HeadlineHolds, HasOneOwner}
 use Rattle.headline.specs.Keeping.{AllKeep}
-
--- two that hold a pod are its owner, and so one
-one_of_two : (o : Option ℕ) (p q : ℕ) → o ≡ Some p → o ≡ Some q → p ≡ q
-one_of_two o p q first second = ap (λ x. unwrap_or x p) (sym first ∙ second)
 
 one_owner : (name : List ℕ) (trace : List Event) → IsConforming trace → HasOneOwner name trace
 one_owner name trace conforming =

@@ -1,6 +1,7 @@
 -- What is read of a pod is what its maker made.
 use Rattle.std.proofs.Common.{◌≡◌, ℕ, Bool, true, false, not, ◌&&◌, cond, bytes_eq, Option, Some, None, is_some, filter, List, [], ◌∷◌, ◌++◌, take, drop, refl, sym, ap, subst, ◌∙◌}
 use Rattle.std.specs.List.{flat_map}
+use Rattle.plain_laws.proofs.Texts.{same_text}
 use Rattle.dir_model.specs.declared.event.Event.{Event}
 use Rattle.dir_model.specs.declared.item.Inner.{Inner}
 use Rattle.dir_model.specs.declared.tree.TreeEntry.{TreeEntry}
@@ -10,11 +11,10 @@ use Rattle.dir_model.specs.Calls.{event}
 use Rattle.dir_model.specs.State.{DirState, folder_at}
 use Rattle.dir_model.specs.Trace.{state_after}
 use Rattle.dir_model.specs.Trees.{bytes_of}
-use Rattle.dir_model.specs.Replies.{is_reply, is_state_reply, is_any_reply, is_read, is_apps_request, refused_in, file_refusal}
+use Rattle.dir_model.specs.Replies.{is_reply, is_state_reply, is_any_reply, is_read_answer, is_apps_request, refused_in, file_refusal}
 use Rattle.dir_rules.specs.declared.seen.Entry.{Entry}
 use Rattle.lifecycle.proofs.Deletions.{reply_at}
 use Rattle.lifecycle.proofs.Draws.{conforming_left}
-use Rattle.lifecycle.proofs.Places.{name_same}
 use Rattle.folder_contents.specs.Entries.{entries_in, file_bytes}
 use Rattle.folder_contents.proofs.ReadFiles.{reads_tell_files}
 use Rattle.folder_contents.specs.Filled.{is_note, lasting}
@@ -33,7 +33,7 @@ module _ (path : List ℕ) (lasts : is_note path ≡ false) where
     where
       by : (b : Bool) → is_note e.path ≡ b → (c : Bool) → here e ≡ c → filter here (lasting es) ≡ filter here es →
           filter here (cond (not b) (e ∷ lasting es) (lasting es)) ≡ cond c (e ∷ filter here es) (filter here es)
-      by true noted true same go = let clash : true ≡ false = sym noted ∙ (ap is_note (name_same e.path path same) ∙ lasts) in cc
+      by true noted true same go = let clash : true ≡ false = sym noted ∙ (ap is_note (same_text e.path path same) ∙ lasts) in cc
       by true noted false apart go = go
       by false stays c is go = ap (λ d. cond d (e ∷ filter here (lasting es)) (filter here (lasting es))) is ∙ ap (λ (l : List Entry). cond c (e ∷ l) l) go
 
@@ -49,7 +49,7 @@ read_by path es None so is = cc
 read_where : (s : DirState) (p : ℕ) (inner : Inner) (at room : ℕ) (bytes : List ℕ) → is_apps_request s (ReadIn inner at room) ≡ false →
     is_reply s p (ReadIn inner at room) (Read bytes) ≡ true → (folder : ℕ) × (folder_at s.namespace inner.spot ≡ Some folder)
 read_where s p inner at room bytes plain is =
-    read_by inner.path s.entries (folder_at s.namespace inner.spot) (is_read s (ReadIn inner at room) bytes)
+    read_by inner.path s.entries (folder_at s.namespace inner.spot) (is_read_answer s (ReadIn inner at room) bytes)
     (sym (ap (λ b. cond b (is_any_reply s p (ReadIn inner at room) (Read bytes)) (is_state_reply s p (ReadIn inner at room) (Read bytes))) plain) ∙ is)
 
 pub pods_read : (trace : List Event) → IsLegal trace → PodsReadAsMade trace

@@ -18,7 +18,7 @@ use Rattle.lifecycle.specs.Executions.{IsConforming}
 use Rattle.folder_contents.specs.Handing.{hands_over}
 use Rattle.folder_contents.proofs.Along.{happens, conforming_to}
 use Rattle.folder_contents.proofs.Spots.{in_area}
-use Rattle.folder_contents.specs.Filled.{is_filled, lasting, IsFilled}
+use Rattle.folder_contents.specs.Filled.{is_after_handover, lasting, KeepsMadeContents}
 use Rattle.folder_contents.proofs.Comes.{pods_are_filled}
 use Rattle.pod_plan.specs.Pods.{names_of}
 use Rattle.pod_build.specs.Handovers.{is_handed_to}
@@ -47,13 +47,13 @@ makers_are trace each before p from to later is out hands =
     let on : is_handed_to to.area ≡ true = handed_on to.area (ap (λ a. hands_over a to.area) area ∙ hands) in
     (each p).so before before later from to refl is (ap (λ b. b && is_handed_to to.area) out ∙ on)
 
-hands_to_filled : (a : Area) → is_filled a ≡ true → hands_over Prepare a ≡ true
+hands_to_filled : (a : Area) → is_after_handover a ≡ true → hands_over Prepare a ≡ true
 hands_to_filled Prepared is = refl
 hands_to_filled Run is = refl
 hands_to_filled a is = cc
 
 -- who handed a pod over made it faithfully
-made_by : {trace : List Event} {folder : ℕ} → IsLegal trace → (f : IsFilled trace folder) → IsFaithfulBuild f.process f.before
+made_by : {trace : List Event} {folder : ℕ} → IsLegal trace → (f : KeepsMadeContents trace folder) → IsFaithfulBuild f.process f.before
 made_by {trace} {folder} legal f =
     legal.makers f.before f.process f.from f.to f.later f.moved (ap (is_in Prepare) f.left) (ap (λ a. hands_over a f.to.area) f.left ∙ hands_to_filled f.to.area f.reached)
 
@@ -88,4 +88,4 @@ apps_start trace legal before later p inner is run mark =
     let found = made_where (state_after before) p inner (happens before e conforms).is in
     let there : folder_at (state_after (then_marked before p inner)).namespace inner.spot ≡ Some found.0 = ap (λ (s : DirState). folder_at s.namespace inner.spot) (state_after-push before e) ∙ found.1 in
     let area : inner.spot.area ≡ Run = sym (in_area Run inner.spot.area run) in
-    record { folder = found.0; there = there; filled = pods_stand (then_marked before p inner) now inner.spot found.0 (ap is_filled area) there }
+    record { folder = found.0; there = there; filled = pods_stand (then_marked before p inner) now inner.spot found.0 (ap is_after_handover area) there }

@@ -13,12 +13,12 @@ use Rattle.dir_model.specs.Trace.{state_after}
 use Rattle.dir_rules.specs.Marks.{is_started_mark}
 use Rattle.dir_rules.specs.Standing.{is_in}
 use Rattle.folder_contents.specs.Entries.{file_bytes}
-use Rattle.folder_contents.specs.Filled.{is_filled, is_note, lasting_after, IsFilled}
+use Rattle.folder_contents.specs.Filled.{is_after_handover, is_note, lasting_after, KeepsMadeContents}
 use Rattle.pod_build.specs.FaithfulBuild.{IsFaithfulBuild}
 
 -- its maker made the pod faithfully and handed it over, and the folder holds exactly that, but for what is noted while it runs
 pub record IsFaithfullyFilled (trace : List Event) (folder : ℕ) : Type 0 where
-  pub filled : IsFilled trace folder
+  pub filled : KeepsMadeContents trace folder
   pub made : IsFaithfulBuild filled.process filled.before
   pub holds : lasting_after folder trace ≡ made.built.making.entries
 
@@ -31,7 +31,7 @@ pub record StandsFaithfully (trace : List Event) (spot : Spot) : Type 0 where
 -- each pod in prepared or in run does
 abbrev pub PodsStandFaithfully : List Event → Type 0
 PodsStandFaithfully trace =
-    (spot : Spot) (folder : ℕ) → is_filled spot.area ≡ true → folder_at (state_after trace).namespace spot ≡ Some folder →
+    (spot : Spot) (folder : ℕ) → is_after_handover spot.area ≡ true → folder_at (state_after trace).namespace spot ≡ Some folder →
     IsFaithfullyFilled trace folder
 
 -- the trace up to the making of an app's mark in a pod in run, and that
@@ -54,5 +54,5 @@ pub record IsAsMade (trace : List Event) (inner : Inner) (at room : ℕ) (bytes 
 abbrev pub PodsReadAsMade : List Event → Type 0
 PodsReadAsMade trace =
     (before later : List Event) (p : ℕ) (inner : Inner) (at room : ℕ) (bytes : List ℕ) → trace ≡ before ++ event p (ReadIn inner at room) (Read bytes) ∷ later →
-    is_filled inner.spot.area ≡ true → is_note inner.path ≡ false → is_apps_request (state_after before) (ReadIn inner at room) ≡ false →
+    is_after_handover inner.spot.area ≡ true → is_note inner.path ≡ false → is_apps_request (state_after before) (ReadIn inner at room) ≡ false →
     IsAsMade before inner at room bytes

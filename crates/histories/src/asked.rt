@@ -10,11 +10,11 @@ fn standing(alloc: Global, intent: Intent) -> Standing {
     Standing {
         intent: Some(intent),
         made: false,
-        gated: false,
+        embryo_under_lock: false,
         holdings: Sequence::from_vec(Vec::new(alloc)),
         moves: Sequence::from_vec(Vec::new(alloc)),
         looked: Sequence::from_vec(Vec::new(alloc)),
-        cleared: Sequence::from_vec(Vec::new(alloc)),
+        seen_unowned_under_claim: Sequence::from_vec(Vec::new(alloc)),
     }
 }
 

@@ -13,14 +13,14 @@ use Rattle.dir_model.proofs.Lists.{and_left, and_right, and_both}
 use Rattle.dir_trait.specs.declared.bundle.BundleItem.{BundleItem}
 use Rattle.dir_trait.specs.declared.bundle.BundleKind.{BundleKind}
 use Rattle.dir_trait.specs.declared.bundle.BundleKind.TheVariants.{Dir, File, Link, Other}
-use Rattle.dir_trait.specs.Bundles.{IsListing}
-use Rattle.host_files.specs.Shown.{shown_item, is_name, folder_of_kind, folder_name, folder_names}
+use Rattle.dir_trait.specs.Bundles.{IsBundleListing}
+use Rattle.host_files.specs.Shown.{shown_item, is_folder_name, folder_of_kind, folder_name, folder_names}
 
 pub names_shown : (entries : List BundleItem) → item_names (map shown_item entries) ≡ map (λ (e : BundleItem). e.name) entries
 names_shown [] = refl
 names_shown (e ∷ es) = ap (λ ns. e.name ∷ ns) (names_shown es)
 
-pub order_shown : (entries : List BundleItem) (items : List Item) → items ≡ map shown_item entries → IsListing entries → IsStrictlySortedBy (slice_cmp nat_cmp) (item_names items)
+pub order_shown : (entries : List BundleItem) (items : List Item) → items ≡ map shown_item entries → IsBundleListing entries → IsStrictlySortedBy (slice_cmp nat_cmp) (item_names items)
 order_shown entries items e ordered = subst (λ ns. IsStrictlySortedBy (slice_cmp nat_cmp) ns) (sym (ap item_names e ∙ names_shown entries)) ordered
 
 pub none_ordered : (items : List Item) → items ≡ [] → IsStrictlySortedBy (slice_cmp nat_cmp) (item_names items)
@@ -41,11 +41,11 @@ within n h = grind (arith, nat_tests)
 from_within : (n : ℕ) → nat_le n 71 ≡ true → n ≤ 71
 from_within n h = grind (arith, nat_tests)
 
-is_name-true : (text : List ℕ) → IsName text → is_name text ≡ true
+is_name-true : (text : List ℕ) → IsName text → is_folder_name text ≡ true
 is_name-true text h =
     and_both _ _ (reaches (length text) h.0) (and_both _ _ (within (length text) h.1) (list_all-from_AllPass is_name_byte text h.2))
 
-IsName-from_test : (text : List ℕ) → is_name text ≡ true → IsName text
+IsName-from_test : (text : List ℕ) → is_folder_name text ≡ true → IsName text
 IsName-from_test text h =
     let rest = and_right (nat_le 1 (length text)) (nat_le (length text) 71 && list_all is_name_byte text) h in (
       from_reaches (length text) (and_left (nat_le 1 (length text)) (nat_le (length text) 71 && list_all is_name_byte text) h),
@@ -54,12 +54,12 @@ IsName-from_test text h =
     )
 
 module _ (text : List ℕ) where
-  unnamed : (b : Bool) (o : Option (List ℕ)) → is_name text ≡ b → o ≡ None → (IsName text → IsSome o) → o ≡ cond b (Some text) None
+  unnamed : (b : Bool) (o : Option (List ℕ)) → is_folder_name text ≡ b → o ≡ None → (IsName text → IsSome o) → o ≡ cond b (Some text) None
   unnamed false o e none some = none
   unnamed true o e none some = absurd (true≢false (sym (subst IsSome none (some (IsName-from_test text e)))))
 
-  pub name_told : (o : Option (List ℕ)) → (IsSome o ↔ IsName text) → IfSome o (λ n. n ≡ text) → o ≡ cond (is_name text) (Some text) None
-  name_told None some bytes = unnamed (is_name text) None refl refl some.1
+  pub name_told : (o : Option (List ℕ)) → (IsSome o ↔ IsName text) → IfSome o (λ n. n ≡ text) → o ≡ cond (is_folder_name text) (Some text) None
+  name_told None some bytes = unnamed (is_folder_name text) None refl refl some.1
   name_told (Some n) some bytes = ap Some bytes ∙ sym (ap (λ b. cond b (Some text) None) (is_name-true text (some.0 refl)))
 
 -- the folders of a listing are in its order
@@ -69,7 +69,7 @@ told_by true name = inr refl
 told_by false name = inl refl
 
 told : (kind : BundleKind) (name : List ℕ) → (folder_of_kind kind name ≡ None) ⊎ (folder_of_kind kind name ≡ Some name)
-told Dir name = told_by (is_name name) name
+told Dir name = told_by (is_folder_name name) name
 told File name = inl refl
 told Link name = inl refl
 told Other name = inl refl
@@ -89,7 +89,7 @@ keeps : (P : List ℕ → Type 0) (entries : List BundleItem) → AllByRecursion
 keeps P [] all = all
 keeps P (e ∷ es) all = keep_one e.name (folder_names es) P (folder_name e) (told e.kind e.name) all.0 (keeps P es all.1)
 
-pub folders_ordered : (entries : List BundleItem) → IsListing entries → IsStrictlySortedBy (slice_cmp nat_cmp) (folder_names entries)
+pub folders_ordered : (entries : List BundleItem) → IsBundleListing entries → IsStrictlySortedBy (slice_cmp nat_cmp) (folder_names entries)
 unfolding IsStrictlySortedBy
 folders_ordered [] ordered = ordered
 folders_ordered (e ∷ es) ordered =

@@ -20,12 +20,12 @@ abbrev pub shown_item : BundleItem → Item
 shown_item entry = record { name = entry.name; kind = shown_kind entry.kind }
 
 -- the text is a folder's name
-abbrev pub is_name : List ℕ → Bool
-is_name text = nat_le 1 (length text) && (nat_le (length text) 71 && list_all is_name_byte text)
+abbrev pub is_folder_name : List ℕ → Bool
+is_folder_name text = nat_le 1 (length text) && (nat_le (length text) 71 && list_all is_name_byte text)
 
 -- a directory with such a name is a folder of the area, and nothing else is
 abbrev pub folder_of_kind : BundleKind → List ℕ → Option (List ℕ)
-folder_of_kind Dir name = cond (is_name name) (Some name) None
+folder_of_kind Dir name = cond (is_folder_name name) (Some name) None
 folder_of_kind kind name = None
 
 abbrev pub folder_name : BundleItem → Option (List ℕ)

@@ -3,9 +3,9 @@
 ghost use Rattle.std.specs.Prelude.{◌≡◌, ◌≢◌, ◌≤◌, ◌++◌, ◌↔◌, min, length, take, drop, string_bytes, IsOk, IfOk, IfErr, OnOk, IsTrue, IsSomeAnd};
 ghost use Rattle.std.specs.Fs.{file_type, IsDir, IsFile, IsSymlink};
 ghost use Rattle.std.specs.IoError.{error_kind};
-ghost use Rattle.dir_trait.specs.Bundles.{IsListing};
+ghost use Rattle.dir_trait.specs.Bundles.{IsBundleListing};
 ghost use Rattle.host_files.specs.Refusals.{bundle_error};
-ghost use Rattle.host_files.specs.Readings.{GoesOn, StaysOpened};
+ghost use Rattle.host_files.specs.Readings.{ReadsOpenedFile, StaysOpened};
 
 use crate::links::{check_way, look};
 use dir_trait::{BundleError, BundleItems, BundleKind, FileName, NoMemory, listing_of};
@@ -80,7 +80,7 @@ fn file_of_reading<R: Files<File = File>>(
     named: &str,
     at: u64,
 ) -> Result<OpenedFile, BundleError>
-    ensures kept { GoesOn opened path.now at result }
+    ensures kept { ReadsOpenedFile opened path.now at result }
     ensures path { IfOk result (λ opened. string_bytes opened.path ≡ path.now) }
 {
     if let Some(opened) = opened {
@@ -300,7 +300,7 @@ pub fn list_folder<R: Files + AllocGlobal + Clone + Drop>(
     path: &str,
     shows: Shows,
 ) -> Result<BundleItems, BundleError>
-    ensures { IfOk result IsListing }
+    ensures { IfOk result IsBundleListing }
 {
     let mut kinds = BTreeMap::new(alloc);
     let entries = fs::read_dir(rt, path).map_err(refusal)?;

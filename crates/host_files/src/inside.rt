@@ -2,7 +2,7 @@
 ghost use Rattle.std.specs.Prelude.{◌≡◌, ◌≢◌, ◌⊎◌, ◌↔◌, true, [], Err, IsOk, IfErr, OnOk};
 ghost use Rattle.std.specs.Fs.{file_type, IsFile, new_options, with_read, with_append};
 ghost use Rattle.std.specs.Io.KnownBytes.{Appends};
-ghost use Rattle.dir_trait.specs.DirCalls.{IsFilled};
+ghost use Rattle.dir_trait.specs.DirCalls.{KeepsUnreadRoom};
 ghost use Rattle.dir_model.specs.Replies.{is_fault};
 ghost use Rattle.host_files.specs.Places.{has_dots};
 
@@ -161,7 +161,7 @@ pub fn append<R: Files<File = File>>(
 /// Fills the room with the bytes of an open file from a place on. A read that fails midway leaves the
 /// room as it was, so the bytes come into a room of their own first.
 fn read_opened(alloc: Global, file: &File, at: u64, room: &mut [u8]) -> Result<usize, DirError>
-    ensures filled { IsFilled room.old result room.new }
+    ensures filled { KeepsUnreadRoom room.old result room.new }
     ensures refusals { IfErr result (λ e. is_fault e ≡ true) }
 {
     let mut bytes = Vec::from_elem(alloc, 0, room.len()).map_err(short)?;
@@ -184,7 +184,7 @@ pub fn read<R: Files<File = File>>(
 ) -> Result<usize, DirError>
     ensures dots { has_dots inner.now ≡ true → result ≡ Err DirError.Missing }
     ensures below { OnOk result (inner.now ≢ []) }
-    ensures filled { IsFilled room.old result room.new }
+    ensures filled { KeepsUnreadRoom room.old result room.new }
     ensures refusals { IfErr result (λ e. (e ≡ DirError.Missing) ⊎ (is_fault e ≡ true)) }
 {
     match open_regular(rt, alloc, &for_reading(), root, reached, spot, inner) {

@@ -2,7 +2,7 @@
 // system reads it, links and all.
 ghost use Rattle.std.specs.Prelude.{◌≡◌, ◌↔◌, length, IsOk, IfErr, IfOk};
 ghost use Rattle.std.specs.Fs.{file_type, IsDir};
-ghost use Rattle.dir_trait.specs.Bundles.{IsListing};
+ghost use Rattle.dir_trait.specs.Bundles.{IsBundleListing};
 ghost use Rattle.host_files.specs.Named.{way_start};
 
 use crate::files::{Shows, list_folder, refusal};
@@ -68,7 +68,7 @@ pub fn list_bundle<R: Files + AllocGlobal + Clone + Drop>(
     path: &str,
     named: &str,
 ) -> Result<BundleItems, BundleError>
-    ensures { IfOk result IsListing }
+    ensures { IfOk result IsBundleListing }
 {
     let found = look(rt, path, named)?;
     check_directory(&found)?;

@@ -5,7 +5,7 @@ ghost use Rattle.std.specs.Cmp.Lexicographic.{slice_cmp};
 ghost use Rattle.std.specs.List.Sorted.{IsStrictlySortedBy};
 ghost use Rattle.dir_model.specs.Listings.{item_names};
 ghost use Rattle.dir_model.specs.Replies.{is_fault};
-ghost use Rattle.dir_trait.specs.Bundles.{IsListing};
+ghost use Rattle.dir_trait.specs.Bundles.{IsBundleListing};
 ghost use Rattle.host_files.specs.Apps.{LiesInApp};
 ghost use Rattle.host_files.specs.Places.{has_dots};
 ghost use Rattle.host_files.specs.Shown.{shown_item, folder_name, folder_names};
@@ -47,7 +47,7 @@ fn shown_items(alloc: Global, items: &BundleItems) -> Result<Vec<Item>, AllocErr
 
 /// What a listing of the folder tells, in the same order.
 fn shown_listing(alloc: Global, listing: &BundleItems) -> Result<Items, DirError>
-    requires { IsListing listing.now }
+    requires { IsBundleListing listing.now }
     ensures items { IfOk result (λ items. items ≡ map shown_item listing.now) }
     ensures ordered { IfOk result (λ items. IsStrictlySortedBy (slice_cmp nat_cmp) (item_names items)) }
     ensures refusals { IfErr result (λ e. e ≡ DirError.NoMemory) }
@@ -66,7 +66,7 @@ fn list_opened<R: Files + AllocGlobal + Clone + Drop>(
     directory: &File,
     shows: Shows,
 ) -> Result<BundleItems, DirError>
-    ensures ordered { IfOk result IsListing }
+    ensures ordered { IfOk result IsBundleListing }
     ensures refusals { IfErr result (λ e. is_fault e ≡ true) }
 {
     let number = directory.as_raw_fd();
@@ -188,7 +188,7 @@ fn folder_names(alloc: Global, items: &BundleItems) -> Result<Vec<Name>, AllocEr
 
 /// The folders among the entries of an area, in the same order.
 fn shown_folders(alloc: Global, listing: &BundleItems) -> Result<Names, DirError>
-    requires { IsListing listing.now }
+    requires { IsBundleListing listing.now }
     ensures names { IfOk result (λ names. names ≡ folder_names listing.now) }
     ensures ordered { IfOk result (λ names. IsStrictlySortedBy (slice_cmp nat_cmp) names) }
     ensures refusals { IfErr result (λ e. e ≡ DirError.NoMemory) }

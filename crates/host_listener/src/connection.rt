@@ -1,6 +1,6 @@
 // One connection of a network.
 ghost use Rattle.std.specs.Prelude.{◌≡◌, ◌<◌, ◌≤◌, ◌++◌, ◌∷◌, [], true, length, take, IfOk, option_map};
-ghost use Rattle.host_listener.specs.Facts.{accepts, receives, sends, taken_for, told_of, Tells};
+ghost use Rattle.host_listener.specs.Facts.{accepts, receives, sends, taken_for, told_of_connection, TellsLinkFact};
 
 use crate::network::Network;
 use crate::refusals::{is_passing, refusal};
@@ -13,7 +13,7 @@ pub const PATIENCE: u64 = 10;
 
 // Takes the next connection, and asks again where that may help.
 fn accept_patiently<N: Network>(network: &mut N, listening: &N::Listening) -> io::Result<N::Stream>
-    ensures { N.observed ≡ true → Tells (N.facts network.old) (λ stream. accepts (N.number stream)) result (N.facts network.new) }
+    ensures { N.observed ≡ true → TellsLinkFact (N.facts network.old) (λ stream. accepts (N.number stream)) result (N.facts network.new) }
 {
     'tries: for _ in 0..u64::MAX {
         match network.accept(listening) {
@@ -53,7 +53,7 @@ fn receive_part<N: Network>(
 ) -> io::Result<usize>
     ensures most { IfOk result (λ n. n ≤ length room.new) }
     ensures same { N.number stream.new ≡ N.number stream.old }
-    ensures told { N.observed ≡ true → Tells (N.facts network.old) (λ n. receives (N.number stream.old) (take n room.new)) result (N.facts network.new) }
+    ensures told { N.observed ≡ true → TellsLinkFact (N.facts network.old) (λ n. receives (N.number stream.old) (take n room.new)) result (N.facts network.new) }
 {
     'tries: for _ in 0..u64::MAX {
         match network.receive(stream, room) {
@@ -69,7 +69,7 @@ fn receive_part<N: Network>(
 fn send_part<N: Network>(network: &mut N, stream: &mut N::Stream, piece: &[u8]) -> io::Result<usize>
     ensures most { IfOk result (λ n. n ≤ length piece.now) }
     ensures same { N.number stream.new ≡ N.number stream.old }
-    ensures told { N.observed ≡ true → Tells (N.facts network.old) (λ n. sends (N.number stream.old) (take n piece.now)) result (N.facts network.new) }
+    ensures told { N.observed ≡ true → TellsLinkFact (N.facts network.old) (λ n. sends (N.number stream.old) (take n piece.now)) result (N.facts network.new) }
 {
     'tries: for _ in 0..u64::MAX {
         match network.send(stream, piece) {
@@ -90,7 +90,7 @@ pub fn receive<N: Network>(
     ensures most { IfOk result (λ n. n ≤ length room.new) }
     ensures same { option_map N.number stream.new ≡ option_map N.number stream.old }
     ensures told { IfOk result (λ n. N.observed ≡ true
-        → N.facts network.new ≡ N.facts network.old ++ told_of (option_map N.number stream.old) (λ number. receives number (take n room.new) ∷ [])) }
+        → N.facts network.new ≡ N.facts network.old ++ told_of_connection (option_map N.number stream.old) (λ number. receives number (take n room.new) ∷ [])) }
 {
     match stream {
         Some(stream) => match receive_part(network, stream, room) {
@@ -113,7 +113,7 @@ pub fn send<N: Network>(
     ensures some { IfOk result (λ n. 0 < n) }
     ensures same { option_map N.number stream.new ≡ option_map N.number stream.old }
     ensures told { IfOk result (λ n. N.observed ≡ true
-        → N.facts network.new ≡ N.facts network.old ++ told_of (option_map N.number stream.old) (λ number. sends number (take n piece.now) ∷ [])) }
+        → N.facts network.new ≡ N.facts network.old ++ told_of_connection (option_map N.number stream.old) (λ number. sends number (take n piece.now) ∷ [])) }
 {
     match stream {
         Some(stream) => match send_part(network, stream, piece) {

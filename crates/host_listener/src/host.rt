@@ -53,7 +53,7 @@ impl<N: Network + Drop> Listener for SystemListener<N> {
     ghost use Rattle.std.specs.Prelude.{◌≡◌, ◌<◌, ◌≤◌, ◌++◌, ◌∷◌, true, false, [], None, length, take, is_some, option_map, IfOk, OnOk, OnErr, IsErrOf};
     ghost use Rattle.dir_model.specs.Causes.{Rose};
     ghost use Rattle.dir_host.specs.Counts.{Counts};
-    ghost use Rattle.host_listener.specs.Facts.{listens, receives, sends, taken_for, told_of};
+    ghost use Rattle.host_listener.specs.Facts.{listens, receives, sends, taken_for, told_of_connection};
 
     ghost observed = { false };
 
@@ -85,7 +85,7 @@ impl<N: Network + Drop> Listener for SystemListener<N> {
         ensures cause { IsErrOf result LinkError.Failed → Rose self.old.faults self.new.faults }
         ensures counts { Counts LinkError.Failed result self.old.faults self.new.faults }
         ensures taken { OnOk result (N.observed ≡ true
-            → N.facts self.new.network ≡ N.facts self.old.network ++ told_of (option_map N.number self.new.stream) (taken_for PATIENCE)) }
+            → N.facts self.new.network ≡ N.facts self.old.network ++ told_of_connection (option_map N.number self.new.stream) (taken_for PATIENCE)) }
         ensures current { OnOk result (is_some self.new.stream ≡ true) }
         ensures refused { OnErr result (self.new.stream ≡ self.old.stream) }
     {
@@ -104,7 +104,7 @@ impl<N: Network + Drop> Listener for SystemListener<N> {
         ensures counts { Counts LinkError.Failed result self.old.faults self.new.faults }
         ensures most { IfOk result (λ n. n ≤ length room.old) }
         ensures received { IfOk result (λ n. N.observed ≡ true
-            → N.facts self.new.network ≡ N.facts self.old.network ++ told_of (option_map N.number self.old.stream) (λ number. receives number (take n room.new) ∷ [])) }
+            → N.facts self.new.network ≡ N.facts self.old.network ++ told_of_connection (option_map N.number self.old.stream) (λ number. receives number (take n room.new) ∷ [])) }
         ensures same { option_map N.number self.new.stream ≡ option_map N.number self.old.stream }
     {
         match receive(&mut self.network, &mut self.stream, room) {
@@ -120,7 +120,7 @@ impl<N: Network + Drop> Listener for SystemListener<N> {
         ensures most { IfOk result (λ n. n ≤ length piece.now) }
         ensures some { IfOk result (λ n. 0 < length piece.now → 0 < n) }
         ensures sent { IfOk result (λ n. 0 < length piece.now → N.observed ≡ true
-            → N.facts self.new.network ≡ N.facts self.old.network ++ told_of (option_map N.number self.old.stream) (λ number. sends number (take n piece.now) ∷ [])) }
+            → N.facts self.new.network ≡ N.facts self.old.network ++ told_of_connection (option_map N.number self.old.stream) (λ number. sends number (take n piece.now) ∷ [])) }
         ensures same { option_map N.number self.new.stream ≡ option_map N.number self.old.stream }
     {
         if piece.is_empty() {

@@ -4,7 +4,7 @@ use Rattle.std.proofs.lemmas.List.{drop_all}
 use Rattle.std.specs.List.{slice_get}
 use Rattle.std.proofs.lemmas.List.Sums.{fold_more}
 use Rattle.std.proofs.lemmas.Option.{slice_get_within, get_or_from_slice_get}
-use Rattle.host_spawner.specs.Programs.{with_text, variable_of}
+use Rattle.host_spawner.specs.Programs.{with_text, last_variable_value}
 
 same_text : {X : Type 0} (x y : X) → Some x ≡ Some y → x ≡ y
 same_text x y e = cc
@@ -26,6 +26,6 @@ pub all_added : (args words all : List (List ℕ)) (i : ℕ) → length words �
 all_added args words all i past e = sym (ap (λ rest. args ++ rest) (drop_all i words past) ∙ append-nil args) ∙ e
 
 -- what is said of a variable once a text is added
-pub said_more : (env : List (List ℕ)) (i : ℕ) (text name : List ℕ) → slice_get env i ≡ Some text → variable_of (take (i + 1) env) name ≡ with_text name (variable_of (take i env) name) text
+pub said_more : (env : List (List ℕ)) (i : ℕ) (text name : List ℕ) → slice_get env i ≡ Some text → last_variable_value (take (i + 1) env) name ≡ with_text name (last_variable_value (take i env) name) text
 said_more env i text name at =
-    fold_more (with_text name) _ env i text (slice_get_within env i text at) ∙ ap (with_text name (variable_of (take i env) name)) (get_or_from_slice_get env i text text at)
+    fold_more (with_text name) _ env i text (slice_get_within env i text at) ∙ ap (with_text name (last_variable_value (take i env) name)) (get_or_from_slice_get env i text text at)

@@ -16,7 +16,7 @@ pub record IsAdded {C : Type 0} (old : List C) (number : ℕ) (new : List C) : T
   pub behind : new ≡ old ++ child ∷ []
 
 -- the child with this number was waited for, and ended with this code
-pub record HasEnded {P I O E : Type 0} (children : List (Child P I O E)) (number code : ℕ) : Type 0 where
+pub record ChildHasEnded {P I O E : Type 0} (children : List (Child P I O E)) (number code : ℕ) : Type 0 where
   pub child : Child P I O E
   pub at : slice_get children number ≡ Some child
   pub status : ExitStatus

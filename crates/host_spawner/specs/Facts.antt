@@ -16,17 +16,17 @@ pub record Start : Type 0 where
 abbrev pub start_of : {A : Type 0} → Command A → Start
 start_of c = record { program = command_program c; args = command_args c; alone = clears_env c; vars = command_var c; dir = command_dir c }
 
-pub data Fact : Type 0 where
+pub data SpawnFact : Type 0 where
   -- this stands at the path, where a link isn't followed
-  stands : List ℕ → Standing → Fact
+  stands : List ℕ → Standing → SpawnFact
   -- a link to the second stands at the first
-  links : List ℕ → List ℕ → Fact
+  links : List ℕ → List ℕ → SpawnFact
   -- what stands at the path got this mode
-  has_mode : List ℕ → ℕ → Fact
+  has_mode : List ℕ → ℕ → SpawnFact
   -- a program was started
-  starts : Start → Fact
+  starts : Start → SpawnFact
 
 -- a success tells one fact more, a failure none
-abbrev pub Tells : {A E : Type 0} → List Fact → (A → Fact) → Result A E → List Fact → Type 0
-Tells old fact (Ok value) new = new ≡ old ++ fact value ∷ []
-Tells old fact (Err error) new = new ≡ old
+abbrev pub TellsSpawnFact : {A E : Type 0} → List SpawnFact → (A → SpawnFact) → Result A E → List SpawnFact → Type 0
+TellsSpawnFact old fact (Ok value) new = new ≡ old ++ fact value ∷ []
+TellsSpawnFact old fact (Err error) new = new ≡ old

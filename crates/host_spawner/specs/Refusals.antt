@@ -12,6 +12,6 @@ spawn_error OutOfMemory = NoMemory
 spawn_error _ = Failed
 
 -- memory ran out, or the text is no listing
-abbrev pub listing_refusal : ListingError → SpawnError
-listing_refusal listing.NoMemory = NoMemory
-listing_refusal _ = Failed
+abbrev pub spawn_listing_refusal : ListingError → SpawnError
+spawn_listing_refusal listing.NoMemory = NoMemory
+spawn_listing_refusal _ = Failed

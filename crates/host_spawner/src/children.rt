@@ -1,6 +1,6 @@
 // The programs that were started.
 ghost use Rattle.std.specs.Prelude.{◌≡◌, ◌<◌, ◌≤◌, ◌+◌, ◌++◌, ◌∷◌, [], true, length, vec_len, vec_capacity, IfOk, IfErr, OnOk, OnErr};
-ghost use Rattle.host_spawner.specs.Children.{code_of, IsAdded, HasEnded, AreOthersSame};
+ghost use Rattle.host_spawner.specs.Children.{code_of, IsAdded, ChildHasEnded, AreOthersSame};
 ghost use Rattle.host_spawner.specs.Facts.{start_of, starts};
 
 use crate::refusals::{refusal, short};
@@ -63,7 +63,7 @@ pub fn wait_for<P: OpenProcess>(
     children: &mut Vec<process::Child<P>>,
     child: Child,
 ) -> Result<u8, SpawnError>
-    ensures ended { IfOk result (λ status. HasEnded children.new.items child.number status) }
+    ensures ended { IfOk result (λ status. ChildHasEnded children.new.items child.number status) }
     ensures others { AreOthersSame child.number children.old.items children.new.items }
     ensures kept { vec_len children.new ≡ vec_len children.old }
 {

@@ -3,7 +3,7 @@ ghost use Rattle.std.specs.Prelude.{◌≡◌, ◌↔◌, ◌++◌, ◌∷◌, �
 ghost use Rattle.std.specs.List.{slice_get};
 ghost use Rattle.std.specs.Process.{command_program, command_args, command_dir, command_var, clears_env, SameProgramAndArgs, SameDir, SameEnv};
 ghost use Rattle.host_spawner.specs.Roots.{below_root};
-ghost use Rattle.host_spawner.specs.Programs.{is_absolute, with_text, variable_of, IsProgram};
+ghost use Rattle.host_spawner.specs.Programs.{is_absolute, with_text, last_variable_value, IsProgramInRoot};
 
 use crate::place::path_below;
 use crate::refusals::short;
@@ -24,7 +24,7 @@ fn check_absolute(path: &str) -> Result<(), SpawnError>
 
 /// The program that the first word names.
 fn program_of(alloc: Global, root: &str, argv: &Words) -> Result<Command, SpawnError>
-    ensures program { IfOk result (λ c. IsProgram root.now argv.now (command_program c)) }
+    ensures program { IfOk result (λ c. IsProgramInRoot root.now argv.now (command_program c)) }
     ensures args { IfOk result (λ c. command_args c ≡ []) }
 {
     let Some(word) = argv.get(0) else {
@@ -72,7 +72,7 @@ fn set_variable(command: &mut Command, text: &str) -> Result<(), SpawnError>
 
 /// Sets these variables, and no others.
 fn set_environment(command: &mut Command, env: &Words) -> Result<(), SpawnError>
-    ensures vars { OnOk result ((name : List ℕ) → command_var command.new name ≡ variable_of env.now name) }
+    ensures vars { OnOk result ((name : List ℕ) → command_var command.new name ≡ last_variable_value env.now name) }
     ensures clears { OnOk result (clears_env command.new ≡ true) }
     ensures call { OnOk result (SameProgramAndArgs command.old command.new) }
 {
@@ -113,10 +113,10 @@ pub fn command_of(
     env: &Words,
     cwd: &str,
 ) -> Result<Command, SpawnError>
-    ensures program { IfOk result (λ c. IsProgram root.now argv.now (command_program c)) }
+    ensures program { IfOk result (λ c. IsProgramInRoot root.now argv.now (command_program c)) }
     ensures args { IfOk result (λ c. command_args c ≡ drop 1 argv.now) }
     ensures alone { IfOk result (λ c. clears_env c ≡ true) }
-    ensures vars { IfOk result (λ c. (name : List ℕ) → command_var c name ≡ variable_of env.now name) }
+    ensures vars { IfOk result (λ c. (name : List ℕ) → command_var c name ≡ last_variable_value env.now name) }
     ensures dir { IfOk result (λ c. command_dir c ≡ Some (below_root root.now cwd.now)) }
 {
     let mut command = program_of(alloc, root, argv)?;

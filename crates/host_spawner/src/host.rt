@@ -68,8 +68,8 @@ impl<S: System + Drop> Spawner for SystemSpawner<S> {
     ghost use Rattle.std.specs.Prelude.{◌≡◌, ◌≤◌, true, false, [], string_bytes, vec_len, IfOk, OnOk, OnErr, IsErrOf};
     ghost use Rattle.dir_model.specs.Causes.{Rose};
     ghost use Rattle.dir_host.specs.Counts.{Counts};
-    ghost use Rattle.host_spawner.specs.Children.{HasEnded, AreOthersSame};
-    ghost use Rattle.host_spawner.specs.Layout.{IsReady};
+    ghost use Rattle.host_spawner.specs.Children.{ChildHasEnded, AreOthersSame};
+    ghost use Rattle.host_spawner.specs.Layout.{IsRootReady};
     ghost use Rattle.spawner.specs.Conditions.{MayStart};
 
     ghost observed = { false };
@@ -91,7 +91,7 @@ impl<S: System + Drop> Spawner for SystemSpawner<S> {
         ensures kept { self.old.faults ≤ self.new.faults }
         ensures cause { IsErrOf result SpawnError.Failed → Rose self.old.faults self.new.faults }
         ensures counts { Counts SpawnError.Failed result self.old.faults self.new.faults }
-        ensures ready { OnOk result (S.observed ≡ true → IsReady listing.now (string_bytes self.old.base) root.now (S.facts self.old.system) (S.facts self.new.system)) }
+        ensures ready { OnOk result (S.observed ≡ true → IsRootReady listing.now (string_bytes self.old.base) root.now (S.facts self.old.system) (S.facts self.new.system)) }
         ensures base { self.new.base ≡ self.old.base }
     {
         match make_ready(&mut self.system, alloc, self.base.as_str(), root, listing) {
@@ -139,7 +139,7 @@ impl<S: System + Drop> Spawner for SystemSpawner<S> {
         ensures cause { IsErrOf result SpawnError.Failed → Rose self.old.faults self.new.faults }
         ensures counts { Counts SpawnError.Failed result self.old.faults self.new.faults }
         ensures held { vec_len self.new.children ≡ vec_len self.old.children }
-        ensures ended { IfOk result (λ status. HasEnded self.new.children.items child.number status) }
+        ensures ended { IfOk result (λ status. ChildHasEnded self.new.children.items child.number status) }
         ensures others { AreOthersSame child.number self.old.children.items self.new.children.items }
         ensures base { self.new.base ≡ self.old.base }
     {

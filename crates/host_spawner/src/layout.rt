@@ -3,7 +3,7 @@
 ghost use Rattle.std.specs.Prelude.{◌≡◌, ◌<◌, ◌≤◌, ◌++◌, ◌∷◌, [], true, get_or, take, length, reverse, OnOk};
 ghost use Rattle.std.specs.List.{flat_map};
 ghost use Rattle.host_spawner.specs.Facts.{stands, links, has_mode};
-ghost use Rattle.host_spawner.specs.Layout.{opened, opening, linking, closing, laying, step_at, way, IsReady};
+ghost use Rattle.host_spawner.specs.Layout.{opened_to_owner, opening, linking, closing, laying, step_at, way, IsRootReady};
 ghost use Rattle.host_spawner.specs.Roots.{below_root};
 
 use crate::place::{path_below, path_of_pod, path_of_root};
@@ -57,7 +57,7 @@ fn check_way<S: System>(system: &mut S, path: &str, start: usize) -> Result<(), 
 
 /// A mode with all bits for the owner.
 fn opened(mode: u32) -> u32
-    ensures { result ≡ opened mode }
+    ensures { result ≡ opened_to_owner mode }
 {
     mode | OPEN
 }
@@ -71,7 +71,7 @@ fn open_directory<S: System>(
     meta: &Meta,
 ) -> Result<(), SpawnError>
     ensures told { OnOk result (S.observed ≡ true → S.facts system.new ≡ S.facts system.old
-        ++ stands (below_root root.now named.now) Standing.Directory ∷ has_mode (below_root root.now named.now) (opened meta.now.mode) ∷ []) }
+        ++ stands (below_root root.now named.now) Standing.Directory ∷ has_mode (below_root root.now named.now) (opened_to_owner meta.now.mode) ∷ []) }
 {
     let path = path_below(alloc, root, named.as_str()).map_err(short)?;
     check_standing(system, path.as_str(), Standing::Directory)?;
@@ -247,7 +247,7 @@ pub fn make_ready<S: System>(
     root: &RootPlace,
     listing: &[u8],
 ) -> Result<(), SpawnError>
-    ensures told { OnOk result (S.observed ≡ true → IsReady listing.now base.now root.now (S.facts system.old) (S.facts system.new)) }
+    ensures told { OnOk result (S.observed ≡ true → IsRootReady listing.now base.now root.now (S.facts system.old) (S.facts system.new)) }
 {
     let listing = Listing::read(alloc, listing).map_err(no_listing)?;
     let pod = path_of_pod(alloc, base, &root.spot).map_err(short)?;

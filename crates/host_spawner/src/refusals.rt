@@ -3,7 +3,7 @@ ghost use Rattle.std.specs.Prelude.{◌≡◌, ◌≤◌, ◌≢◌};
 ghost use Rattle.std.specs.IoError.{error_kind};
 ghost use Rattle.dir_model.specs.Causes.{Rose};
 ghost use Rattle.dir_host.specs.Counts.{CountsRefusal};
-ghost use Rattle.host_spawner.specs.Refusals.{spawn_error, listing_refusal};
+ghost use Rattle.host_spawner.specs.Refusals.{spawn_error, spawn_listing_refusal};
 
 use spawner::SpawnError;
 use std::alloc::AllocError;
@@ -30,7 +30,7 @@ pub fn refusal(error: io::Error) -> SpawnError
 
 /// A text that is no listing.
 pub fn no_listing(error: ListingError) -> SpawnError
-    ensures { result ≡ listing_refusal error }
+    ensures { result ≡ spawn_listing_refusal error }
 {
     match error {
         ListingError::NoMemory => SpawnError::NoMemory,

@@ -1,7 +1,7 @@
 // What a system is asked for the programs of apps: one call of std each.
 ghost use Rattle.std.specs.Prelude.{◌≡◌, ℕ, List, Bool, true};
 ghost use Rattle.std.specs.Path.{path_buf_bytes};
-ghost use Rattle.host_spawner.specs.Facts.{start_of, Fact, stands, links, has_mode, starts, Tells};
+ghost use Rattle.host_spawner.specs.Facts.{start_of, SpawnFact, stands, links, has_mode, starts, TellsSpawnFact};
 
 use crate::standing::{Standing, standing_of};
 use std::fs::{File, Permissions};
@@ -13,36 +13,36 @@ use std::{fs, io};
 
 /// A system with files and programs. Each success is one fact that it tells.
 pub trait System {
-    ghost use Rattle.host_spawner.specs.Facts.{Fact};
+    ghost use Rattle.host_spawner.specs.Facts.{SpawnFact};
 
     /// Whether its answers are observed. A host observes none.
     ghost observed: { Bool };
 
     /// What it told so far, the oldest first.
-    ghost facts: { Self → List Fact };
+    ghost facts: { Self → List SpawnFact };
 
     /// A program that was started.
     type Process: OpenProcess + Drop;
 
     /// Looks at what stands at a path. A link isn't followed.
     fn look(&mut self, path: &str) -> io::Result<Standing>
-        ensures told { observed ≡ true → Tells (facts self.old) (λ standing. stands path.now standing) result (facts self.new) };
+        ensures told { observed ≡ true → TellsSpawnFact (facts self.old) (λ standing. stands path.now standing) result (facts self.new) };
 
     /// Makes a link at a path.
     fn link(&mut self, path: &str, target: &str) -> io::Result<()>
-        ensures told { observed ≡ true → Tells (facts self.old) (λ _. links path.now target.now) result (facts self.new) };
+        ensures told { observed ≡ true → TellsSpawnFact (facts self.old) (λ _. links path.now target.now) result (facts self.new) };
 
     /// Reads where the link points to that stands at a path.
     fn target(&mut self, path: &str) -> io::Result<PathBuf>
-        ensures told { observed ≡ true → Tells (facts self.old) (λ target. links path.now (path_buf_bytes target)) result (facts self.new) };
+        ensures told { observed ≡ true → TellsSpawnFact (facts self.old) (λ target. links path.now (path_buf_bytes target)) result (facts self.new) };
 
     /// Sets the mode of what stands at a path.
     fn set_mode(&mut self, path: &str, mode: u32) -> io::Result<()>
-        ensures told { observed ≡ true → Tells (facts self.old) (λ _. has_mode path.now mode) result (facts self.new) };
+        ensures told { observed ≡ true → TellsSpawnFact (facts self.old) (λ _. has_mode path.now mode) result (facts self.new) };
 
     /// Starts a program.
     fn start(&mut self, command: Command) -> io::Result<Child<Self::Process>>
-        ensures told { observed ≡ true → Tells (facts self.old) (λ _. starts (start_of command)) result (facts self.new) };
+        ensures told { observed ≡ true → TellsSpawnFact (facts self.old) (λ _. starts (start_of command)) result (facts self.new) };
 }
 
 /// A host.

@@ -1,9 +1,8 @@
 -- What a process asked for, and what it knows afterwards.
-use Rattle.std.proofs.Common.{arith, ◌≡◌, inl, inr, ℕ, Bool, true, false, ◌&&◌, ◌||◌, cond, bytes_eq, nat_eq, List, [], ◌∷◌, Result, Ok, Err, refl, sym, ap, subst, ◌∙◌}
+use Rattle.std.proofs.Common.{arith, ◌≡◌, ℕ, Bool, true, false, ◌&&◌, ◌||◌, cond, bytes_eq, nat_eq, List, [], ◌∷◌, Result, Ok, Err, refl, ap, subst, ◌∙◌}
 use Rattle.std.specs.List.{list_any}
 use Rattle.ac_types.specs.declared.store_key.StoreKey.{StoreKey}
 use Rattle.dir_model.specs.declared.area.Area.TheVariants.{Images}
-use Rattle.dir_model.specs.declared.event.Event.{Event}
 use Rattle.dir_model.specs.declared.item.Inner.{Inner}
 use Rattle.dir_model.specs.declared.item.Item.{Item}
 use Rattle.dir_model.specs.declared.opening.Target.{Target}
@@ -12,11 +11,9 @@ use Rattle.dir_model.specs.declared.request.DirError.{DirError}
 use Rattle.dir_model.specs.declared.request.DirError.TheVariants.{Missing}
 use Rattle.dir_model.specs.declared.request.Request.{Request}
 use Rattle.dir_model.specs.declared.request.Request.TheVariants.{ListArea, ListIn, ReadIn}
-use Rattle.dir_model.specs.declared.request.Reply.{Reply}
-use Rattle.dir_model.specs.declared.request.Reply.TheVariants.{Begun, Items, Refused}
+use Rattle.dir_model.specs.declared.request.Reply.TheVariants.{Items, Refused}
 use Rattle.dir_model.specs.declared.spot.Spot.{Spot}
 use Rattle.dir_model.specs.Areas.{rank}
-use Rattle.dir_model.specs.Calls.{CallStep, Unlisted, ListStep, Extends, is_begin, is_kill}
 use Rattle.dir_model.specs.Local.{Local, local_replied}
 use Rattle.dir_model.specs.Locks.{is_exclusive}
 use Rattle.dir_model.specs.Paths.{is_empty}
@@ -24,48 +21,21 @@ use Rattle.dir_model.specs.Replies.{names_reply, items_reply}
 use Rattle.dir_model.specs.State.{spot_eq}
 use Rattle.dir_model.proofs.Lists.{and_left, and_right, and_both, and_false}
 use Rattle.dir_model.proofs.Spots.{spot_self}
-use Rattle.dir_model.proofs.Chains.{step_extends, extends_more, extends_wider, nothing_yet, and_more}
+use Rattle.dir_model.proofs.Chains.{extends_wider, nothing_yet, and_more}
 use Rattle.dir_rules.specs.declared.standing.Held.{Held}
-use Rattle.dir_rules.specs.declared.standing.Standing.{Standing}
 use Rattle.dir_rules.specs.declared.seen.Seen.{Seen}
 use Rattle.dir_rules.specs.declared.seen.ShownArea.{ShownArea}
-use Rattle.dir_rules.specs.Standing.{closes_gate}
+use Rattle.dir_rules.specs.Standing.{excludes_area}
 use Rattle.dir_rules.specs.LockRules.{is_removal_held, is_removal_target, may_remove}
 use Rattle.dir_rules.specs.Seen.{with_items, with_names}
-use Rattle.dir_rules.specs.Conforms.{seen_replied, seen_listed, IsTied}
-use Rattle.dir_rules.proofs.Tied.{tied_step, tied_unbegun}
+use Rattle.dir_rules.specs.Conforms.{seen_listed}
 use Rattle.dir_trait.specs.DirCalls.{DirAt, ListCall, HeldBetween}
 use Rattle.dir_files.proofs.Folders.{tells_present, tells_absent}
-use Rattle.dir_trait.specs.Knowledge.{SameHandles, Knows}
+use Rattle.dir_trait.specs.Knowledge.{Knows}
+use Rattle.dir_trait.proofs.ListCalls.{list_extends, knows_list, local_items}
 use Rattle.dir_files.specs.Reads.{inner_at, OnlyReads, may_read, reads_at}
-use Rattle.image_reading.specs.Places.{image_spot, image_inner, IsPresent, IsAbsent}
+use Rattle.image_reading.specs.Places.{image_spot, image_inner, IsPresent, IsImageAbsent}
 use Rattle.image_reading.specs.Looks.{reads_image, reads_images, OnlyReadsImage, OnlyReadsImages}
-
--- a listing that left nothing is one call
-left_step : {me : ℕ} {old new : List Event} {request : Request} {reply : Reply} → Unlisted me old request reply new → CallStep me old request reply new
-left_step u = record { before = u.before; meanwhile = u.meanwhile; own = inr u.late; run = u.run }
-
-pub list_extends : {asks : Request → Bool} {me : ℕ} {old new : List Event} {request : Request} {reply : Reply} → asks request ≡ true → ListStep me old request reply new → Extends asks me old new
-list_extends {asks} {me} {old} {new} {request} {reply} asked (inl l) =
-    extends_more asks me old l.between new (step_extends asks me old request Begun l.between asked l.begins) (step_extends asks me l.between request reply new asked l.ends)
-list_extends {asks} {me} {old} {new} {request} {reply} asked (inr u) = step_extends asks me old request reply new asked (left_step u)
-
-tied_list : {me : ℕ} {old new : List Event} {s : Seen} {request : Request} {reply : Reply} → is_begin request ≡ false → is_kill request ≡ false → IsTied me old s → ListStep me old request reply new → IsTied me new (seen_listed s request reply)
-tied_list {me} {old} {new} {s} {request} {reply} b k tied (inl l) =
-    tied_step me l.between new (seen_replied s request Begun) request reply (tied_step me old l.between s request Begun tied b k l.begins) b k l.ends
-tied_list {me} {old} {new} {s} {request} {reply} b k tied (inr u) =
-    tied_step me old new (seen_replied s request Begun) request reply (tied_unbegun me old s request tied) b k (left_step u)
-
--- what a process knows by a listing more, which leaves its handles
-knows_list : {observed : Bool} {old new : DirAt} {s : Seen} {request : Request} {reply : Reply} → is_begin request ≡ false → is_kill request ≡ false → local_replied old.local request reply ≡ old.local → (seen_listed s request reply).standing ≡ s.standing → observed ≡ true → Knows old s → ListCall observed old request reply new → Knows new (seen_listed s request reply)
-knows_list {observed} {old} {new} {s} {request} {reply} b i local standing t k c = record {
-  tied = subst (λ (me : ℕ). IsTied me new.trace (seen_listed s request reply)) (sym c.same) (tied_list b i k.tied (c.step t));
-  handles = subst (λ (l : List Held). SameHandles l new.local.holdings) (ap (λ (x : Standing). x.holdings) (sym standing)) (subst (λ (m : Local). SameHandles s.standing.holdings m.holdings) (sym (c.local ∙ local)) k.handles);
-}
-
-local_items : (m : Local) (inner : Inner) (r : Result (List Item) DirError) → local_replied m (ListIn inner) (items_reply r) ≡ m
-local_items m inner (Ok items) = refl
-local_items m inner (Err e) = refl
 
 local_names : (m : Local) (r : Result (List (List ℕ)) DirError) → local_replied m (ListArea Images) (names_reply r) ≡ m
 local_names m (Ok names) = refl
@@ -95,9 +65,9 @@ module _ (s : Seen) (key : StoreKey) (may : may_read Images s.standing ≡ true)
   seen_items (Err e) = ap (λ (a : Bool). let x : Seen = record s { kept = a && (a && s.kept) } in x) may
 
 module _ (s : Seen) (may : may_read Images s.standing ≡ true) where
-  seen_names : (r : Result (List (List ℕ)) DirError) → (areas : List ShownArea) × (closes_gate Images s.standing ≡ false → areas ≡ s.areas) × (seen_listed s (ListArea Images) (names_reply r) ≡ record s { areas = areas })
+  seen_names : (r : Result (List (List ℕ)) DirError) → (areas : List ShownArea) × (excludes_area Images s.standing ≡ false → areas ≡ s.areas) × (seen_listed s (ListArea Images) (names_reply r) ≡ record s { areas = areas })
   seen_names (Ok names) =
-      let areas = cond (closes_gate Images s.standing) (with_names Images names s.areas) s.areas in
+      let areas = cond (excludes_area Images s.standing) (with_names Images names s.areas) s.areas in
       (areas, λ off. rw off refl, ap (λ (a : Bool). let x : Seen = record s { areas = areas; kept = a && (a && s.kept) } in x) may)
   seen_names (Err e) = (s.areas, λ off. refl, ap (λ (a : Bool). let x : Seen = record s { kept = a && (a && s.kept) } in x) may)
 
@@ -192,5 +162,5 @@ image_items_at {observed} {old} {new} key spot r same c = image_items key r (sub
 pub present_at : {observed : Bool} {old new : DirAt} {items : List Item} (key : StoreKey) (spot : Spot) → spot ≡ image_spot key → observed ≡ true → ListCall observed old (ListIn (inner_at spot [])) (Items items) new → HeldBetween old new (IsPresent key)
 present_at {observed} {old} {new} {items} key spot same t c = tells_present t (subst (λ (x : Spot). ListCall observed old (ListIn (inner_at x [])) (Items items) new) same c)
 
-pub absent_at : {observed : Bool} {old new : DirAt} (key : StoreKey) (spot : Spot) → spot ≡ image_spot key → observed ≡ true → ListCall observed old (ListIn (inner_at spot [])) (Refused Missing 0) new → HeldBetween old new (IsAbsent key)
+pub absent_at : {observed : Bool} {old new : DirAt} (key : StoreKey) (spot : Spot) → spot ≡ image_spot key → observed ≡ true → ListCall observed old (ListIn (inner_at spot [])) (Refused Missing 0) new → HeldBetween old new (IsImageAbsent key)
 absent_at {observed} {old} {new} key spot same t c = tells_absent t (subst (λ (x : Spot). ListCall observed old (ListIn (inner_at x [])) (Refused Missing 0) new) same c)

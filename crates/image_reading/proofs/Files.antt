@@ -1,6 +1,7 @@
 -- What a file's read tells, where its bytes are a value and where they are none.
 use Rattle.std.proofs.Common.{◌≡◌, ◌≤◌, inr, ℕ, Bool, true, List, length, take, Result, IsErrOf, refl, subst}
 use Rattle.std.specs.Prelude.{IfOk, IfErr, MatchResult}
+use Rattle.plain_laws.proofs.Results.{if_ok, if_err, never}
 use Rattle.dir_model.specs.declared.item.Inner.{Inner}
 use Rattle.dir_trait.specs.DirCalls.{DirAt}
 use Rattle.dir_files.specs.Reads.{ReadsUp}
@@ -8,7 +9,7 @@ use Rattle.image_reading.specs.declared.error.StoreError.{StoreError}
 use Rattle.image_reading.specs.declared.error.StoreError.TheVariants.{DirFault}
 use Rattle.image_reading.specs.Refusals.{IsReadRefusal, IsDamage, IsDamaged}
 use Rattle.image_reading.specs.Files.{ReadsFile, LacksFile}
-use Rattle.image_reading.proofs.Results.{if_ok, if_err, either_of, never, damage_why, damage_refusal}
+use Rattle.image_reading.proofs.Results.{either_of, damage_why, damage_refusal}
 use Rattle.image_reading.proofs.Widths.{within_self}
 
 -- some bytes were read

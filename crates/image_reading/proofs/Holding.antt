@@ -7,13 +7,13 @@ use Rattle.dir_model.specs.declared.spot.Handle.{Handle}
 use Rattle.dir_model.specs.declared.spot.Mode.{Mode}
 use Rattle.dir_model.specs.declared.spot.Mode.TheVariants.{Shared, Exclusive}
 use Rattle.dir_model.specs.Locks.{is_exclusive}
-use Rattle.dir_model.specs.Local.{is_number}
+use Rattle.dir_model.specs.Local.{is_handle_of}
 use Rattle.dir_model.proofs.Lists.{and_right}
 use Rattle.dir_rules.specs.declared.standing.Held.{Held}
 use Rattle.dir_rules.specs.declared.seen.Seen.{Seen}
 use Rattle.dir_rules.specs.Standing.{is_gate_of, is_shared, is_gate_shared, is_gate_exclusive}
 use Rattle.dir_trait.specs.DirCalls.{DirAt}
-use Rattle.dir_trait.specs.Knowledge.{holding_of, Knows}
+use Rattle.dir_trait.specs.Knowledge.{holding_of_held, Knows}
 use Rattle.dir_files.specs.Reads.{may_read}
 use Rattle.image_reading.specs.Looks.{OnlyReadsImage, OnlyReadsImages, is_images_lock, HoldsImages, KnowsStill, KnowsStillNamed}
 
@@ -35,12 +35,12 @@ later false b true d h = refl
 later false true false d h = refl
 later false false false d h = h
 
-held_so : (gate : Handle) (hs : List Held) → list_any (λ h. is_images_lock gate (holding_of h)) hs ≡ true → (list_any (is_gate_shared Images) hs || list_any (is_gate_exclusive Images) hs) ≡ true
+held_so : (gate : Handle) (hs : List Held) → list_any (λ h. is_images_lock gate (holding_of_held h)) hs ≡ true → (list_any (is_gate_shared Images) hs || list_any (is_gate_exclusive Images) hs) ≡ true
 held_so gate [] h = cc
-held_so gate (x ∷ xs) h = by (is_images_lock gate (holding_of x)) refl h (held_so gate xs)
+held_so gate (x ∷ xs) h = by (is_images_lock gate (holding_of_held x)) refl h (held_so gate xs)
   where
-    by : (b : Bool) → is_images_lock gate (holding_of x) ≡ b → (b || list_any (λ h. is_images_lock gate (holding_of h)) xs) ≡ true → (list_any (λ h. is_images_lock gate (holding_of h)) xs ≡ true → (list_any (is_gate_shared Images) xs || list_any (is_gate_exclusive Images) xs) ≡ true) → (list_any (is_gate_shared Images) (x ∷ xs) || list_any (is_gate_exclusive Images) (x ∷ xs)) ≡ true
-    by true is any rest = weave (is_gate_shared Images x) (is_gate_exclusive Images x) (list_any (is_gate_shared Images) xs) (list_any (is_gate_exclusive Images) xs) (some_mode (is_gate_of Images x.target) x.lock (and_right (is_number gate (holding_of x)) (is_gate_of Images x.target && is_some x.lock) is))
+    by : (b : Bool) → is_images_lock gate (holding_of_held x) ≡ b → (b || list_any (λ h. is_images_lock gate (holding_of_held h)) xs) ≡ true → (list_any (λ h. is_images_lock gate (holding_of_held h)) xs ≡ true → (list_any (is_gate_shared Images) xs || list_any (is_gate_exclusive Images) xs) ≡ true) → (list_any (is_gate_shared Images) (x ∷ xs) || list_any (is_gate_exclusive Images) (x ∷ xs)) ≡ true
+    by true is any rest = weave (is_gate_shared Images x) (is_gate_exclusive Images x) (list_any (is_gate_shared Images) xs) (list_any (is_gate_exclusive Images) xs) (some_mode (is_gate_of Images x.target) x.lock (and_right (is_handle_of gate (holding_of_held x)) (is_gate_of Images x.target && is_some x.lock) is))
     by false is any rest = later (is_gate_shared Images x) (is_gate_exclusive Images x) (list_any (is_gate_shared Images) xs) (list_any (is_gate_exclusive Images) xs) (rest any)
 
 pub held_reads : {d : DirAt} {s : Seen} (gate : Handle) → HoldsImages d.local gate → Knows d s → may_read Images s.standing ≡ true

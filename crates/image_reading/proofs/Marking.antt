@@ -2,30 +2,19 @@
 use Rattle.std.proofs.Common.{arith, ◌≡◌, ◌≤◌, ◌+◌, ℕ, Bool, true, false, ◌&&◌, cond, nat_le, bytes_eq, Option, Some, None, List, [], ◌∷◌, ◌++◌, length, take, drop, append-nil, refl, sym, ap, subst, ◌∙◌}
 use Rattle.std.specs.Prelude.{MatchOption}
 use Rattle.std.specs.List.{cons_option}
-use Rattle.std.proofs.lemmas.Bool.Decides.{nat_tests}
 use Rattle.dir_model.specs.declared.item.Item.{Item}
 use Rattle.dir_model.proofs.Lists.{all_both, all_weaker}
 use Rattle.std.proofs.lemmas.List.Elements.{filter_map-append, Contains-append_left, Contains-append_right}
+use Rattle.plain_laws.proofs.Numbers.{at_most_back, not_at_most}
 use Rattle.image_reading.specs.Places.{mark_name}
-use Rattle.dir_rules.specs.Marks.{number_of}
+use Rattle.dir_rules.specs.Marks.{mark_moment}
 use Rattle.dir_rules.specs.Seen.{later}
-use Rattle.rule_marks.proofs.Texts.{unlike}
-use Rattle.image_reading.specs.Marks.{imported_mark, is_imported_mark, imported_moment, imported_moments, IsGreatest}
+use Rattle.image_reading.specs.Marks.{imported_moment, imported_moments, IsGreatest}
 
--- the moment of a name, by the number that its digits stand for
-module _ (name : List ℕ) (n : ℕ) (is : n ≡ number_of (drop 9 name)) where
-  moment_at : cond (is_imported_mark name n) (Some n) None ≡ imported_moment name
-  unfolding imported_moment
-  moment_at = ap (λ (m : ℕ). cond (is_imported_mark name m) (Some m) None) is
-
-  pub marked : true ≡ bytes_eq name (imported_mark n) → cond (nat_le n 18446744073709551615) (Some n) None ≡ imported_moment name
-  marked h = ap (λ (b : Bool). cond (b && nat_le n 18446744073709551615) (Some n) None) h ∙ moment_at
-
-  pub unmarked : false ≡ bytes_eq name (imported_mark n) → None ≡ imported_moment name
-  unmarked h = ap (λ (b : Bool). cond (b && nat_le n 18446744073709551615) (Some n) None) h ∙ moment_at
-
-pub no_moment : (name : List ℕ) → (length name ≡ 29 → ⊥) → None ≡ imported_moment name
-no_moment name other = unmarked name (number_of (drop 9 name)) refl (sym (unlike name mark_name 20 (number_of (drop 9 name)) other))
+-- the moment of an image's mark is the moment of a mark of its text
+pub as_mark : (name : List ℕ) → mark_moment mark_name name ≡ imported_moment name
+unfolding imported_moment
+as_mark name = refl
 
 -- the greatest of the moments so far, if there are any
 abbrev pub IsBest : List ℕ → Option ℕ → Type 0
@@ -34,12 +23,6 @@ IsBest moments best = MatchOption best (moments ≡ []) (IsGreatest moments)
 alone : (m : ℕ) → IsGreatest (m ∷ []) m
 alone m = record { one = (0, omega arith, refl); most = (omega arith, tt) }
 
-not_less : (b m : ℕ) → nat_le b m ≡ false → m ≤ b
-not_less b m h = grind (arith, nat_tests)
-
-less : (b m : ℕ) → nat_le b m ≡ true → b ≤ m
-less b m h = grind (arith, nat_tests)
-
 best_more : (moments : List ℕ) (best o : Option ℕ) → IsBest moments best → IsBest (moments ++ cons_option o []) (later best o)
 best_more moments None None is = append-nil moments ∙ is
 best_more moments None (Some m) is = subst (λ (ms : List ℕ). IsGreatest (ms ++ m ∷ []) m) (sym is) (alone m)
@@ -47,8 +30,8 @@ best_more moments (Some b) None is = subst (λ (ms : List ℕ). IsGreatest ms b)
 best_more moments (Some b) (Some m) is = by (nat_le b m) refl
   where
     by : (x : Bool) → nat_le b m ≡ x → IsBest (moments ++ m ∷ []) (cond x (Some m) (Some b))
-    by true h = record { one = Contains-append_right moments (m ∷ []) m (alone m).one; most = all_both (λ n. n ≤ m) moments (m ∷ []) (all_weaker (λ n. n ≤ b) (λ n. n ≤ m) (λ n l. omega (arith, l, less b m h)) moments is.most) (omega arith, tt) }
-    by false h = record { one = Contains-append_left moments (m ∷ []) b is.one; most = all_both (λ n. n ≤ b) moments (m ∷ []) is.most (not_less b m h, tt) }
+    by true h = record { one = Contains-append_right moments (m ∷ []) m (alone m).one; most = all_both (λ n. n ≤ m) moments (m ∷ []) (all_weaker (λ n. n ≤ b) (λ n. n ≤ m) (λ n l. omega (arith, l, at_most_back b m h)) moments is.most) (omega arith, tt) }
+    by false h = record { one = Contains-append_left moments (m ∷ []) b is.one; most = all_both (λ n. n ≤ b) moments (m ∷ []) is.most (not_at_most b m h, tt) }
 
 pub best_next : (items : List Item) (i : ℕ) (item : Item) (best : Option ℕ) → take (i + 1) items ≡ take i items ++ item ∷ [] → IsBest (imported_moments (take i items)) best → IsBest (imported_moments (take (i + 1) items)) (later best (imported_moment item.name))
 best_next items i item best more is =

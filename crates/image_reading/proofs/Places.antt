@@ -2,12 +2,11 @@
 use Rattle.std.proofs.Common.{arith, ◌≡◌, ◌<◌, ◌≤◌, ◌+◌, ◌*◌, ◌/◌, ◌%◌, ℕ, suc, true, ◌&&◌, Option, Some, None, List, [], ◌∷◌, ◌++◌, length, slice_index, codes, refl, sym, ap, ◌∙◌, length-append}
 use Rattle.std.specs.List.{list_all}
 use Rattle.std.specs.Prelude.{nat_lt}
-use Rattle.std.specs.Str.{is_utf8, IsAscii}
-use Rattle.std.proofs.lemmas.Bool.{and_parts, ltb-true}
+use Rattle.std.specs.Str.{is_utf8}
 use Rattle.std.proofs.lemmas.Str.{IsUtf8-from_ascii, is_utf8-from_IsUtf8}
-use Rattle.std.proofs.lemmas.Str.Ascii.{IsAscii-nil, IsAscii-cons}
 use Rattle.std.proofs.lemmas.List.Sums.{AllPass-from_list_all}
 use Rattle.std.proofs.lemmas.List.Folds.{list_all-append}
+use Rattle.plain_laws.proofs.Texts.{ascii_from}
 use Rattle.hex.specs.Hex.{IsBytes, encode_with, lower_digits}
 use Rattle.hex.proofs.HexLemmas.{length-encode_with}
 use Rattle.ac_types.specs.declared.store_key.StoreKey.{StoreKey}
@@ -16,7 +15,7 @@ use Rattle.ac_types.proofs.IdTexts.{read_text, read_are}
 use Rattle.dir_model.specs.Names.{is_name_byte, IsName}
 use Rattle.dir_model.specs.Paths.{is_path}
 use Rattle.dir_model.proofs.Lists.{and_both}
-use Rattle.image_reading.specs.Places.{manifest_name, id_name, tree_name, some_key, key_of}
+use Rattle.image_reading.specs.Places.{manifest_name, id_name, tree_name, some_key, key_of_name}
 
 digit_name : (i : ℕ) → i < 16 → is_name_byte (slice_index lower_digits i) ≡ true
 digit_name i small = AllPass-from_list_all is_name_byte lower_digits refl i 0 small
@@ -54,17 +53,11 @@ read_alone : (name : List ℕ) → length name ≤ 71 → key_read name ≡ id_r
 unfolding key_read
 read_alone name short = rw (no_id name short) refl
 
-pub name_key : (name : List ℕ) (key : StoreKey) → length name ≤ 71 → key_read name ≡ Some key.bytes → Some key ≡ key_of name
+pub name_key : (name : List ℕ) (key : StoreKey) → length name ≤ 71 → key_read name ≡ Some key.bytes → Some key ≡ key_of_name name
 name_key name key short is = ap some_key (sym is ∙ read_alone name short)
 
-pub name_no_key : (name : List ℕ) → length name ≤ 71 → key_read name ≡ None → None ≡ key_of name
+pub name_no_key : (name : List ℕ) → length name ≤ 71 → key_read name ≡ None → None ≡ key_of_name name
 name_no_key name short is = ap some_key (sym is ∙ read_alone name short)
-
-pub ascii_from : (bytes : List ℕ) → list_all (λ b. nat_lt b 128) bytes ≡ true → IsAscii bytes
-ascii_from [] all = IsAscii-nil
-ascii_from (x ∷ xs) all =
-    let parts = and_parts _ _ all in
-    IsAscii-cons x xs (ltb-true x 128 parts.0) (ascii_from xs parts.1)
 
 ascii_utf8 : (bytes : List ℕ) → list_all (λ b. nat_lt b 128) bytes ≡ true → is_utf8 bytes ≡ true
 ascii_utf8 bytes all = is_utf8-from_IsUtf8 bytes (IsUtf8-from_ascii bytes (ascii_from bytes all))

@@ -15,11 +15,11 @@ use Rattle.dir_model.proofs.Lists.{and_left, and_right, and_false, or_map, or_la
 use Rattle.dir_model.proofs.Chains.{nothing_yet, extends_wider, and_more}
 use Rattle.dir_rules.specs.Standing.{is_in}
 use Rattle.dir_trait.specs.DirCalls.{DirAt, ListCall}
+use Rattle.dir_trait.proofs.ListCalls.{list_extends}
 use Rattle.dir_files.specs.Reads.{inner_at, OnlyReads, reads_at}
 use Rattle.image_reading.specs.Places.{image_spot, tree_name}
 use Rattle.image_reading.specs.Looks.{reads_image, OnlyReadsImage}
 use Rattle.image_reading.specs.Trees.{is_tree, is_of_one, reads_trees_of, ReadsTreesOf, ReadsNoTrees}
-use Rattle.image_reading.proofs.Asking.{list_extends}
 
 pub trees_none : {observed : Bool} {keys : List StoreKey} {d : DirAt} → ReadsTreesOf observed keys d d
 trees_none = record { same = refl; extends = λ t. nothing_yet }

@@ -1,65 +1,26 @@
 -- What the bytes of a file are, and what its first bytes tell of the whole.
-use Rattle.std.proofs.Common.{arith, ◌≡◌, inl, ◌<◌, ◌≤◌, ◌+◌, ℕ, Bool, true, false, nat_le, nat_lt, List, [], ◌∷◌, ◌++◌, length, take, Option, Some, None, codes, refl, sym, ap, subst, ◌∙◌, length-append}
+use Rattle.std.proofs.Common.{arith, ◌≡◌, inl, ◌<◌, ◌≤◌, ℕ, Bool, true, false, nat_le, nat_lt, List, [], ◌∷◌, ◌++◌, length, take, Option, Some, None, refl, sym, ap, subst, ◌∙◌, length-append}
 use Rattle.std.specs.Prelude.{IsUtf8, MatchOption}
 use Rattle.std.proofs.lemmas.Bool.Decides.{nat_tests}
-use Rattle.std.proofs.lemmas.Grind.{common_steps}
 use Rattle.std.proofs.lemmas.List.{append_cancel_right}
-use Rattle.std.proofs.lemmas.Str.{IsUtf8-from_ascii, IsAscii-append}
-use Rattle.hex.specs.Hex.{encode_with, lower_digits}
-use Rattle.hex.proofs.HexLemmas.{IsAscii-encode_with}
-use Rattle.ac_types.specs.declared.fault.FaultKind.TheVariants.{TooLong}
+use Rattle.plain_laws.proofs.Fronts.{take_short, not_cut, within_take}
 use Rattle.ac_types.specs.declared.image_id.ImageId.{ImageId}
 use Rattle.ac_types.specs.declared.store_key.StoreKey.{StoreKey}
 use Rattle.ac_types.specs.Ids.{id_text, id_read, AreBytes}
-use Rattle.ac_types.specs.Outcomes.{reads, fails}
 use Rattle.ac_types.proofs.IdTexts.{text_read}
-use Rattle.manifest_parts.specs.DocumentForm.{document}
-use Rattle.manifests.specs.ImageData.{ImageData, image_data}
-use Rattle.manifests.specs.ImageForm.{image_manifest}
+use Rattle.manifests.specs.ImageData.{image_data}
+use Rattle.manifest_laws.proofs.Heads.{manifest_so, manifest_whole, id_utf8}
 use Rattle.tree_digest.specs.declared.line.ListingLine.{ListingLine}
 use Rattle.tree_digest.specs.declared.listing_error.ListingError.TheVariants.{TooMany}
 use Rattle.tree_digest.specs.Listings.{listing_text, line_count}
 use Rattle.image_reading.specs.declared.file.KeptManifest.{KeptManifest}
-use Rattle.image_reading.specs.Files.{IsNoManifest, IsKeptOf, IsIdOf, IsNoId, IsListingOf, IsNoListing}
-use Rattle.image_reading.proofs.Places.{text_length, ascii_from}
-
-take_short : (n : ℕ) (bytes : List ℕ) → nat_le (length bytes) n ≡ true → take (n + 1) bytes ≡ bytes
-take_short n bytes short = grind (arith, nat_tests, common_steps)
-
-take_long : (n : ℕ) (bytes : List ℕ) → nat_le (length bytes) n ≡ false → nat_le (length (take (n + 1) bytes)) n ≡ false
-take_long n bytes long = grind (arith, nat_tests, common_steps)
-
-not_cut : (n : ℕ) (bytes : List ℕ) → length (take n bytes) < n → take n bytes ≡ bytes
-not_cut n bytes within = grind (arith, common_steps)
-
-within_take : (n : ℕ) (bytes : List ℕ) → length bytes < n → take n bytes ≡ bytes
-within_take n bytes within = grind (arith, common_steps)
-
--- manifests
-document_too_long : (bytes : List ℕ) → nat_le (length bytes) 1048576 ≡ false → image_manifest bytes ≡ fails (codes "$") TooLong
-unfolding image_manifest document
-document_too_long bytes long = rw long
-
-manifest_so : (bytes : List ℕ) → image_manifest (take 1048577 bytes) ≡ image_manifest bytes
-manifest_so bytes = by (nat_le (length bytes) 1048576) refl
-  where
-    by : (short : Bool) → nat_le (length bytes) 1048576 ≡ short → image_manifest (take 1048577 bytes) ≡ image_manifest bytes
-    by true short = ap image_manifest (take_short 1048576 bytes short)
-    by false long = document_too_long (take 1048577 bytes) (take_long 1048576 bytes long) ∙ sym (document_too_long bytes long)
-
-manifest_whole : (bytes : List ℕ) (read : ImageData) → image_manifest (take 1048577 bytes) ≡ reads read → take 1048577 bytes ≡ bytes
-manifest_whole bytes read is = by (nat_le (length bytes) 1048576) refl
-  where
-    by : (short : Bool) → nat_le (length bytes) 1048576 ≡ short → take 1048577 bytes ≡ bytes
-    by true short = take_short 1048576 bytes short
-    by false long =
-        let bad : reads read ≡ fails (codes "$") TooLong = sym is ∙ document_too_long (take 1048577 bytes) (take_long 1048576 bytes long) in
-        cc
+use Rattle.image_reading.specs.Files.{IsNoImageManifest, IsKeptOf, IsIdOf, IsNoId, IsListingOf, IsNoListing}
+use Rattle.image_reading.proofs.Places.{text_length}
 
 pub manifest_front : (file : List ℕ) (kept : KeptManifest) → IsKeptOf kept (take 1048577 file) → IsKeptOf kept file
 manifest_front file kept is = (is.0 ∙ manifest_whole file (image_data kept.manifest) is.1, sym (manifest_so file) ∙ is.1)
 
-pub no_manifest_front : (file : List ℕ) → IsNoManifest (take 1048577 file) → IsNoManifest file
+pub no_manifest_front : (file : List ℕ) → IsNoImageManifest (take 1048577 file) → IsNoImageManifest file
 no_manifest_front file none = λ manifest is. none manifest (manifest_so file ∙ is)
 
 -- IDs
@@ -71,12 +32,6 @@ id_front key file id is = subst (λ (b : List ℕ). IsIdOf key id b) (not_cut 13
 
 pub no_id_front : (key : StoreKey) (file : List ℕ) → IsNoId key (take 137 file) → IsNoId key file
 no_id_front key file none = λ id is. none id (subst (λ (b : List ℕ). IsIdOf key id b) (sym (within_take 137 file (id_length key id file is))) is)
-
-pub id_utf8 : (id : List ℕ) → IsUtf8 (id_text id)
-unfolding id_text
-id_utf8 id =
-    IsUtf8-from_ascii (codes "sha512-" ++ encode_with lower_digits id)
-    (IsAscii-append (codes "sha512-") (encode_with lower_digits id) (ascii_from (codes "sha512-") refl) (IsAscii-encode_with lower_digits id (ascii_from lower_digits refl)))
 
 pub no_line : (key : StoreKey) (bytes : List ℕ) → ((text : List ℕ) → bytes ≡ text ++ 10 ∷ [] → ⊥) → IsNoId key bytes
 no_line key bytes none = λ id is. none (id_text id.bytes) is.text

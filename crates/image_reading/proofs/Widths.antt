@@ -6,10 +6,10 @@ use Rattle.dir_model.specs.State.{DirState}
 use Rattle.dir_model.specs.Calls.{Extends}
 use Rattle.dir_model.proofs.Moments.{at_after, at_before}
 use Rattle.dir_trait.specs.DirCalls.{DirAt, HeldBetween}
+use Rattle.dir_trait.specs.Effects.{OnlyAsksAndKeeps}
 use Rattle.ac_types.specs.declared.store_key.StoreKey.{StoreKey}
 use Rattle.image_reading.specs.Within.{Within}
-use Rattle.image_reading.specs.Looks.{OnlyAsks}
-use Rattle.image_reading.specs.Files.{ReadsFile, LacksFile, ShowsMarks}
+use Rattle.image_reading.specs.Files.{ReadsFile, LacksFile, ShowsImportMarks}
 
 pub within_self : {R : DirAt → DirAt → Type 0} {old new : DirAt} → R old new → Within R old new
 within_self {R} {old} {new} r = record { first = old; last = new; earlier = []; later = []; same = refl; begins = sym (append-nil old.trace); ends = sym (append-nil new.trace); told = r }
@@ -39,34 +39,34 @@ within_before {asks} {R} {a} {b} {c} w bc = record {
 }
 
 module _ {observed : Bool} {asks : Request → Bool} {Keeps : DirAt → DirAt → Type 0} (t : observed ≡ true) where
-  pub held_after : {a b : DirAt} (c : DirAt) {P : DirState → Type 0} → OnlyAsks observed asks Keeps a b → HeldBetween b c P → HeldBetween a c P
+  pub held_after : {a b : DirAt} (c : DirAt) {P : DirState → Type 0} → OnlyAsksAndKeeps observed asks Keeps a b → HeldBetween b c P → HeldBetween a c P
   held_after c ab h = at_after (ab.extends t) ab.same h
 
-  pub held_before : (a : DirAt) {b c : DirAt} {P : DirState → Type 0} → b.process ≡ a.process → HeldBetween a b P → OnlyAsks observed asks Keeps b c → HeldBetween a c P
+  pub held_before : (a : DirAt) {b c : DirAt} {P : DirState → Type 0} → b.process ≡ a.process → HeldBetween a b P → OnlyAsksAndKeeps observed asks Keeps b c → HeldBetween a c P
   held_before a same h bc = at_before h same (bc.extends t)
 
-  pub told_after : {R : DirAt → DirAt → Type 0} {a b c : DirAt} → OnlyAsks observed asks Keeps a b → Within R b c → Within R a c
+  pub told_after : {R : DirAt → DirAt → Type 0} {a b c : DirAt} → OnlyAsksAndKeeps observed asks Keeps a b → Within R b c → Within R a c
   told_after ab w = within_after (ab.extends t) ab.same w
 
-  pub told_before : {R : DirAt → DirAt → Type 0} {a b c : DirAt} → Within R a b → OnlyAsks observed asks Keeps b c → Within R a c
+  pub told_before : {R : DirAt → DirAt → Type 0} {a b c : DirAt} → Within R a b → OnlyAsksAndKeeps observed asks Keeps b c → Within R a c
   told_before w bc = within_before w (bc.extends t)
 
-  pub file_after : {inner : Inner} {most : ℕ} {P : List ℕ → Type 0} {a b c : DirAt} → OnlyAsks observed asks Keeps a b → ReadsFile inner most P b c → ReadsFile inner most P a c
+  pub file_after : {inner : Inner} {most : ℕ} {P : List ℕ → Type 0} {a b c : DirAt} → OnlyAsksAndKeeps observed asks Keeps a b → ReadsFile inner most P b c → ReadsFile inner most P a c
   file_after ab r = record { bytes = r.bytes; few = r.few; read = told_after ab r.read; holds = r.holds }
 
-  pub file_before : {inner : Inner} {most : ℕ} {P : List ℕ → Type 0} {a b c : DirAt} → ReadsFile inner most P a b → OnlyAsks observed asks Keeps b c → ReadsFile inner most P a c
+  pub file_before : {inner : Inner} {most : ℕ} {P : List ℕ → Type 0} {a b c : DirAt} → ReadsFile inner most P a b → OnlyAsksAndKeeps observed asks Keeps b c → ReadsFile inner most P a c
   file_before r bc = record { bytes = r.bytes; few = r.few; read = told_before r.read bc; holds = r.holds }
 
-  pub lack_after : (inner : Inner) (most : ℕ) (P : List ℕ → Type 0) {a b : DirAt} (c : DirAt) → OnlyAsks observed asks Keeps a b → LacksFile inner most P b c → LacksFile inner most P a c
+  pub lack_after : (inner : Inner) (most : ℕ) (P : List ℕ → Type 0) {a b : DirAt} (c : DirAt) → OnlyAsksAndKeeps observed asks Keeps a b → LacksFile inner most P b c → LacksFile inner most P a c
   lack_after inner most P c ab (inl missing) = inl (held_after c ab missing)
   lack_after inner most P c ab (inr read) = inr (file_after ab read)
 
-  pub lack_before : (inner : Inner) (most : ℕ) (P : List ℕ → Type 0) (a : DirAt) {b c : DirAt} → b.process ≡ a.process → LacksFile inner most P a b → OnlyAsks observed asks Keeps b c → LacksFile inner most P a c
+  pub lack_before : (inner : Inner) (most : ℕ) (P : List ℕ → Type 0) (a : DirAt) {b c : DirAt} → b.process ≡ a.process → LacksFile inner most P a b → OnlyAsksAndKeeps observed asks Keeps b c → LacksFile inner most P a c
   lack_before inner most P a same (inl missing) bc = inl (held_before a same missing bc)
   lack_before inner most P a same (inr read) bc = inr (file_before read bc)
 
-  pub marks_after : {key : StoreKey} {P : List ℕ → Type 0} {a b c : DirAt} → OnlyAsks observed asks Keeps a b → ShowsMarks key P b c → ShowsMarks key P a c
+  pub marks_after : {key : StoreKey} {P : List ℕ → Type 0} {a b c : DirAt} → OnlyAsksAndKeeps observed asks Keeps a b → ShowsImportMarks key P b c → ShowsImportMarks key P a c
   marks_after ab r = record { items = r.items; shown = told_after ab r.shown; holds = r.holds }
 
-  pub marks_before : {key : StoreKey} {P : List ℕ → Type 0} {a b c : DirAt} → ShowsMarks key P a b → OnlyAsks observed asks Keeps b c → ShowsMarks key P a c
+  pub marks_before : {key : StoreKey} {P : List ℕ → Type 0} {a b c : DirAt} → ShowsImportMarks key P a b → OnlyAsksAndKeeps observed asks Keeps b c → ShowsImportMarks key P a c
   marks_before r bc = record { items = r.items; shown = told_before r.shown bc; holds = r.holds }

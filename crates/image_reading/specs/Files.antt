@@ -17,19 +17,19 @@ use Rattle.dir_files.specs.Reads.{ReadsUp, WasMissing}
 use Rattle.dir_files.specs.Listed.{ShowsDirectoryBetween}
 use Rattle.image_reading.specs.declared.file.KeptManifest.{KeptManifest}
 use Rattle.image_reading.specs.Within.{Within}
-use Rattle.image_reading.specs.Places.{image_inner, manifest_name, id_name, tree_name, IsAbsent, IsPresent}
+use Rattle.image_reading.specs.Places.{image_inner, manifest_name, id_name, tree_name, IsImageAbsent, IsPresent}
 use Rattle.image_reading.specs.Marks.{imported_moments, IsGreatest}
 
 -- the bytes are those of the manifest
-abbrev pub IsManifestOf : ImageManifest → List ℕ → Type 0
-IsManifestOf manifest bytes = image_manifest bytes ≡ reads (image_data manifest)
+abbrev pub IsImageManifestOf : ImageManifest → List ℕ → Type 0
+IsImageManifestOf manifest bytes = image_manifest bytes ≡ reads (image_data manifest)
 
-abbrev pub IsNoManifest : List ℕ → Type 0
-IsNoManifest bytes = (manifest : ImageData) → image_manifest bytes ≡ reads manifest → ⊥
+abbrev pub IsNoImageManifest : List ℕ → Type 0
+IsNoImageManifest bytes = (manifest : ImageData) → image_manifest bytes ≡ reads manifest → ⊥
 
 -- and they were kept
 abbrev pub IsKeptOf : KeptManifest → List ℕ → Type 0
-IsKeptOf kept bytes = (kept.bytes.items ≡ bytes) × IsManifestOf kept.manifest bytes
+IsKeptOf kept bytes = (kept.bytes.items ≡ bytes) × IsImageManifestOf kept.manifest bytes
 
 -- the bytes are the text of the ID and a line end, and the ID is that of an image with this key
 pub record IsIdOf (key : StoreKey) (id : ImageId) (bytes : List ℕ) : Type 0 where
@@ -72,17 +72,17 @@ most_of_id = 137
 abbrev pub most_of_tree : ℕ
 most_of_tree = 33554433
 
-abbrev pub manifest_file : StoreKey → (List ℕ → Type 0) → DirAt → DirAt → Type 0
-manifest_file key P old new = ReadsFile (image_inner key manifest_name) most_of_manifest P old new
+abbrev pub ReadsManifestFile : StoreKey → (List ℕ → Type 0) → DirAt → DirAt → Type 0
+ReadsManifestFile key P old new = ReadsFile (image_inner key manifest_name) most_of_manifest P old new
 
-abbrev pub ReadsManifest : StoreKey → ImageManifest → DirAt → DirAt → Type 0
-ReadsManifest key manifest old new = manifest_file key (IsManifestOf manifest) old new
+abbrev pub ReadsImageManifest : StoreKey → ImageManifest → DirAt → DirAt → Type 0
+ReadsImageManifest key manifest old new = ReadsManifestFile key (IsImageManifestOf manifest) old new
 
 abbrev pub ReadsKept : StoreKey → KeptManifest → DirAt → DirAt → Type 0
-ReadsKept key kept old new = manifest_file key (IsKeptOf kept) old new
+ReadsKept key kept old new = ReadsManifestFile key (IsKeptOf kept) old new
 
-abbrev pub LacksManifest : StoreKey → DirAt → DirAt → Type 0
-LacksManifest key old new = LacksFile (image_inner key manifest_name) most_of_manifest IsNoManifest old new
+abbrev pub ReadsNoImageManifest : StoreKey → DirAt → DirAt → Type 0
+ReadsNoImageManifest key old new = LacksFile (image_inner key manifest_name) most_of_manifest IsNoImageManifest old new
 
 abbrev pub ReadsId : StoreKey → ImageId → DirAt → DirAt → Type 0
 ReadsId key id old new = ReadsFile (image_inner key id_name) most_of_id (IsIdOf key id) old new
@@ -101,15 +101,15 @@ abbrev pub LacksStoredTree : StoreKey → DirAt → DirAt → Type 0
 LacksStoredTree key old new = HeldBetween old new (IsPresent key) × LacksTree key old new
 
 -- the folder was listed, and this holds of the moments of the marks that it showed
-pub record ShowsMarks (key : StoreKey) (P : List ℕ → Type 0) (old new : DirAt) : Type 0 where
+pub record ShowsImportMarks (key : StoreKey) (P : List ℕ → Type 0) (old new : DirAt) : Type 0 where
   pub items : List Item
   pub shown : Within (λ first last. ShowsDirectoryBetween first last (image_inner key []) items) old new
   pub holds : P (imported_moments items)
 
 -- the moment is the greatest of the marks that were shown
 abbrev pub ReadsMoment : StoreKey → ℕ → DirAt → DirAt → Type 0
-ReadsMoment key moment old new = ShowsMarks key (λ moments. IsGreatest moments moment) old new
+ReadsMoment key moment old new = ShowsImportMarks key (λ moments. IsGreatest moments moment) old new
 
 -- no folder stood there, or no mark was shown
 abbrev pub LacksMoment : StoreKey → DirAt → DirAt → Type 0
-LacksMoment key old new = HeldBetween old new (IsAbsent key) ⊎ ShowsMarks key (λ moments. moments ≡ []) old new
+LacksMoment key old new = HeldBetween old new (IsImageAbsent key) ⊎ ShowsImportMarks key (λ moments. moments ≡ []) old new

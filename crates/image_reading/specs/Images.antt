@@ -11,26 +11,26 @@ use Rattle.image_reading.specs.declared.error.StoreError.TheVariants.{Damaged}
 use Rattle.image_reading.specs.declared.file.KeptManifest.{KeptManifest}
 use Rattle.image_reading.specs.Places.{stored_path, manifest_name, id_name, tree_name, mark_name, IsPresent}
 use Rattle.image_reading.specs.Refusals.{IsDamaged}
-use Rattle.image_reading.specs.Files.{ReadsKept, LacksManifest, ReadsManifest, ReadsId, LacksId, ReadsTree, LacksTree, ReadsMoment, LacksMoment}
+use Rattle.image_reading.specs.Files.{ReadsKept, ReadsNoImageManifest, ReadsImageManifest, ReadsId, LacksId, ReadsTree, LacksTree, ReadsMoment, LacksMoment}
 
 -- its files say what the image has
 pub record ReadsImage (image : Stored) (old new : DirAt) : Type 0 where
-  pub manifest : ReadsManifest image.key image.manifest old new
+  pub manifest : ReadsImageManifest image.key image.manifest old new
   pub id : ReadsId image.key image.id old new
   pub moment : ReadsMoment image.key image.moment old new
 
-abbrev pub HasManifest : StoreKey → DirAt → DirAt → Type 0
-HasManifest key old new = (kept : KeptManifest) × ReadsKept key kept old new
+abbrev pub ReadsSomeManifest : StoreKey → DirAt → DirAt → Type 0
+ReadsSomeManifest key old new = (kept : KeptManifest) × ReadsKept key kept old new
 
-abbrev pub HasId : StoreKey → DirAt → DirAt → Type 0
-HasId key old new = (id : ImageId) × ReadsId key id old new
+abbrev pub ReadsSomeId : StoreKey → DirAt → DirAt → Type 0
+ReadsSomeId key old new = (id : ImageId) × ReadsId key id old new
 
 -- the path is of the first of the manifest, the ID and the third that isn't there or has no reading
 abbrev pub LacksInTurn : StoreKey → List ℕ → (DirAt → DirAt → Type 0) → List ℕ → DirAt → DirAt → Type 0
 LacksInTurn key third LacksThird path old new =
-    ((path ≡ stored_path key manifest_name) × LacksManifest key old new)
-    ⊎ (((path ≡ stored_path key id_name) × HasManifest key old new × LacksId key old new)
-    ⊎ ((path ≡ stored_path key third) × HasManifest key old new × HasId key old new × LacksThird old new))
+    ((path ≡ stored_path key manifest_name) × ReadsNoImageManifest key old new)
+    ⊎ (((path ≡ stored_path key id_name) × ReadsSomeManifest key old new × LacksId key old new)
+    ⊎ ((path ≡ stored_path key third) × ReadsSomeManifest key old new × ReadsSomeId key old new × LacksThird old new))
 
 -- where the error says that a file is damaged, it is the first of them
 abbrev pub IsFirstLack : StoreKey → List ℕ → (DirAt → DirAt → Type 0) → StoreError → DirAt → DirAt → Type 0
@@ -60,6 +60,6 @@ pub record ReadsParts (key : StoreKey) (digest : List ℕ) (old new : DirAt) : T
   pub is : digest ≡ image_digest id kept.bytes.items lines
 
 -- and a folder stood there
-pub record HasDigest (key : StoreKey) (digest : List ℕ) (old new : DirAt) : Type 0 where
+pub record ReadsDigest (key : StoreKey) (digest : List ℕ) (old new : DirAt) : Type 0 where
   pub there : HeldBetween old new (IsPresent key)
   pub parts : ReadsParts key digest old new

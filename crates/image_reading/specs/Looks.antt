@@ -7,14 +7,15 @@ use Rattle.dir_model.specs.declared.opening.Holding.{Holding}
 use Rattle.dir_model.specs.declared.request.Request.{Request}
 use Rattle.dir_model.specs.declared.request.Request.TheVariants.{ListArea, ListIn, ReadIn}
 use Rattle.dir_model.specs.declared.spot.Handle.{Handle}
-use Rattle.dir_model.specs.Local.{Local, is_number}
+use Rattle.dir_model.specs.Local.{Local, is_handle_of}
 use Rattle.dir_model.specs.Paths.{is_empty}
 use Rattle.dir_model.specs.State.{spot_eq}
 use Rattle.dir_rules.specs.declared.seen.Seen.{Seen}
 use Rattle.dir_rules.specs.declared.seen.ShownArea.{ShownArea}
-use Rattle.dir_rules.specs.Standing.{is_in, is_gate_of, closes_gate}
+use Rattle.dir_rules.specs.Standing.{is_in, is_gate_of, excludes_area}
 use Rattle.dir_trait.specs.DirCalls.{DirAt, ExtendsBy}
 use Rattle.dir_trait.specs.Knowledge.{Knows}
+use Rattle.dir_trait.specs.Effects.{OnlyAsksAndKeeps}
 use Rattle.dir_files.specs.Reads.{KeepsKnown, may_read}
 use Rattle.image_reading.specs.Places.{image_spot}
 
@@ -31,22 +32,14 @@ reads_images (ListIn inner) = is_in inner.spot.area Images && is_empty inner.pat
 reads_images (ListArea area) = is_in area Images
 reads_images _ = false
 
--- nothing was asked for but this, nothing has changed, and so much is known still
-pub record OnlyAsks (observed : Bool) (asks : Request → Bool) (Keeps : DirAt → DirAt → Type 0) (old new : DirAt) : Type 0 where
-  pub same : new.process ≡ old.process
-  pub faults : old.faults ≤ new.faults
-  pub local : new.local ≡ old.local
-  pub extends : observed ≡ true → ExtendsBy asks old new
-  pub known : observed ≡ true → Keeps old new
-
 -- nothing was asked for but this image, and whatever a process knew that holds the area's lock, it knows
 abbrev pub OnlyReadsImage : Bool → StoreKey → DirAt → DirAt → Type 0
-OnlyReadsImage observed key old new = OnlyAsks observed (reads_image key) (KeepsKnown Images) old new
+OnlyReadsImage observed key old new = OnlyAsksAndKeeps observed (reads_image key) (KeepsKnown Images) old new
 
 -- whatever the process knew, it knows; but where it holds the area's lock exclusively, other names may be noted
 pub record KnowsNamed (s : Seen) (new : DirAt) : Type 0 where
   pub areas : List ShownArea
-  pub shared : closes_gate Images s.standing ≡ false → areas ≡ s.areas
+  pub shared : excludes_area Images s.standing ≡ false → areas ≡ s.areas
   pub knows : Knows new (record s { areas = areas })
 
 abbrev pub KeepsNamed : DirAt → DirAt → Type 0
@@ -54,11 +47,11 @@ KeepsNamed old new = (s : Seen) → may_read Images s.standing ≡ true → Know
 
 -- nothing was asked for but images and the names of the area
 abbrev pub OnlyReadsImages : Bool → DirAt → DirAt → Type 0
-OnlyReadsImages observed old new = OnlyAsks observed reads_images KeepsNamed old new
+OnlyReadsImages observed old new = OnlyAsksAndKeeps observed reads_images KeepsNamed old new
 
 -- the handle is open on the lock of the area and holds it
 abbrev pub is_images_lock : Handle → Holding → Bool
-is_images_lock gate h = is_number gate h && (is_gate_of Images h.target && is_some h.lock)
+is_images_lock gate h = is_handle_of gate h && (is_gate_of Images h.target && is_some h.lock)
 
 abbrev pub HoldsImages : Local → Handle → Type 0
 HoldsImages m gate = list_any (is_images_lock gate) m.holdings ≡ true

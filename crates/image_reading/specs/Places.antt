@@ -34,8 +34,8 @@ abbrev pub mark_name : List ℕ
 mark_name = codes "imported-"
 
 -- no folder of the image stands there
-abbrev pub IsAbsent : StoreKey → DirState → Type 0
-IsAbsent key s = folder_at s.namespace (image_spot key) ≡ None
+abbrev pub IsImageAbsent : StoreKey → DirState → Type 0
+IsImageAbsent key s = folder_at s.namespace (image_spot key) ≡ None
 
 -- a folder of the image stands there
 abbrev pub IsPresent : StoreKey → DirState → Type 0
@@ -46,9 +46,9 @@ some_key None = None
 some_key (Some bytes) = Some (record { bytes = bytes })
 
 -- the key of which a name of the area is the text
-abbrev pub key_of : List ℕ → Option StoreKey
-key_of name = some_key (id_read 32 name)
+abbrev pub key_of_name : List ℕ → Option StoreKey
+key_of_name name = some_key (id_read 32 name)
 
 -- the keys among the names of the area, in the order of the names
 abbrev pub keys_among : List (List ℕ) → List StoreKey
-keys_among names = filter_map key_of names
+keys_among names = filter_map key_of_name names

@@ -6,10 +6,10 @@ use Rattle.image_reading.specs.declared.error.StoreError.TheVariants.{Damaged, N
 use Rattle.image_reading.specs.Places.{stored_path, manifest_name, id_name, tree_name, mark_name}
 
 -- the directory failed, or memory ran out
-abbrev pub IsOutside : StoreError → Type 0
-IsOutside DirFault = Unit {0}
-IsOutside NoMemory = Unit {0}
-IsOutside error = ⊥
+abbrev pub IsStoreFailure : StoreError → Type 0
+IsStoreFailure DirFault = Unit {0}
+IsStoreFailure NoMemory = Unit {0}
+IsStoreFailure error = ⊥
 
 -- or a file at such a path is damaged
 abbrev pub IsReadRefusal : (List ℕ → Type 0) → StoreError → Type 0

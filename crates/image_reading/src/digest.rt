@@ -3,10 +3,10 @@ ghost use Rattle.std.specs.Prelude.{◌≡◌, true, Ok, None, IfOk, IfErr, IsEr
 ghost use Rattle.dir_model.specs.Causes.{Rose};
 ghost use Rattle.dir_model.specs.Local.{IsActive};
 ghost use Rattle.dir_trait.specs.DirCalls.{HeldBetween};
-ghost use Rattle.image_reading.specs.Places.{IsAbsent};
+ghost use Rattle.image_reading.specs.Places.{IsImageAbsent};
 ghost use Rattle.image_reading.specs.Looks.{OnlyReadsImage};
 ghost use Rattle.image_reading.specs.Refusals.{IsReadRefusal, IsDigestPath};
-ghost use Rattle.image_reading.specs.Images.{ReadsParts, HasDigest, LacksDigest, LacksStored};
+ghost use Rattle.image_reading.specs.Images.{ReadsParts, ReadsDigest, LacksDigest, LacksStored};
 
 use crate::error::{StoreError, out_of_memory};
 use crate::file::{read_id, read_listing, read_manifest};
@@ -45,8 +45,8 @@ pub fn stored_digest<D: Dir>(
     ensures cause { IsErrOf result StoreError.DirFault → Rose (D.shown dir.old).faults (D.shown dir.new).faults }
     ensures only { OnlyReadsImage D.observed key (D.shown dir.old) (D.shown dir.new) }
     ensures refusals { IfErr result (IsReadRefusal (IsDigestPath key)) }
-    ensures absent { result ≡ Ok None → D.observed ≡ true → HeldBetween (D.shown dir.old) (D.shown dir.new) (IsAbsent key) }
-    ensures there { IfOk result (λ found. IfSome found (λ digest. D.observed ≡ true → HasDigest key digest (D.shown dir.old) (D.shown dir.new))) }
+    ensures absent { result ≡ Ok None → D.observed ≡ true → HeldBetween (D.shown dir.old) (D.shown dir.new) (IsImageAbsent key) }
+    ensures there { IfOk result (λ found. IfSome found (λ digest. D.observed ≡ true → ReadsDigest key digest (D.shown dir.old) (D.shown dir.new))) }
     ensures damaged { IfErr result (λ e. D.observed ≡ true → LacksStored key e (D.shown dir.old) (D.shown dir.new)) }
 {
     if !is_there(alloc, dir, key)? {

@@ -1,7 +1,7 @@
 // Why the store gives no answer.
 ghost use Rattle.std.specs.Prelude.{◌≡◌, true, IfOk};
 ghost use Rattle.dir_model.specs.Replies.{is_fault};
-ghost use Rattle.image_reading.specs.Refusals.{IsOutside};
+ghost use Rattle.image_reading.specs.Refusals.{IsStoreFailure};
 
 use ac_types::{Fault, NoMemory, StoreKey, Text};
 use dir_files::ReadError;
@@ -80,7 +80,7 @@ pub(crate) fn short_of_memory<T: Drop>(_refused: AllocFailed<T>) -> StoreError
 pub(crate) fn fault_error(error: DirError) -> StoreError
     requires { is_fault error ≡ true }
     ensures fault { result ≡ StoreError.DirFault → error ≡ DirError.Failed }
-    ensures outside { IsOutside result }
+    ensures outside { IsStoreFailure result }
 {
     match error {
         DirError::Failed => StoreError::DirFault,
@@ -92,7 +92,7 @@ pub(crate) fn fault_error(error: DirError) -> StoreError
 /// The refusal of a read of a file.
 pub(crate) fn read_error(error: ReadError) -> StoreError
     ensures fault { result ≡ StoreError.DirFault → error ≡ ReadError.DirFault }
-    ensures outside { IsOutside result }
+    ensures outside { IsStoreFailure result }
 {
     match error {
         ReadError::DirFault => StoreError::DirFault,

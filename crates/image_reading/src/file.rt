@@ -3,12 +3,12 @@ ghost use Rattle.std.specs.Prelude.{◌≡◌, ◌<◌, ◌≤◌, ℕ, List, tr
 ghost use Rattle.dir_model.specs.Causes.{Rose};
 ghost use Rattle.dir_model.specs.Paths.{is_path};
 ghost use Rattle.dir_model.specs.Local.{IsActive};
-ghost use Rattle.dir_files.specs.Reads.{ReadsUp, WasMissing, StaysBetween};
+ghost use Rattle.dir_files.specs.Reads.{ReadsUp, WasMissing, FileStaysBetween};
 ghost use Rattle.image_reading.specs.Places.{image_inner, stored_path, manifest_name, id_name, tree_name};
 ghost use Rattle.image_reading.specs.Looks.{OnlyReadsImage};
 ghost use Rattle.image_reading.specs.Trees.{ReadsNoTrees};
-ghost use Rattle.image_reading.specs.Refusals.{IsOutside, IsReadRefusal, IsDamaged};
-ghost use Rattle.image_reading.specs.Files.{IsKeptOf, IsNoManifest, IsIdOf, IsNoId, IsListingOf, IsNoListing, ReadsKept, LacksManifest, ReadsId, LacksId, ReadsTree, LacksTree};
+ghost use Rattle.image_reading.specs.Refusals.{IsStoreFailure, IsReadRefusal, IsDamaged};
+ghost use Rattle.image_reading.specs.Files.{IsKeptOf, IsNoImageManifest, IsIdOf, IsNoId, IsListingOf, IsNoListing, ReadsKept, ReadsNoImageManifest, ReadsId, LacksId, ReadsTree, LacksTree};
 
 use crate::error::{StoreError, read_error};
 use crate::place::{damaged, spot_of};
@@ -50,13 +50,13 @@ pub(crate) fn read_part<D: Dir>(
     ensures cause { IsErrOf result StoreError.DirFault → Rose (D.shown dir.old).faults (D.shown dir.new).faults }
     ensures only { OnlyReadsImage D.observed key (D.shown dir.old) (D.shown dir.new) }
     ensures trees { bytes_eq name.now tree_name ≡ false → ReadsNoTrees D.observed (D.shown dir.old) (D.shown dir.new) }
-    ensures refusals { IfErr result IsOutside }
+    ensures refusals { IfErr result IsStoreFailure }
     ensures most { IfOk result (λ found. IfSome found (λ bytes. length bytes.items ≤ most)) }
     ensures read { IfOk result (λ found. D.observed ≡ true → MatchOption found
         (WasMissing (image_inner key name.now) (D.shown dir.old) (D.shown dir.new))
         (λ bytes. ReadsUp (image_inner key name.now) most (D.shown dir.old) (D.shown dir.new) bytes.items)) }
     ensures whole { IfOk result (λ found. D.observed ≡ true → (file : List ℕ)
-        → StaysBetween (image_inner key name.now) file (D.shown dir.old) (D.shown dir.new) → IsSomeAnd found (λ bytes. bytes.items ≡ take most file)) }
+        → FileStaysBetween (image_inner key name.now) file (D.shown dir.old) (D.shown dir.new) → IsSomeAnd found (λ bytes. bytes.items ≡ take most file)) }
 {
     let spot = spot_of(alloc, key)?;
     match read_file(alloc, dir, spot, name, most) {
@@ -78,9 +78,9 @@ pub fn read_manifest<D: Dir>(
     ensures trees { ReadsNoTrees D.observed (D.shown dir.old) (D.shown dir.new) }
     ensures refusals { IfErr result (IsReadRefusal (λ path. path ≡ stored_path key manifest_name)) }
     ensures read { IfOk result (λ kept. D.observed ≡ true → ReadsKept key kept (D.shown dir.old) (D.shown dir.new)) }
-    ensures damaged { IfErr result (λ e. IsDamaged e → D.observed ≡ true → LacksManifest key (D.shown dir.old) (D.shown dir.new)) }
-    ensures whole { D.observed ≡ true → (file : List ℕ) → StaysBetween (image_inner key manifest_name) file (D.shown dir.old) (D.shown dir.new)
-        → MatchResult result (λ kept. IsKeptOf kept file) (λ e. IsDamaged e → IsNoManifest file) }
+    ensures damaged { IfErr result (λ e. IsDamaged e → D.observed ≡ true → ReadsNoImageManifest key (D.shown dir.old) (D.shown dir.new)) }
+    ensures whole { D.observed ≡ true → (file : List ℕ) → FileStaysBetween (image_inner key manifest_name) file (D.shown dir.old) (D.shown dir.new)
+        → MatchResult result (λ kept. IsKeptOf kept file) (λ e. IsDamaged e → IsNoImageManifest file) }
 {
     match read_part(alloc, dir, key, "manifest", MOST_OF_MANIFEST) {
         Ok(Some(bytes)) => manifest_of(alloc, key, bytes),
@@ -100,7 +100,7 @@ pub fn read_id<D: Dir>(alloc: Global, dir: &mut D, key: StoreKey) -> Result<Imag
     ensures refusals { IfErr result (IsReadRefusal (λ path. path ≡ stored_path key id_name)) }
     ensures read { IfOk result (λ id. D.observed ≡ true → ReadsId key id (D.shown dir.old) (D.shown dir.new)) }
     ensures damaged { IfErr result (λ e. IsDamaged e → D.observed ≡ true → LacksId key (D.shown dir.old) (D.shown dir.new)) }
-    ensures whole { D.observed ≡ true → (file : List ℕ) → StaysBetween (image_inner key id_name) file (D.shown dir.old) (D.shown dir.new)
+    ensures whole { D.observed ≡ true → (file : List ℕ) → FileStaysBetween (image_inner key id_name) file (D.shown dir.old) (D.shown dir.new)
         → MatchResult result (λ id. IsIdOf key id file) (λ e. IsDamaged e → IsNoId key file) }
 {
     match read_part(alloc, dir, key, "id", MOST_OF_ID) {
@@ -123,7 +123,7 @@ pub fn read_listing<D: Dir>(
     ensures refusals { IfErr result (IsReadRefusal (λ path. path ≡ stored_path key tree_name)) }
     ensures read { IfOk result (λ lines. D.observed ≡ true → ReadsTree key lines (D.shown dir.old) (D.shown dir.new)) }
     ensures damaged { IfErr result (λ e. IsDamaged e → D.observed ≡ true → LacksTree key (D.shown dir.old) (D.shown dir.new)) }
-    ensures whole { D.observed ≡ true → (file : List ℕ) → StaysBetween (image_inner key tree_name) file (D.shown dir.old) (D.shown dir.new)
+    ensures whole { D.observed ≡ true → (file : List ℕ) → FileStaysBetween (image_inner key tree_name) file (D.shown dir.old) (D.shown dir.new)
         → MatchResult result (λ lines. IsListingOf lines file) (λ e. IsDamaged e → IsNoListing file) }
 {
     match read_part(alloc, dir, key, "tree", MOST_OF_TREE) {

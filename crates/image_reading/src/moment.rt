@@ -4,10 +4,10 @@ ghost use Rattle.dir_model.specs.Causes.{Rose};
 ghost use Rattle.dir_model.specs.Local.{IsActive};
 ghost use Rattle.dir_trait.specs.DirCalls.{HeldBetween};
 ghost use Rattle.dir_files.specs.Listed.{ShowsDirectoryBetween};
-ghost use Rattle.image_reading.specs.Places.{image_inner, stored_path, mark_name, IsPresent, IsAbsent};
+ghost use Rattle.image_reading.specs.Places.{image_inner, stored_path, mark_name, IsPresent, IsImageAbsent};
 ghost use Rattle.image_reading.specs.Looks.{OnlyReadsImage};
 ghost use Rattle.image_reading.specs.Trees.{ReadsNoTrees};
-ghost use Rattle.image_reading.specs.Refusals.{IsOutside, IsReadRefusal, IsDamaged};
+ghost use Rattle.image_reading.specs.Refusals.{IsStoreFailure, IsReadRefusal, IsDamaged};
 ghost use Rattle.image_reading.specs.Files.{ReadsMoment, LacksMoment};
 
 use crate::error::{StoreError, fault_error};
@@ -28,9 +28,9 @@ pub(crate) fn read_items<D: Dir>(
     ensures cause { IsErrOf result StoreError.DirFault → Rose (D.shown dir.old).faults (D.shown dir.new).faults }
     ensures only { OnlyReadsImage D.observed key (D.shown dir.old) (D.shown dir.new) }
     ensures trees { ReadsNoTrees D.observed (D.shown dir.old) (D.shown dir.new) }
-    ensures refusals { IfErr result IsOutside }
+    ensures refusals { IfErr result IsStoreFailure }
     ensures there { IfOk result (λ found. D.observed ≡ true
-        → MatchOption found (HeldBetween (D.shown dir.old) (D.shown dir.new) (IsAbsent key)) (λ items. HeldBetween (D.shown dir.old) (D.shown dir.new) (IsPresent key))) }
+        → MatchOption found (HeldBetween (D.shown dir.old) (D.shown dir.new) (IsImageAbsent key)) (λ items. HeldBetween (D.shown dir.old) (D.shown dir.new) (IsPresent key))) }
     ensures shows { IfOk result (λ found. D.observed ≡ true
         → IfSome found (ShowsDirectoryBetween (D.shown dir.old) (D.shown dir.new) (image_inner key []))) }
 {
@@ -51,9 +51,9 @@ pub(crate) fn is_there<D: Dir>(
     requires active { IsActive (D.shown dir.old).local }
     ensures cause { IsErrOf result StoreError.DirFault → Rose (D.shown dir.old).faults (D.shown dir.new).faults }
     ensures only { OnlyReadsImage D.observed key (D.shown dir.old) (D.shown dir.new) }
-    ensures refusals { IfErr result IsOutside }
+    ensures refusals { IfErr result IsStoreFailure }
     ensures there { IfOk result (λ there. D.observed ≡ true
-        → MatchBool there (HeldBetween (D.shown dir.old) (D.shown dir.new) (IsPresent key)) (HeldBetween (D.shown dir.old) (D.shown dir.new) (IsAbsent key))) }
+        → MatchBool there (HeldBetween (D.shown dir.old) (D.shown dir.new) (IsPresent key)) (HeldBetween (D.shown dir.old) (D.shown dir.new) (IsImageAbsent key))) }
 {
     match read_items(alloc, dir, key) {
         Ok(Some(_)) => Ok(true),

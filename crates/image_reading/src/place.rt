@@ -1,6 +1,6 @@
 // The folder of an image, and the paths of its files.
 ghost use Rattle.std.specs.Prelude.{◌≡◌, ◌++◌, ◌∷◌, IfOk, IfErr};
-ghost use Rattle.image_reading.specs.Places.{image_spot, stored_path, key_of};
+ghost use Rattle.image_reading.specs.Places.{image_spot, stored_path, key_of_name};
 ghost use Rattle.image_reading.specs.Refusals.{IsDamage};
 
 use crate::error::{StoreError, out_of_memory};
@@ -53,7 +53,7 @@ pub(crate) fn damaged(alloc: Global, key: StoreKey, name: &str) -> StoreError
 
 /// The key of which a name of the area is the text.
 pub(crate) fn key_of(name: &Name) -> Option<StoreKey>
-    ensures { result ≡ key_of name.now }
+    ensures { result ≡ key_of_name name.now }
 {
     match StoreKey::parse(name.as_str()) {
         Ok(key) => Some(key),

@@ -4,7 +4,7 @@ ghost use Rattle.ac_types.specs.declared.store_key.StoreKey.{StoreKey};
 ghost use Rattle.dir_model.specs.Causes.{Rose};
 ghost use Rattle.dir_model.specs.Local.{IsActive};
 ghost use Rattle.dir_trait.specs.DirCalls.{HeldBetween};
-ghost use Rattle.image_reading.specs.Places.{IsAbsent, key_of};
+ghost use Rattle.image_reading.specs.Places.{IsImageAbsent, key_of_name};
 ghost use Rattle.image_reading.specs.Looks.{OnlyReadsImage, OnlyReadsImages, HoldsImages, KnowsStill, KnowsStillNamed};
 ghost use Rattle.image_reading.specs.Trees.{ReadsNoTrees};
 ghost use Rattle.image_reading.specs.Refusals.{IsReadRefusal, IsTreeRefusal, IsDamaged};
@@ -35,8 +35,8 @@ fn read_next<D: Dir>(
     ensures only { OnlyReadsImages D.observed (D.shown dir.old) (D.shown dir.new) }
     ensures trees { ReadsNoTrees D.observed (D.shown dir.old) (D.shown dir.new) }
     ensures refusals { IfErr result (IsReadRefusal IsStorePath) }
-    ensures read { IfOk result (λ done. D.observed ≡ true → AddsImage (key_of name.now) images.old.items images.new.items (D.shown dir.old) (D.shown dir.new)) }
-    ensures damaged { IfErr result (λ e. IsDamaged e → D.observed ≡ true → LacksNamed (key_of name.now) e (D.shown dir.old) (D.shown dir.new)) }
+    ensures read { IfOk result (λ done. D.observed ≡ true → AddsImage (key_of_name name.now) images.old.items images.new.items (D.shown dir.old) (D.shown dir.new)) }
+    ensures damaged { IfErr result (λ e. IsDamaged e → D.observed ≡ true → LacksNamed (key_of_name name.now) e (D.shown dir.old) (D.shown dir.new)) }
 {
     let Some(key) = key_of(name) else {
         return Ok(());
@@ -102,7 +102,7 @@ pub fn read_tree<D: Dir>(
     ensures refusals { IfErr result (IsTreeRefusal key) }
     ensures read { IfOk result (λ lines. D.observed ≡ true → ReadsTree key lines (D.shown dir.old) (D.shown dir.new)) }
     ensures damaged { IfErr result (λ e. IsDamaged e → D.observed ≡ true → LacksStoredTree key (D.shown dir.old) (D.shown dir.new)) }
-    ensures absent { (other : StoreKey) → IsErrOf result (StoreError.NoImage other) → D.observed ≡ true → HeldBetween (D.shown dir.old) (D.shown dir.new) (IsAbsent key) }
+    ensures absent { (other : StoreKey) → IsErrOf result (StoreError.NoImage other) → D.observed ≡ true → HeldBetween (D.shown dir.old) (D.shown dir.new) (IsImageAbsent key) }
 {
     let _gate = gate;
     match is_there(alloc, dir, key) {

@@ -3,7 +3,7 @@ ghost use Rattle.std.specs.Prelude.{◌≡◌, ◌++◌, ◌∷◌, [], ℕ, Lis
 ghost use Rattle.ac_types.specs.Ids.{AreBytes, id_text};
 ghost use Rattle.image_reading.specs.Places.{stored_path, manifest_name, id_name, tree_name};
 ghost use Rattle.image_reading.specs.Refusals.{IsDamage};
-ghost use Rattle.image_reading.specs.Files.{IsKeptOf, IsNoManifest, IsIdOf, IsNoId, IsListingOf, IsNoListing};
+ghost use Rattle.image_reading.specs.Files.{IsKeptOf, IsNoImageManifest, IsIdOf, IsNoId, IsListingOf, IsNoListing};
 
 use crate::error::StoreError;
 use crate::file::KeptManifest;
@@ -21,7 +21,7 @@ pub(crate) fn manifest_of(
     bytes: Vec<u8>,
 ) -> Result<KeptManifest, StoreError>
     ensures ok { IfOk result (λ kept. IsKeptOf kept bytes.items) }
-    ensures fault { IfErr result (IsDamage (stored_path key manifest_name) (IsNoManifest bytes.items)) }
+    ensures fault { IfErr result (IsDamage (stored_path key manifest_name) (IsNoImageManifest bytes.items)) }
 {
     match read_image(alloc, &bytes) {
         Ok(manifest) => Ok(KeptManifest { manifest, bytes }),

@@ -21,26 +21,28 @@ use Rattle.dir_model.specs.Replies.{may_refuse, is_error}
 use Rattle.dir_model.specs.Calls.{CallStep, Extends}
 use Rattle.dir_model.proofs.Allowed.{allowed_reply}
 use Rattle.dir_model.proofs.Moments.{missed, step_at}
+use Rattle.dir_laws.proofs.Rose.{rose_later, rose_still}
 use Rattle.dir_trait.specs.DirCalls.{DirAt, DirCall, HeldBetween, ExtendsBy}
 use Rattle.dir_files.specs.declared.lock_error.LockError.{LockError}
 use Rattle.dir_files.specs.declared.lock_error.LockError.TheVariants as lock
-use Rattle.dir_files.specs.AreaLocks.{takes, IsBusy, IsBusyElsewhere}
+use Rattle.dir_files.specs.AreaLocks.{is_taking_area, IsBusy, IsBusyElsewhere}
+use Rattle.folder_building.proofs.Following.{Follows}
 use Rattle.folder_removal.specs.declared.error.DeleteError.{DeleteError}
 use Rattle.folder_removal.specs.declared.error.DeleteError.TheVariants as delete
-use Rattle.folder_removal.specs.Removal.{is_stray, EndsStray}
+use Rattle.folder_removal.specs.Removal.{is_stray_deletion, EndsWithStrayDeletion}
 use Rattle.image_reading.specs.declared.error.StoreError.{StoreError}
 use Rattle.image_reading.specs.declared.error.StoreError.TheVariants.{Busy, NoImage, DirFault, NoMemory, Stray}
-use Rattle.image_reading.specs.Places.{image_spot, IsAbsent}
-use Rattle.image_removal.specs.Requests.{incoming_spot, removed_spot, away_spot, puts_away, is_stray_answer}
-use Rattle.image_removal.specs.Causes.{lock_refusal, lock_free, change_refusal, look_answer, move_refusal, delete_refusal, is_work_refusal}
-use Rattle.image_removal.specs.Causes.{is_fault_refusal, is_move_refusal, is_remove_refusal, WasStray, WorkCause, WasTold, MoveCause, RemoveCause, BusyElsewhere}
-use Rattle.image_removal.specs.Calls.{Called}
-use Rattle.image_removal.proofs.Times.{Follows, rose_later, rose_still, called_self, called_after, called_before, due_of}
+use Rattle.image_reading.specs.Places.{image_spot, IsImageAbsent}
+use Rattle.image_removal.specs.Requests.{incoming_spot, removed_spot, away_spot, puts_away, is_stray_removal}
+use Rattle.image_removal.specs.Causes.{lock_refusal, lock_free, change_refusal, look_answer, move_refusal, delete_refusal, is_removal_work_refusal}
+use Rattle.image_removal.specs.Causes.{is_fault_refusal, is_move_refusal, is_remove_refusal, WasStrayRemoval, RemovalWorkCause, WasTold, MoveCause, ImageRemovalCause, RemovalBusyElsewhere}
+use Rattle.image_removal.specs.Calls.{WasCalled}
+use Rattle.image_removal.proofs.Times.{called_self, called_after, called_before, due_of}
 
 -- a lock that wasn't had
 pub lock_removing : {observed : Bool} {key : StoreKey} {draw : PodId} {old new : DirAt} (e : LockError) → (e ≡ lock.DirFault → Rose old.faults new.faults)
-    → (e ≡ lock.Busy → observed ≡ true → HeldBetween old new (IsBusy Images Exclusive)) → (observed ≡ true → ExtendsBy (takes Images Exclusive) old new)
-    → RemoveCause observed key draw (lock_refusal Images e) old new
+    → (e ≡ lock.Busy → observed ≡ true → HeldBetween old new (IsBusy Images Exclusive)) → (observed ≡ true → ExtendsBy (is_taking_area Images Exclusive) old new)
+    → ImageRemovalCause observed key draw (lock_refusal Images e) old new
 lock_removing {observed} {key} {draw} {old} {new} lock.Busy fault busy only = record {
   kind = refl;
   fault = λ is. cc;
@@ -57,18 +59,18 @@ lock_is_busy area here lock.DirFault is = cc
 lock_is_busy area here lock.NoMemory is = cc
 
 pub lock_elsewhere : (old new : DirAt) (area : Area) (e : LockError) → (e ≡ lock.Busy → HeldBetween old new (IsBusyElsewhere old.process area Exclusive))
-    → BusyElsewhere (lock_refusal area e) old new
+    → RemovalBusyElsewhere (lock_refusal area e) old new
 lock_elsewhere old new area e busy here is = let b = lock_is_busy area here e is in subst (λ (a : Area). HeldBetween old new (IsBusyElsewhere old.process a Exclusive)) b.1 (busy b.0)
 
 -- nothing but a lock is busy
-pub move_never_busy : (old new : DirAt) (e : StoreError) → is_move_refusal e ≡ true → BusyElsewhere e old new
+pub move_never_busy : (old new : DirAt) (e : StoreError) → is_move_refusal e ≡ true → RemovalBusyElsewhere e old new
 move_never_busy old new e kind area is = let clash : false ≡ true = sym (ap is_move_refusal is) ∙ kind in cc
 
-pub work_never_busy : (old new : DirAt) (e : StoreError) → is_work_refusal e ≡ true → BusyElsewhere e old new
-work_never_busy old new e kind area is = let clash : false ≡ true = sym (ap is_work_refusal is) ∙ kind in cc
+pub work_never_busy : (old new : DirAt) (e : StoreError) → is_removal_work_refusal e ≡ true → RemovalBusyElsewhere e old new
+work_never_busy old new e kind area is = let clash : false ≡ true = sym (ap is_removal_work_refusal is) ∙ kind in cc
 
 -- where the lock of removed wasn't had
-pub free_cause : (observed : Bool) (old new : DirAt) (e : LockError) → (e ≡ lock.DirFault → Rose old.faults new.faults) → IfErr (lock_free e) (λ x. WorkCause observed x old new)
+pub free_cause : (observed : Bool) (old new : DirAt) (e : LockError) → (e ≡ lock.DirFault → Rose old.faults new.faults) → IfErr (lock_free e) (λ x. RemovalWorkCause observed x old new)
 free_cause observed old new lock.Busy fault = tt
 free_cause observed old new lock.DirFault fault = record { kind = refl; fault = λ is. fault refl; stray = λ is. cc }
 free_cause observed old new lock.NoMemory fault = record { kind = refl; fault = λ is. cc; stray = λ is. cc }
@@ -78,7 +80,7 @@ free_busy P lock.Busy busy = busy refl
 free_busy P lock.DirFault busy = tt
 free_busy P lock.NoMemory busy = tt
 
-pub fault_cause : {observed : Bool} {old new : DirAt} (e : StoreError) → is_fault_refusal e ≡ true → (e ≡ DirFault → Rose old.faults new.faults) → WorkCause observed e old new
+pub fault_cause : {observed : Bool} {old new : DirAt} (e : StoreError) → is_fault_refusal e ≡ true → (e ≡ DirFault → Rose old.faults new.faults) → RemovalWorkCause observed e old new
 fault_cause DirFault kind fault = record { kind = refl; fault = fault; stray = λ is. cc }
 fault_cause NoMemory kind fault = record { kind = refl; fault = λ is. cc; stray = λ is. cc }
 fault_cause e kind fault = cc
@@ -89,7 +91,7 @@ work_fault Failed is = refl
 work_fault dir.NoMemory is = cc
 work_fault e is = cc
 
-work_kind : (e : DirError) → is_work_refusal (change_refusal e) ≡ true
+work_kind : (e : DirError) → is_removal_work_refusal (change_refusal e) ≡ true
 work_kind Failed = refl
 work_kind dir.NoMemory = refl
 work_kind e = refl
@@ -98,7 +100,7 @@ module _ (name : List ℕ) where
   abbrev Sweeps : Request
   Sweeps = MoveFolder (incoming_spot name) (removed_spot name)
 
-  sweep_stray : (e : DirError) → may_refuse Sweeps e ≡ true → change_refusal e ≡ Stray → is_stray_answer Sweeps (Refused e 0) ≡ true
+  sweep_stray : (e : DirError) → may_refuse Sweeps e ≡ true → change_refusal e ≡ Stray → is_stray_removal Sweeps (Refused e 0) ≡ true
   sweep_stray Missing may is = refl
   sweep_stray Exists may is = refl
   sweep_stray Failed may is = cc
@@ -106,7 +108,7 @@ module _ (name : List ℕ) where
   sweep_stray e may is = cc
 
   pub sweep_cause : {observed : Bool} {old new : DirAt} (e : DirError) → may_refuse Sweeps e ≡ true → (e ≡ Failed → Rose old.faults new.faults)
-      → DirCall observed old Sweeps (Refused e 0) new → WorkCause observed (change_refusal e) old new
+      → DirCall observed old Sweeps (Refused e 0) new → RemovalWorkCause observed (change_refusal e) old new
   sweep_cause e may fault c = record {
     kind = work_kind e;
     fault = λ is. fault (work_fault e is);
@@ -115,7 +117,7 @@ module _ (name : List ℕ) where
 
 -- a listing of an area that was refused
 pub listing_cause : {observed : Bool} {old new : DirAt} (area : Area) (e : DirError) → may_refuse (ListArea area) e ≡ true → (e ≡ Failed → Rose old.faults new.faults)
-    → WorkCause observed (change_refusal e) old new
+    → RemovalWorkCause observed (change_refusal e) old new
 listing_cause area Failed may fault = record { kind = refl; fault = λ is. fault refl; stray = λ is. cc }
 listing_cause area dir.NoMemory may fault = record { kind = refl; fault = λ is. cc; stray = λ is. cc }
 listing_cause area Missing may fault = cc
@@ -133,7 +135,7 @@ module _ (key : StoreKey) (draw : PodId) where
   told_none : {me : ℕ} {old new : List Event} → CallStep me old (puts_away key draw) (Refused Missing 0) new → WasTold key draw me old new
   told_none {me} {old} {new} s = record {
     told = s;
-    absent = step_at me old (puts_away key draw) (Refused Missing 0) new (IsAbsent key) refl refl
+    absent = step_at me old (puts_away key draw) (Refused Missing 0) new (IsImageAbsent key) refl refl
         (λ state allowed. absent_by (folder_at state.namespace (image_spot key)) (stands state.namespace (away_spot draw))
         (allowed_reply state me (puts_away key draw) (Refused Missing 0) allowed)) s;
   }
@@ -187,8 +189,8 @@ module _ (key : StoreKey) (draw : PodId) where
 
   -- around it the lock was taken and given up
   pub move_removing : {observed : Bool} {a b c d : DirAt} (e : StoreError) → b.process ≡ a.process → a.faults ≤ b.faults
-      → (observed ≡ true → ExtendsBy (takes Images Exclusive) a b) → c.process ≡ b.process
-      → c.faults ≤ d.faults → (observed ≡ true → ExtendsBy (takes Images Exclusive) c d) → MoveCause observed key draw e b c → RemoveCause observed key draw e a d
+      → (observed ≡ true → ExtendsBy (is_taking_area Images Exclusive) a b) → c.process ≡ b.process
+      → c.faults ≤ d.faults → (observed ≡ true → ExtendsBy (is_taking_area Images Exclusive) c d) → MoveCause observed key draw e b c → ImageRemovalCause observed key draw e a d
   move_removing {observed} {a} {b} {c} {d} e ab_same ab_faults ab bc_same cd_faults cd m = record {
     kind = kind e m.kind;
     fault = λ is. rose_later a.faults b.faults d.faults ab_faults (rose_still b.faults c.faults d.faults (m.fault is) cd_faults);
@@ -200,7 +202,7 @@ module _ (key : StoreKey) (draw : PodId) where
         after = c.trace;
         first = ab t;
         told = subst (λ (me : ℕ). WasTold key draw me b.trace c.trace) ab_same ((m.absent other is).1 t);
-        last = subst (λ (me : ℕ). Extends (takes Images Exclusive) me c.trace d.trace) (bc_same ∙ ab_same) (cd t);
+        last = subst (λ (me : ℕ). Extends (is_taking_area Images Exclusive) me c.trace d.trace) (bc_same ∙ ab_same) (cd t);
       },
     );
     stray = λ is t. inl (called_after (ab t) ab_same (called_before (m.stray is t) (cd t)));
@@ -215,28 +217,28 @@ module _ (key : StoreKey) (draw : PodId) where
       kind e h = cc
 
   -- what came after the move
-  pub work_removing : {observed : Bool} {a b c : DirAt} (e : StoreError) → Follows observed a b → (observed ≡ true → Called (puts_away key draw) Done a.process a.trace b.trace) → WorkCause observed e b c → RemoveCause observed key draw e a c
+  pub work_removing : {observed : Bool} {a b c : DirAt} (e : StoreError) → Follows observed a b → (observed ≡ true → WasCalled (puts_away key draw) Done a.process a.trace b.trace) → RemovalWorkCause observed e b c → ImageRemovalCause observed key draw e a c
   work_removing {observed} {a} {b} {c} e ab moved w = record {
     kind = kind e w.kind;
     fault = λ is. rose_later a.faults b.faults c.faults ab.faults (w.fault is);
-    busy = λ area is. let clash : false ≡ true = sym (ap is_work_refusal is) ∙ w.kind in cc;
-    absent = λ other is. let clash : false ≡ true = sym (ap is_work_refusal is) ∙ w.kind in cc;
-    stray = λ is t. inr (record { between = b.trace; moved = moved t; stray = subst (λ (p : ℕ). WasStray p b.trace c.trace) ab.same (w.stray is t) });
+    busy = λ area is. let clash : false ≡ true = sym (ap is_removal_work_refusal is) ∙ w.kind in cc;
+    absent = λ other is. let clash : false ≡ true = sym (ap is_removal_work_refusal is) ∙ w.kind in cc;
+    stray = λ is t. inr (record { between = b.trace; moved = moved t; stray = subst (λ (p : ℕ). WasStrayRemoval p b.trace c.trace) ab.same (w.stray is t) });
   }
     where
-      kind : (e : StoreError) → is_work_refusal e ≡ true → is_remove_refusal e ≡ true
+      kind : (e : StoreError) → is_removal_work_refusal e ≡ true → is_remove_refusal e ≡ true
       kind DirFault h = refl
       kind NoMemory h = refl
       kind Stray h = refl
       kind e h = cc
 
 -- a deletion
-stray_more : (request : Request) (reply : Reply) → is_stray request reply ≡ true → is_stray_answer request reply ≡ true
+stray_more : (request : Request) (reply : Reply) → is_stray_deletion request reply ≡ true → is_stray_removal request reply ≡ true
 stray_more (MoveFolder from to) reply is = cc
 stray_more request reply is = is
 
 pub delete_cause : {observed : Bool} {old new : DirAt} (spot : Spot) (e : DeleteError) → (e ≡ delete.DirFault → Rose old.faults new.faults)
-    → (e ≡ delete.Stray → observed ≡ true → EndsStray spot old new) → WorkCause observed (delete_refusal e) old new
+    → (e ≡ delete.Stray → observed ≡ true → EndsWithStrayDeletion spot old new) → RemovalWorkCause observed (delete_refusal e) old new
 delete_cause {observed} {old} {new} spot delete.DirFault fault stray = record { kind = refl; fault = λ is. fault refl; stray = λ is. cc }
 delete_cause {observed} {old} {new} spot delete.NoMemory fault stray = record { kind = refl; fault = λ is. cc; stray = λ is. cc }
 delete_cause {observed} {old} {new} spot delete.Stray fault stray = record {

@@ -1,6 +1,8 @@
 -- What a process knows after each call of a removal or a sweep.
-use Rattle.std.proofs.Common.{◌≡◌, ℕ, Bool, true, false, not, ◌&&◌, ◌||◌, cond, bytes_eq, List, [], ◌∷◌, filter, Result, Ok, Err, refl, sym, ap, subst, ◌∙◌}
+use Rattle.std.proofs.Common.{◌≡◌, ℕ, Bool, true, false, not, ◌&&◌, cond, bytes_eq, List, [], ◌∷◌, filter, Result, Ok, Err, refl, sym, ap, subst, ◌∙◌}
 use Rattle.std.specs.List.{list_any}
+use Rattle.plain_laws.proofs.Texts.{same_bytes}
+use Rattle.plain_laws.proofs.Lists.{none_of_filter, any_wider}
 use Rattle.ac_types.specs.declared.store_key.StoreKey.{StoreKey}
 use Rattle.dir_model.specs.declared.area.Area.{Area}
 use Rattle.dir_model.specs.declared.area.Area.TheVariants.{Incoming, Removed}
@@ -19,16 +21,16 @@ use Rattle.dir_model.specs.Local.{IsUnopened}
 use Rattle.dir_model.specs.Pods.{pod_text}
 use Rattle.dir_model.specs.State.{spot_eq}
 use Rattle.dir_model.specs.Replies.{done_reply}
-use Rattle.dir_model.proofs.Lists.{and_left, and_false, any_fewer, or_none, or_left_false, or_right_false}
+use Rattle.dir_model.proofs.Lists.{and_left, and_false, any_fewer, or_none}
 use Rattle.dir_rules.specs.declared.standing.Held.{Held}
 use Rattle.dir_rules.specs.declared.standing.Standing.{Standing}
 use Rattle.dir_rules.specs.declared.seen.Seen.{Seen}
 use Rattle.dir_rules.specs.declared.seen.ShownItem.{ShownItem}
-use Rattle.dir_rules.specs.Standing.{is_in, is_gate_of, is_gate_exclusive, closes_gate, draws, uncover}
+use Rattle.dir_rules.specs.Standing.{is_in, is_gate_of, is_gate_exclusive, excludes_area, draws, uncover}
 use Rattle.dir_rules.specs.LockRules.{is_removal_target, is_removal_held}
 use Rattle.dir_rules.specs.Rules.{allows}
 use Rattle.dir_rules.specs.Conforms.{seen_replied}
-use Rattle.dir_rules.proofs.Looks.{map_same, same_bytes, look_same}
+use Rattle.dir_rules.proofs.Looks.{map_same, look_same}
 use Rattle.dir_trait.specs.DirCalls.{DirAt, DirCall}
 use Rattle.dir_trait.specs.Knowledge.{Knows}
 use Rattle.dir_trait.proofs.Knowing.{knows_call}
@@ -36,16 +38,7 @@ use Rattle.dir_files.proofs.Locking.{number_is_new}
 use Rattle.folder_removal.specs.Known.{is_there, MayDelete, KnowsBut, KnowsDeleted, Deletes, OnlyTries}
 use Rattle.image_reading.specs.Places.{image_spot}
 use Rattle.image_removal.specs.Requests.{incoming_spot, removed_spot, away_spot, puts_away}
-use Rattle.image_removal.specs.Work.{HoldsArea, MayPutAway, StaysConforming, StaysBare, Stays}
-
--- what is left of a list in which nothing passes a test
-pub none_of_filter : {X : Type 0} (q p : X → Bool) (xs : List X) → list_any q xs ≡ false → list_any q (filter p xs) ≡ false
-none_of_filter q p [] none = refl
-none_of_filter {X} q p (x ∷ xs) none = by (p x) (none_of_filter q p xs (or_right_false (q x) (list_any q xs) none))
-  where
-    by : (b : Bool) → list_any q (filter p xs) ≡ false → list_any q (cond b (x ∷ filter p xs) (filter p xs)) ≡ false
-    by true rest = or_none (q x) (list_any q (filter p xs)) (or_left_false (q x) (list_any q xs) none) rest
-    by false rest = rest
+use Rattle.image_removal.specs.Work.{HoldsArea, MayPutAway, KeepsStandingAndRules, StaysBare, Stays}
 
 -- nothing passes it that was kept for failing it
 pub none_that_fail : {X : Type 0} (q p : X → Bool) → ((x : X) → q x ≡ true → p x ≡ false) → (xs : List X) → list_any q (filter p xs) ≡ false
@@ -56,15 +49,6 @@ none_that_fail {X} q p only (x ∷ xs) = by (p x) (q x) (only x) refl (none_that
     by true true f is rest = let e : true ≡ false = f is in cc
     by true false f is rest = or_none (q x) (list_any q (filter p xs)) is rest
     by false c f is rest = rest
-
-any_more : {X : Type 0} (t q : X → Bool) → ((x : X) → t x ≡ true → q x ≡ true) → (xs : List X) → list_any t xs ≡ true → list_any q xs ≡ true
-any_more t q only [] h = cc
-any_more {X} t q only (x ∷ xs) h = by (t x) (q x) (only x) h (any_more t q only xs)
-  where
-    by : (a b : Bool) → (a ≡ true → b ≡ true) → (a || list_any t xs) ≡ true → (list_any t xs ≡ true → list_any q xs ≡ true) → (b || list_any q xs) ≡ true
-    by a true f h rest = refl
-    by true false f h rest = let e : false ≡ true = f refl in cc
-    by false false f h rest = rest h
 
 module _ (s : Seen) (key : StoreKey) (draw : PodId) (may : MayPutAway draw s) where
   -- the image may be moved
@@ -136,7 +120,7 @@ gate_removes name h is = by h.target (is_exclusive h.lock) is
 
 pub may_delete : {s : Seen} (name : List ℕ) → HoldsArea Removed s → MayDelete (removed_spot name) s
 may_delete {s} name may = record {
-  lock = any_more (is_gate_exclusive Removed) (is_removal_held (removed_spot name)) (gate_removes name) s.standing.holdings may.held;
+  lock = any_wider (is_gate_exclusive Removed) (is_removal_held (removed_spot name)) (gate_removes name) s.standing.holdings may.held;
   bare = any_fewer (is_there (removed_spot name)) (λ (i : ShownItem). is_in i.inner.spot.area Removed)
       (λ i is. and_left (is_in i.inner.spot.area Removed) (bytes_eq i.inner.spot.name name) is) s.items may.bare;
 }
@@ -153,22 +137,22 @@ deleted_stays {old} {new} name deletes s k may =
       knows = x.knows;
     }
 
-pub tried_stays : {old new : DirAt} (name : List ℕ) → OnlyTries (removed_spot name) old new → Stays (HoldsArea Removed) StaysConforming old new
+pub tried_stays : {old new : DirAt} (name : List ℕ) → OnlyTries (removed_spot name) old new → Stays (HoldsArea Removed) KeepsStandingAndRules old new
 tried_stays {old} {new} name tries s k may =
     let x : KnowsBut (removed_spot name) s new = tries s k (may_delete name may) in
     record { known = x.known; standing = ap (λ (z : Seen). z.standing) x.only.same; kept = ap (λ (z : Seen). z.kept) x.only.same; knows = x.knows }
 
 -- how such facts go on
-pub bare_conforms : {s : Seen} {new : DirAt} → StaysBare s new → StaysConforming s new
+pub bare_conforms : {s : Seen} {new : DirAt} → StaysBare s new → KeepsStandingAndRules s new
 bare_conforms x = record { known = x.known; standing = x.standing; kept = x.kept; knows = x.knows }
 
 pub holds_still : {area : Area} {s : Seen} {new : DirAt} → HoldsArea area s → (x : StaysBare s new) → HoldsArea area x.known
-holds_still {area} may x = record { held = ap (λ (z : Standing). closes_gate area z) x.standing ∙ may.held; bare = x.bare }
+holds_still {area} may x = record { held = ap (λ (z : Standing). excludes_area area z) x.standing ∙ may.held; bare = x.bare }
 
 pub bare_more : {s : Seen} {b c : DirAt} (x : StaysBare s b) → StaysBare x.known c → StaysBare s c
 bare_more x y = record { known = y.known; standing = y.standing ∙ x.standing; kept = y.kept ∙ x.kept; bare = y.bare; knows = y.knows }
 
-pub conforms_more : {s : Seen} {b c : DirAt} (x : StaysBare s b) → StaysConforming x.known c → StaysConforming s c
+pub conforms_more : {s : Seen} {b c : DirAt} (x : StaysBare s b) → KeepsStandingAndRules x.known c → KeepsStandingAndRules s c
 conforms_more x y = record { known = y.known; standing = y.standing ∙ x.standing; kept = y.kept ∙ x.kept; knows = y.knows }
 
 pub stays_none : {area : Area} {d : DirAt} → Stays (HoldsArea area) StaysBare d d
@@ -177,8 +161,8 @@ stays_none s k may = record { known = s; standing = refl; kept = refl; bare = ma
 pub stays_more : {area : Area} {a b c : DirAt} → Stays (HoldsArea area) StaysBare a b → Stays (HoldsArea area) StaysBare b c → Stays (HoldsArea area) StaysBare a c
 stays_more ab bc s k may = let x = ab s k may in bare_more x (bc x.known x.knows (holds_still may x))
 
-pub stays_then : {area : Area} {a b c : DirAt} → Stays (HoldsArea area) StaysBare a b → Stays (HoldsArea area) StaysConforming b c → Stays (HoldsArea area) StaysConforming a c
+pub stays_then : {area : Area} {a b c : DirAt} → Stays (HoldsArea area) StaysBare a b → Stays (HoldsArea area) KeepsStandingAndRules b c → Stays (HoldsArea area) KeepsStandingAndRules a c
 stays_then ab bc s k may = let x = ab s k may in conforms_more x (bc x.known x.knows (holds_still may x))
 
-pub stays_conform : {May : Seen → Type 0} {a b : DirAt} → Stays May StaysBare a b → Stays May StaysConforming a b
+pub stays_conform : {May : Seen → Type 0} {a b : DirAt} → Stays May StaysBare a b → Stays May KeepsStandingAndRules a b
 stays_conform ab s k may = bare_conforms (ab s k may)

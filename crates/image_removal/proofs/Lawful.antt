@@ -1,6 +1,7 @@
 -- Where every process keeps the local rules, nothing is answered as what the locks keep doesn't explain.
 use Rattle.std.proofs.Common.{◌≡◌, ℕ, Bool, true, false, not, ◌||◌, List, ◌∷◌, ◌++◌, append_assoc, Result, Ok, Err, IfErr, refl, sym, ap, subst, ◌∙◌}
 use Rattle.std.specs.List.{AllByRecursion}
+use Rattle.plain_laws.proofs.Booleans.{clash}
 use Rattle.ac_types.specs.declared.store_key.StoreKey.{StoreKey}
 use Rattle.dir_files.specs.declared.lock_error.LockError.{LockError}
 use Rattle.dir_files.specs.declared.lock_error.LockError.TheVariants as lock
@@ -23,21 +24,20 @@ use Rattle.dir_model.specs.Trace.{state_after}
 use Rattle.dir_model.proofs.Chains.{extends_wider}
 use Rattle.dir_model.proofs.Lists.{all_right, or_second, same_rest, same_self}
 use Rattle.dir_trait.specs.DirCalls.{DirAt, HeldBetween}
+use Rattle.dir_trait.specs.Effects.{OnlyAsks}
 use Rattle.lifecycle.specs.Executions.{IsConforming}
 use Rattle.lifecycle.proofs.Draws.{conforming_left}
-use Rattle.lifecycle.proofs.Handles.{clash}
-use Rattle.folder_building.specs.Work.{Worked}
 use Rattle.folder_contents.proofs.Spots.{one_location}
 use Rattle.folder_removal.specs.declared.error.DeleteError.{DeleteError}
 use Rattle.folder_removal.specs.declared.error.DeleteError.TheVariants as delete
 use Rattle.folder_removal.specs.Known.{StrayKnowing}
-use Rattle.folder_removal.specs.Removal.{deletes_at, KeepsFolders, EndsStray}
+use Rattle.folder_removal.specs.Removal.{asks_deletion_at, KeepsFolders, EndsWithStrayDeletion}
 use Rattle.image_reading.specs.declared.error.StoreError.TheVariants.{Stray}
 use Rattle.impossible_replies.specs.Replies.{AppWroteOn}
 use Rattle.impossible_replies.proofs.Apps.{no_app}
 use Rattle.impossible_replies.proofs.Calls.{never_meets}
 use Rattle.impossible_replies.proofs.StrayDeletions.{app_wrote_on}
-use Rattle.image_removal.specs.Requests.{removed_spot, puts_away, looks_at}
+use Rattle.image_removal.specs.Requests.{removed_spot, puts_away, looks_at_folder}
 use Rattle.image_removal.specs.Causes.{lock_refusal, lock_free, look_answer, delete_refusal, MetAnother}
 
 -- which refusals can't be stray, or are so for one cause
@@ -84,13 +84,13 @@ pub met_never : {me : ℕ} {old new : List Event} (key : StoreKey) (draw : PodId
 met_never key draw w conforming = never_meets (puts_away key draw) (Refused Exists 0) w.step (conforming_left w.after w.later (subst IsConforming w.ends conforming)) refl
 
 -- nothing in removed is a started app's
-pub no_app_away : (h : List Event) → IsConforming h → (name : List ℕ) (request : Request) → deletes_at (removed_spot name) request ≡ true → is_apps_request (state_after h) request ≡ false
+pub no_app_away : (h : List Event) → IsConforming h → (name : List ℕ) (request : Request) → asks_deletion_at (removed_spot name) request ≡ true → is_apps_request (state_after h) request ≡ false
 no_app_away h conforming name request about = by request about
   where
     early : (spot : Spot) → spot ≡ removed_spot name → is_run_or_later spot.area ≡ false
     early spot is = ap (λ (s : Spot). is_run_or_later s.area) is
 
-    by : (request : Request) → deletes_at (removed_spot name) request ≡ true → is_apps_request (state_after h) request ≡ false
+    by : (request : Request) → asks_deletion_at (removed_spot name) request ≡ true → is_apps_request (state_after h) request ≡ false
     by (ListIn i) about = no_app h conforming i.spot i.path (early i.spot (one_location i.spot (removed_spot name) about))
     by (RemoveFileIn i) about = no_app h conforming i.spot i.path (early i.spot (one_location i.spot (removed_spot name) about))
     by (RemoveDirIn i) about = no_app h conforming i.spot i.path (early i.spot (one_location i.spot (removed_spot name) about))
@@ -98,10 +98,10 @@ no_app_away h conforming name request about = by request about
     by request about = cc
 
 abbrev Deleting : ℕ → List ℕ → Event → Type 0
-Deleting me name e = (is_foreign me e || deletes_at (removed_spot name) e.request) ≡ true
+Deleting me name e = (is_foreign me e || asks_deletion_at (removed_spot name) e.request) ≡ true
 
 -- so no deletion there meets what one wrote
-pub app_never : {me : ℕ} {mid new : List Event} (name : List ℕ) → Extends (deletes_at (removed_spot name)) me mid new → IsConforming new → AppWroteOn me mid new → ⊥
+pub app_never : {me : ℕ} {mid new : List Event} (name : List ℕ) → Extends (asks_deletion_at (removed_spot name)) me mid new → IsConforming new → AppWroteOn me mid new → ⊥
 app_never {me} {mid} {new} name x conforming w =
     clash (is_apps_request (state_after w.before) w.request) w.app
     (no_app_away w.before (conforming_left w.before (e ∷ w.later) (subst IsConforming w.ends conforming)) name w.request about)
@@ -120,18 +120,18 @@ app_never {me} {mid} {new} name x conforming w =
     own : is_foreign me e ≡ false
     own = ap (λ (b : Bool). not b || is_kill w.request) (same_self me) ∙ alive w.request w.app
 
-    about : deletes_at (removed_spot name) w.request ≡ true
-    about = or_second (is_foreign me e) (deletes_at (removed_spot name) w.request) (all_right (Deleting me name) w.earlier (e ∷ w.later) (subst (AllByRecursion (Deleting me name)) parts x.asked)).0 own
+    about : asks_deletion_at (removed_spot name) w.request ≡ true
+    about = or_second (is_foreign me e) (asks_deletion_at (removed_spot name) w.request) (all_right (Deleting me name) w.earlier (e ∷ w.later) (subst (AllByRecursion (Deleting me name)) parts x.asked)).0 own
 
-looks_any : (spot : Spot) (request : Request) → looks_at spot request ≡ true → is_look_at is_any_spot request ≡ true
+looks_any : (spot : Spot) (request : Request) → looks_at_folder spot request ≡ true → is_look_at is_any_spot request ≡ true
 looks_any spot (Open here Own) on = refl
 looks_any spot (Open here Claim) on = cc
 looks_any spot (Close handle) on = refl
 looks_any spot request on = cc
 
 -- a folder that was found under the lock is deleted without such an answer
-pub found_never : {observed : Bool} (name : List ℕ) (old mid new : DirAt) → observed ≡ true → Worked observed (looks_at (removed_spot name)) old mid → HeldBetween old mid (λ s. stands s.namespace (removed_spot name) ≡ true)
-    → Worked observed (deletes_at (removed_spot name)) mid new → KeepsFolders mid new → EndsStray (removed_spot name) mid new → StrayKnowing (removed_spot name) mid.process new.trace → IsConforming new.trace → ⊥
+pub found_never : {observed : Bool} (name : List ℕ) (old mid new : DirAt) → observed ≡ true → OnlyAsks observed (looks_at_folder (removed_spot name)) old mid → HeldBetween old mid (λ s. stands s.namespace (removed_spot name) ≡ true)
+    → OnlyAsks observed (asks_deletion_at (removed_spot name)) mid new → KeepsFolders mid new → EndsWithStrayDeletion (removed_spot name) mid new → StrayKnowing (removed_spot name) mid.process new.trace → IsConforming new.trace → ⊥
 found_never {observed} name old mid new t looked there deleted kept stray knew conforming =
     app_never name (deleted.extends t) conforming
     (app_wrote_on (removed_spot name) refl is_any_spot

@@ -1,6 +1,7 @@
 -- The exclusive lock of an area, taken and given back around other calls.
 use Rattle.std.proofs.Common.{◌≡◌, ◌≤◌, Bool, true, false, not, ◌&&◌, ◌||◌, Option, Some, None, refl, sym, ap, subst, ◌∙◌, arith}
 use Rattle.std.specs.List.{list_any}
+use Rattle.plain_laws.proofs.Lists.{none_of_filter}
 use Rattle.dir_model.specs.declared.area.Area.{Area}
 use Rattle.dir_model.specs.declared.area.Area.TheVariants.{Incoming, Images, Removed}
 use Rattle.dir_model.specs.declared.intent.Intent.{Intent}
@@ -12,7 +13,7 @@ use Rattle.dir_model.specs.declared.spot.Mode.TheVariants.{Shared, Exclusive}
 use Rattle.dir_model.specs.declared.request.Request.{Request}
 use Rattle.dir_model.specs.declared.request.Request.TheVariants.{OpenArea, TryLock, Close}
 use Rattle.dir_model.specs.Areas.{rank}
-use Rattle.dir_model.specs.Local.{IsUnopened, without}
+use Rattle.dir_model.specs.Local.{IsUnopened}
 use Rattle.dir_model.proofs.Chains.{and_more, extends_wider}
 use Rattle.dir_model.proofs.Lists.{same_self, or_last}
 use Rattle.dir_rules.specs.LockRules.{is_open_on}
@@ -23,47 +24,36 @@ use Rattle.dir_rules.specs.declared.seen.ShownItem.{ShownItem}
 use Rattle.dir_rules.specs.Standing.{is_in, is_known, intends, began_as, is_image_rm, is_image_remover, is_gate_exclusive}
 use Rattle.dir_trait.specs.DirCalls.{DirAt, ExtendsBy}
 use Rattle.dir_trait.specs.Knowledge.{Knows}
-use Rattle.dir_files.specs.AreaLocks.{takes, closes, and_lock, with_gate, MayLock, exclusive_given, is_listed_under}
+use Rattle.dir_trait.specs.Effects.{OnlyAsks}
+use Rattle.dir_files.specs.AreaLocks.{is_taking_area, closes, and_area_lock, with_gate, MayLock, exclusive_given, is_listed_under}
 use Rattle.dir_files.proofs.Locking.{unlocked_same}
-use Rattle.folder_building.specs.Work.{Worked}
+use Rattle.folder_building.proofs.Following.{Follows, GivesBack}
 use Rattle.image_removal.specs.declared.pass.Pass.{Pass}
 use Rattle.image_removal.specs.declared.pass.Pass.TheVariants.{PutAway, Delete}
 use Rattle.image_removal.specs.Requests.{locks_one}
-use Rattle.image_removal.specs.Passes.{area_of, is_close}
-use Rattle.image_removal.specs.Work.{IsBare, HoldsArea, MayPutAway, MayRemove, MayPass, MaySweep, StaysConforming, StaysBare}
-use Rattle.image_removal.proofs.Times.{Follows}
-use Rattle.image_removal.proofs.Knowing.{none_of_filter}
+use Rattle.image_removal.specs.Passes.{area_of_pass, is_close}
+use Rattle.image_removal.specs.Work.{IsBareOfRemoved, HoldsArea, MayPutAway, MayRemoveImage, MayPassStore, MaySweepStore, KeepsStandingAndRules, StaysBare}
 
 -- the lock was had
 pub record Takes (observed : Bool) (area : Area) (h : Handle) (old new : DirAt) : Type 0 where
   pub same : new.process ≡ old.process
   pub faults : old.faults ≤ new.faults
-  pub held : new.local ≡ and_lock old.local h area Exclusive
+  pub held : new.local ≡ and_area_lock old.local h area Exclusive
   pub unopened : IsUnopened old.local h
-  pub extends : observed ≡ true → ExtendsBy (takes area Exclusive) old new
-
--- and given back
-pub record GivesBack (observed : Bool) (h : Handle) (old new : DirAt) : Type 0 where
-  pub same : new.process ≡ old.process
-  pub faultless : new.faults ≡ old.faults
-  pub local : new.local ≡ without old.local h
-  pub extends : observed ≡ true → ExtendsBy (closes h) old new
+  pub extends : observed ≡ true → ExtendsBy (is_taking_area area Exclusive) old new
 
 pub follows_take : {observed : Bool} {area : Area} {h : Handle} {a b : DirAt} → Takes observed area h a b → Follows observed a b
-follows_take {observed} {area} s = record { same = s.same; faults = s.faults; asks = takes area Exclusive; extends = s.extends }
-
-pub follows_back : {observed : Bool} {h : Handle} {a b : DirAt} → GivesBack observed h a b → Follows observed a b
-follows_back {observed} {h} g = record { same = g.same; faults = omega (arith, g.faultless); asks = closes h; extends = g.extends }
+follows_take {observed} {area} s = record { same = s.same; faults = s.faults; asks = is_taking_area area Exclusive; extends = s.extends }
 
 -- a lock is among the requests for one of two
-pub takes_first : (first second : Area) (request : Request) → takes first Exclusive request ≡ true → locks_one first second request ≡ true
+pub takes_first : (first second : Area) (request : Request) → is_taking_area first Exclusive request ≡ true → locks_one first second request ≡ true
 takes_first first second (OpenArea area) is = rw is refl
 takes_first first second (TryLock handle Exclusive) is = refl
 takes_first first second (TryLock handle Shared) is = cc
 takes_first first second (Close handle) is = refl
 takes_first first second request is = cc
 
-pub takes_second : (first second : Area) (request : Request) → takes second Exclusive request ≡ true → locks_one first second request ≡ true
+pub takes_second : (first second : Area) (request : Request) → is_taking_area second Exclusive request ≡ true → locks_one first second request ≡ true
 takes_second first second (OpenArea area) is = or_last (is_in first area) (is_in second area) is
 takes_second first second (TryLock handle Exclusive) is = refl
 takes_second first second (TryLock handle Shared) is = cc
@@ -74,7 +64,7 @@ pub closes_one : (first second : Area) (h : Handle) (request : Request) → clos
 closes_one first second h (Close handle) is = refl
 closes_one first second h request is = cc
 
-pub closes_taken : (area : Area) (h : Handle) (request : Request) → closes h request ≡ true → takes area Exclusive request ≡ true
+pub closes_taken : (area : Area) (h : Handle) (request : Request) → closes h request ≡ true → is_taking_area area Exclusive request ≡ true
 closes_taken area h (Close handle) is = refl
 closes_taken area h request is = cc
 
@@ -83,14 +73,14 @@ closes_some h (Close handle) is = refl
 closes_some h request is = cc
 
 -- a lock that was refused
-pub worked_refused : {observed : Bool} {asks : Request → Bool} {a b : DirAt} (area : Area) → ((r : Request) → takes area Exclusive r ≡ true → asks r ≡ true)
+pub worked_refused : {observed : Bool} {asks : Request → Bool} {a b : DirAt} (area : Area) → ((r : Request) → is_taking_area area Exclusive r ≡ true → asks r ≡ true)
     → b.process ≡ a.process → a.faults ≤ b.faults
-    → b.local ≡ a.local → (observed ≡ true → ExtendsBy (takes area Exclusive) a b) → Worked observed asks a b
+    → b.local ≡ a.local → (observed ≡ true → ExtendsBy (is_taking_area area Exclusive) a b) → OnlyAsks observed asks a b
 worked_refused area wider same faults local extends = record { same = same; faults = faults; local = local; extends = λ t. extends_wider wider (extends t) }
 
 -- work under a lock
-pub worked_under : {observed : Bool} {asks : Request → Bool} {area : Area} {h : Handle} {a b c d : DirAt} → ((r : Request) → takes area Exclusive r ≡ true → asks r ≡ true)
-    → Takes observed area h a b → Worked observed asks b c → GivesBack observed h c d → Worked observed asks a d
+pub worked_under : {observed : Bool} {asks : Request → Bool} {area : Area} {h : Handle} {a b c d : DirAt} → ((r : Request) → is_taking_area area Exclusive r ≡ true → asks r ≡ true)
+    → Takes observed area h a b → OnlyAsks observed asks b c → GivesBack observed h c d → OnlyAsks observed asks a d
 worked_under {observed} {asks} {area} {h} {a} {b} {c} {d} wider s w g = record {
   same = g.same ∙ (w.same ∙ s.same);
   faults = omega (arith, s.faults, w.faults, g.faultless);
@@ -108,37 +98,37 @@ began_remover : (o : Option Intent) → intends (λ i. is_image_rm i.kind) o ≡
 began_remover None is = cc
 began_remover (Some intent) is = remover intent.kind is
 
-pub removal_pass : {draw : PodId} {s : Seen} → MayRemove draw s → MayPass Removed s
+pub removal_pass : {draw : PodId} {s : Seen} → MayRemoveImage draw s → MayPassStore Removed s
 removal_pass {draw} {s} may = record { kind = began_remover s.standing.intent may.kind; free = may.removed; bare = may.bare }
 
-pub may_lock_images : {draw : PodId} {s : Seen} → MayRemove draw s → MayLock s Images Exclusive
+pub may_lock_images : {draw : PodId} {s : Seen} → MayRemoveImage draw s → MayLock s Images Exclusive
 may_lock_images may = record { free = may.images; kind = may.kind }
 
-pub may_lock_removed : {s : Seen} → MayPass Removed s → MayLock s Removed Exclusive
+pub may_lock_removed : {s : Seen} → MayPassStore Removed s → MayLock s Removed Exclusive
 may_lock_removed may = record { free = may.free; kind = may.kind }
 
-pub may_lock_pass : (pass : Pass) {s : Seen} → MayPass (area_of pass) s → MayLock s (area_of pass) Exclusive
+pub may_lock_pass : (pass : Pass) {s : Seen} → MayPassStore (area_of_pass pass) s → MayLock s (area_of_pass pass) Exclusive
 may_lock_pass PutAway may = record { free = may.free; kind = may.kind }
 may_lock_pass Delete may = record { free = may.free; kind = may.kind }
 
-pub first_pass : {s : Seen} → MaySweep s → MayPass Incoming s
+pub first_pass : {s : Seen} → MaySweepStore s → MayPassStore Incoming s
 first_pass may = record { kind = may.kind; free = may.incoming; bare = may.bare }
 
-pub pass_still : {area : Area} {s : Seen} {new : DirAt} → MayPass area s → (x : StaysBare s new) → MayPass area x.known
+pub pass_still : {area : Area} {s : Seen} {new : DirAt} → MayPassStore area s → (x : StaysBare s new) → MayPassStore area x.known
 pass_still {area} may x = record {
   kind = ap (λ (z : Standing). began_as is_image_remover z) x.standing ∙ may.kind;
   free = ap (λ (z : Standing). not (is_open_on (Gate area) z.holdings)) x.standing ∙ may.free;
   bare = x.bare;
 }
 
-pub second_pass : {s : Seen} → MaySweep s → MayPass Removed s
+pub second_pass : {s : Seen} → MaySweepStore s → MayPassStore Removed s
 second_pass may = record { kind = may.kind; free = may.removed; bare = may.bare }
 
 -- what it knows under the lock
-pub holds_now : (area : Area) (s : Seen) (h : Handle) → IsBare s → HoldsArea area (with_gate s h area (Some Exclusive))
+pub holds_now : (area : Area) (s : Seen) (h : Handle) → IsBareOfRemoved s → HoldsArea area (with_gate s h area (Some Exclusive))
 holds_now area s h bare = record { held = ap (λ b. (b && true) || list_any (is_gate_exclusive area) s.standing.holdings) (same_self (rank area)); bare = bare }
 
-pub puts_now : {draw : PodId} (s : Seen) (h : Handle) → MayRemove draw s → MayPutAway draw (with_gate s h Images (Some Exclusive))
+pub puts_now : {draw : PodId} (s : Seen) (h : Handle) → MayRemoveImage draw s → MayPutAway draw (with_gate s h Images (Some Exclusive))
 puts_now s h may = record { held = refl; drawn = may.drawn; fresh = may.fresh; bare = may.bare }
 
 -- and once it is given back
@@ -166,12 +156,12 @@ module _ {c d : DirAt} (s : Seen) (h : Handle) (area : Area) (new : is_known h s
     knows = gives x.known x.standing x.knows;
   }
 
-  pub back_conforms : StaysConforming Under c → StaysConforming s d
+  pub back_conforms : KeepsStandingAndRules Under c → KeepsStandingAndRules s d
   back_conforms x = record { known = exclusive_given area (rid x.known); standing = refl; kept = x.kept; knows = gives x.known x.standing x.knows }
 
 -- or where it wasn't had
-pub same_bare : {s : Seen} {d : DirAt} → IsBare s → Knows d s → StaysBare s d
+pub same_bare : {s : Seen} {d : DirAt} → IsBareOfRemoved s → Knows d s → StaysBare s d
 same_bare {s} bare k = record { known = s; standing = refl; kept = refl; bare = bare; knows = k }
 
-pub same_conforms : {s : Seen} {d : DirAt} → Knows d s → StaysConforming s d
+pub same_conforms : {s : Seen} {d : DirAt} → Knows d s → KeepsStandingAndRules s d
 same_conforms {s} k = record { known = s; standing = refl; kept = refl; knows = k }

@@ -1,6 +1,7 @@
 -- A folder of removed that a listing of the area showed under its lock stands there until this process deletes it.
 use Rattle.std.proofs.Common.{◌≡◌, ◌⊎◌, inl, inr, ℕ, Bool, true, false, not, ◌&&◌, ◌||◌, ◌==◌, cond, bytes_eq, Option, Some, None, List, [], ◌∷◌, ◌++◌, append-nil, append_assoc, refl, sym, ap, subst, ◌∙◌}
 use Rattle.std.specs.List.{AllByRecursion}
+use Rattle.plain_laws.proofs.Booleans.{clash}
 use Rattle.dir_model.specs.declared.area.Area.TheVariants.{Removed}
 use Rattle.dir_model.specs.declared.event.Event.{Event}
 use Rattle.dir_model.specs.declared.item.Inner.{Inner}
@@ -13,8 +14,8 @@ use Rattle.dir_model.specs.declared.request.Request.TheVariants.{Begin, ListArea
 use Rattle.dir_model.specs.declared.request.Reply.{Reply}
 use Rattle.dir_model.specs.declared.request.Reply.TheVariants.{Done, Begun, Names, Opened, Refused}
 use Rattle.dir_model.specs.Areas.{rank}
-use Rattle.dir_model.specs.Calls.{is_begin, is_kill, is_foreign, event, Listing, ListStep, TookPlace, LeftNothing}
-use Rattle.dir_model.specs.Listings.{has_name, is_of, is_listing, noted, noted_by, begun}
+use Rattle.dir_model.specs.Calls.{is_begin, is_foreign, event, Listing, ListStep, TookPlace, LeftNothing}
+use Rattle.dir_model.specs.Listings.{has_name, is_listing_of, is_listing, listing_noted, noted_by, listing_begun}
 use Rattle.dir_model.specs.State.{DirState, lives, folder_at, spot_eq, stands}
 use Rattle.dir_model.specs.Trace.{state_after}
 use Rattle.dir_model.specs.Trees.{name_in, names_in}
@@ -23,7 +24,7 @@ use Rattle.dir_model.proofs.Lists.{all_right, not_true, or_last, or_map, all_wea
 use Rattle.dir_model.proofs.Moments.{some_number}
 use Rattle.dir_rules.specs.declared.seen.Seen.{Seen}
 use Rattle.dir_rules.specs.declared.standing.Standing.{Standing}
-use Rattle.dir_rules.specs.Conforms.{nothing_seen, saw, seen_after, seen_of, seen_replied}
+use Rattle.dir_rules.specs.Conforms.{nothing_seen, seen_after_event, seen_after, seen_of, seen_replied}
 use Rattle.dir_rules.specs.LockRules.{may_remove}
 use Rattle.dir_rules.specs.Rules.{root_of}
 use Rattle.dir_rules.specs.Standing.{standing_replied}
@@ -32,20 +33,20 @@ use Rattle.dir_model.proofs.Chains.{states_next-append}
 use Rattle.dir_model.specs.State.{empty_state}
 use Rattle.dir_files.specs.Listed.{ShowsArea}
 use Rattle.dir_laws.specs.Stretches.{Sometime, StandsInArea}
+use Rattle.dir_laws.proofs.Living.{lived_first}
 use Rattle.lifecycle.specs.Executions.{IsConforming}
 use Rattle.lifecycle.proofs.Draws.{conforming_left}
-use Rattle.lifecycle.proofs.Handles.{clash}
 use Rattle.lifecycle.proofs.Lists.{In, any_in, in_any}
 use Rattle.lifecycle.proofs.Places.{none_at}
 use Rattle.folder_contents.proofs.Along.{happens}
 use Rattle.folder_contents.proofs.Places.{untaken, stands_there}
 use Rattle.impossible_replies.proofs.Alongside.{Steps, steps}
-use Rattle.impossible_replies.proofs.Earlier.{lives_earlier}
 use Rattle.impossible_replies.proofs.KeptFolders.{leaves_folders, IsQuiet, KeptAt, folder_kept, noted_missing, some_same}
 use Rattle.impossible_replies.proofs.LongItems.{in_filter_map}
 use Rattle.impossible_replies.proofs.Removals.{missing_by}
 use Rattle.impossible_replies.proofs.StrayDeletions.{same_front}
 use Rattle.impossible_replies.proofs.Told.{listing_from}
+use Rattle.impossible_replies.proofs.Deletions.{begun_by}
 use Rattle.image_removal.specs.Requests.{removed_spot}
 
 -- a name among an area's names is that of a folder that stands there
@@ -117,11 +118,6 @@ never_begins : (spot : Spot) (request : Request) (reply : Reply) → leaves_ther
 never_begins spot (Begin intent) reply on = cc
 never_begins spot request reply on = refl
 
-begun_own : (st : DirState) (q : ℕ) (request : Request) (l : OpenListing) → begun st q request ≡ Some l → (l.process ≡ q) × (is_kill request ≡ false)
-begun_own st q (ListArea a) l is = (cc, refl)
-begun_own st q (ListIn inner) l is = (cc, refl)
-begun_own st q request l is = cc
-
 module _ (me : ℕ) (name : List ℕ) where
   abbrev spot : Spot
   spot = removed_spot name
@@ -139,13 +135,13 @@ module _ (me : ℕ) (name : List ℕ) where
   abbrev Found : List Event → Type 0
   Found h = (l : OpenListing) → In l (state_after h).listings → l.process ≡ me → missing_by (root_of spot) l.listed ≡ false
 
-  found_on : (h : List Event) (e : Event) → ((l : OpenListing) → e.reply ≡ Begun → begun (state_after h) e.process e.request ≡ Some l → l.process ≡ me → missing_by (root_of spot) l.listed ≡ false) → Found h → Found (h ++ e ∷ [])
+  found_on : (h : List Event) (e : Event) → ((l : OpenListing) → e.reply ≡ Begun → listing_begun (state_after h) e.process e.request ≡ Some l → l.process ≡ me → missing_by (root_of spot) l.listed ≡ false) → Found h → Found (h ++ e ∷ [])
   found_on h e begins was l i mine = by (listing_from st e.process e.request e.reply l (subst (λ (s : DirState). In l s.listings) (state_after-push h e) i))
     where
       st : DirState
       st = state_after h
 
-      by : (In l st.listings ⊎ ((l0 : OpenListing) × (In l0 st.listings × (l ≡ noted_by st l0)))) ⊎ ((e.reply ≡ Begun) × (begun st e.process e.request ≡ Some l)) → missing_by (root_of spot) l.listed ≡ false
+      by : (In l st.listings ⊎ ((l0 : OpenListing) × (In l0 st.listings × (l ≡ noted_by st l0)))) ⊎ ((e.reply ≡ Begun) × (listing_begun st e.process e.request ≡ Some l)) → missing_by (root_of spot) l.listed ≡ false
       by (inl (inl j)) = was l j mine
       by (inl (inr x)) =
           ap (λ (z : OpenListing). missing_by (root_of spot) z.listed) x.1.1 ∙ (noted_missing st (root_of spot) x.0.listed
@@ -155,9 +151,9 @@ module _ (me : ℕ) (name : List ℕ) where
   found_foreign : (h : List Event) (e : Event) → is_foreign me e ≡ true → Found h → Found (h ++ e ∷ [])
   found_foreign h e foreign was = found_on h e begins was
     where
-      begins : (l : OpenListing) → e.reply ≡ Begun → begun (state_after h) e.process e.request ≡ Some l → l.process ≡ me → missing_by (root_of spot) l.listed ≡ false
+      begins : (l : OpenListing) → e.reply ≡ Begun → listing_begun (state_after h) e.process e.request ≡ Some l → l.process ≡ me → missing_by (root_of spot) l.listed ≡ false
       begins l is b mine =
-          let x = begun_own (state_after h) e.process e.request l b in
+          let x = begun_by (state_after h) e.process e.request l b in
           let own : e.process ≡ me = sym x.0 ∙ mine in
           clash (is_foreign me e) foreign (ap (λ k. not (e.process == me) || k) x.1 ∙ ap (λ c. not c || false) (ap (λ p. p == me) own ∙ same_self me))
 
@@ -238,9 +234,9 @@ module _ (me : ℕ) (name : List ℕ) where
       s = steps front b begun_law refl refl
 
       none : Found front
-      none z i mine = clash (is_listing (state_after front) me) (in_any (is_of me) z (state_after front).listings i (ap (λ p. p == me) mine ∙ same_self me)) (not_true (is_listing (state_after front) me) s.is)
+      none z i mine = clash (is_listing (state_after front) me) (in_any (is_listing_of me) z (state_after front).listings i (ap (λ p. p == me) mine ∙ same_self me)) (not_true (is_listing (state_after front) me) s.is)
 
-      begins : (z : OpenListing) → b.reply ≡ Begun → begun (state_after front) me (ListArea Removed) ≡ Some z → z.process ≡ me → missing_by (root_of spot) z.listed ≡ false
+      begins : (z : OpenListing) → b.reply ≡ Begun → listing_begun (state_after front) me (ListArea Removed) ≡ Some z → z.process ≡ me → missing_by (root_of spot) z.listed ≡ false
       begins z is q mine = subst (λ (w : OpenListing). missing_by (root_of spot) w.listed ≡ false) (some_same q) refl
 
       was : Found g
@@ -274,9 +270,9 @@ module _ (me : ℕ) (name : List ℕ) where
 
   same_after : (s : Seen) (es : List Event) → AllByRecursion LeavesIt es → (seen_after me s es).standing ≡ s.standing
   same_after s [] all = refl
-  same_after s (e ∷ es) all = same_after (saw me s e) es all.1 ∙ by (is_foreign me e) refl all.0
+  same_after s (e ∷ es) all = same_after (seen_after_event me s e) es all.1 ∙ by (is_foreign me e) refl all.0
     where
-      by : (b : Bool) → is_foreign me e ≡ b → (b || leaves_there spot e.request e.reply) ≡ true → (saw me s e).standing ≡ s.standing
+      by : (b : Bool) → is_foreign me e ≡ b → (b || leaves_there spot e.request e.reply) ≡ true → (seen_after_event me s e).standing ≡ s.standing
       by true f q = ap (λ b. (cond b s (seen_replied s e.request e.reply)).standing) f
       by false f q = ap (λ b. (cond b s (seen_replied s e.request e.reply)).standing) f ∙ same_standing spot s.standing e.request e.reply q
 
@@ -285,7 +281,7 @@ module _ (me : ℕ) (name : List ℕ) where
 
   lives_back : (h es : List Event) → AllByRecursion LeavesIt es → Lives (h ++ es) → Lives h
   lives_back h es all living =
-      lives_earlier me (state_after h) es
+      lived_first me (state_after h) es
       (all_weaker LeavesIt (λ e. (is_foreign me e || not (is_begin e.request)) ≡ true)
       (λ e. or_map (is_foreign me e) (leaves_there spot e.request e.reply) (not (is_begin e.request)) (never_begins spot e.request e.reply)) es all)
       (subst (λ (s : DirState). lives s.namespace me ≡ true) (states_next-append empty_state h es) living)

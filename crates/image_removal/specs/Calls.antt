@@ -6,7 +6,7 @@ use Rattle.dir_model.specs.declared.request.Reply.{Reply}
 use Rattle.dir_model.specs.Calls.{CallStep}
 
 -- between these two traces the process asked for this and was answered so
-pub record Called (request : Request) (reply : Reply) (me : ℕ) (old new : List Event) : Type 0 where
+pub record WasCalled (request : Request) (reply : Reply) (me : ℕ) (old new : List Event) : Type 0 where
   pub before : List Event
   pub after : List Event
   pub earlier : List Event

@@ -18,15 +18,15 @@ use Rattle.dir_rules.specs.Rules.{root_of}
 use Rattle.dir_trait.specs.DirCalls.{DirAt, HeldBetween, ExtendsBy}
 use Rattle.dir_files.specs.declared.lock_error.LockError.{LockError}
 use Rattle.dir_files.specs.declared.lock_error.LockError.TheVariants as lock
-use Rattle.dir_files.specs.AreaLocks.{takes, IsBusy, IsBusyElsewhere}
+use Rattle.dir_files.specs.AreaLocks.{is_taking_area, IsBusy, IsBusyElsewhere}
 use Rattle.folder_removal.specs.declared.error.DeleteError.{DeleteError}
 use Rattle.folder_removal.specs.declared.error.DeleteError.TheVariants as delete
 use Rattle.folder_removal.specs.Removal.{WentUnremoved}
 use Rattle.image_reading.specs.declared.error.StoreError.{StoreError}
 use Rattle.image_reading.specs.declared.error.StoreError.TheVariants.{Busy, NoImage, DirFault, NoMemory, Stray}
-use Rattle.image_reading.specs.Places.{IsAbsent}
-use Rattle.image_removal.specs.Requests.{puts_away, is_stray_answer}
-use Rattle.image_removal.specs.Calls.{Called}
+use Rattle.image_reading.specs.Places.{IsImageAbsent}
+use Rattle.image_removal.specs.Requests.{puts_away, is_stray_removal}
+use Rattle.image_removal.specs.Calls.{WasCalled}
 
 -- the refusals of lower calls
 abbrev pub lock_refusal : Area → LockError → StoreError
@@ -61,11 +61,11 @@ delete_refusal delete.Stray = Stray
 delete_refusal delete.NoMemory = NoMemory
 
 -- the refusals of work in a folder under its lock
-abbrev pub is_work_refusal : StoreError → Bool
-is_work_refusal DirFault = true
-is_work_refusal NoMemory = true
-is_work_refusal Stray = true
-is_work_refusal error = false
+abbrev pub is_removal_work_refusal : StoreError → Bool
+is_removal_work_refusal DirFault = true
+is_removal_work_refusal NoMemory = true
+is_removal_work_refusal Stray = true
+is_removal_work_refusal error = false
 
 -- of a lock or a line that wasn't had
 abbrev pub is_fault_refusal : StoreError → Bool
@@ -76,7 +76,7 @@ is_fault_refusal error = false
 -- of an image's move
 abbrev pub is_move_refusal : StoreError → Bool
 is_move_refusal (NoImage key) = true
-is_move_refusal error = is_work_refusal error
+is_move_refusal error = is_removal_work_refusal error
 
 abbrev pub is_remove_refusal : StoreError → Bool
 is_remove_refusal (Busy area) = true
@@ -84,41 +84,41 @@ is_remove_refusal error = is_move_refusal error
 
 -- where it was a listing of what was missing, it was one of the folder itself, or of a directory that a listing had shown and that
 -- this process hadn't asked to be removed since
-abbrev pub IsDue : Request → Reply → ℕ → List Event → List Event → Type 0
-IsDue (ListIn inner) (Refused dir.Missing left) me old new = (inner ≡ root_of inner.spot) ⊎ WentUnremoved inner me old new
-IsDue request reply me old new = Unit {0}
+abbrev pub IsMissedListingDue : Request → Reply → ℕ → List Event → List Event → Type 0
+IsMissedListingDue (ListIn inner) (Refused dir.Missing left) me old new = (inner ≡ root_of inner.spot) ⊎ WentUnremoved inner me old new
+IsMissedListingDue request reply me old new = Unit {0}
 
 -- an own step was answered as what the locks keep doesn't explain
-pub record WasStray (me : ℕ) (old new : List Event) : Type 0 where
+pub record WasStrayRemoval (me : ℕ) (old new : List Event) : Type 0 where
   pub request : Request
   pub reply : Reply
-  pub stray : is_stray_answer request reply ≡ true
-  pub due : IsDue request reply me old new
-  pub called : Called request reply me old new
+  pub stray : is_stray_removal request reply ≡ true
+  pub due : IsMissedListingDue request reply me old new
+  pub called : WasCalled request reply me old new
 
-abbrev pub WasStrayBetween : DirAt → DirAt → Type 0
-WasStrayBetween old new = WasStray old.process old.trace new.trace
+abbrev pub WasStrayRemovalBetween : DirAt → DirAt → Type 0
+WasStrayRemovalBetween old new = WasStrayRemoval old.process old.trace new.trace
 
 -- why the work in a folder ended early
-pub record WorkCause (observed : Bool) (error : StoreError) (old new : DirAt) : Type 0 where
-  pub kind : is_work_refusal error ≡ true
+pub record RemovalWorkCause (observed : Bool) (error : StoreError) (old new : DirAt) : Type 0 where
+  pub kind : is_removal_work_refusal error ≡ true
   pub fault : error ≡ DirFault → Rose old.faults new.faults
-  pub stray : error ≡ Stray → observed ≡ true → WasStrayBetween old new
+  pub stray : error ≡ Stray → observed ≡ true → WasStrayRemovalBetween old new
 
 -- its own move was answered that nothing stands there, and nothing did
 pub record WasTold (key : StoreKey) (draw : PodId) (me : ℕ) (old new : List Event) : Type 0 where
   pub told : CallStep me old (puts_away key draw) (Refused dir.Missing 0) new
-  pub absent : AtOwnStep me old new (IsAbsent key)
+  pub absent : AtOwnStep me old new (IsImageAbsent key)
 
 -- its own move met another folder
 abbrev pub MetAnother : StoreKey → PodId → ℕ → List Event → List Event → Type 0
-MetAnother key draw me old new = Called (puts_away key draw) (Refused dir.Exists 0) me old new
+MetAnother key draw me old new = WasCalled (puts_away key draw) (Refused dir.Exists 0) me old new
 
 -- or the move was answered Ok, and a step after it so
 pub record MovedThenStray (key : StoreKey) (draw : PodId) (me : ℕ) (old new : List Event) : Type 0 where
   pub between : List Event
-  pub moved : Called (puts_away key draw) Done me old between
-  pub stray : WasStray me between new
+  pub moved : WasCalled (puts_away key draw) Done me old between
+  pub stray : WasStrayRemoval me between new
 
 abbrev pub StrayRemoval : StoreKey → PodId → ℕ → List Event → List Event → Type 0
 StrayRemoval key draw me old new = MetAnother key draw me old new ⊎ MovedThenStray key draw me old new
@@ -133,21 +133,21 @@ pub record MoveCause (observed : Bool) (key : StoreKey) (draw : PodId) (error : 
 -- some handle held the lock of images at an own step, and nothing but that lock was asked for
 pub record WasBusy (old new : DirAt) : Type 0 where
   pub busy : HeldBetween old new (IsBusy Images Exclusive)
-  pub only : ExtendsBy (takes Images Exclusive) old new
+  pub only : ExtendsBy (is_taking_area Images Exclusive) old new
 
 -- under the lock of images, which was all that it had asked for before, it was told so; then it only gave that lock up
-pub record FoundNone (key : StoreKey) (draw : PodId) (me : ℕ) (old new : List Event) : Type 0 where
+pub record FoundNoImage (key : StoreKey) (draw : PodId) (me : ℕ) (old new : List Event) : Type 0 where
   pub before : List Event
   pub after : List Event
-  pub first : Extends (takes Images Exclusive) me old before
+  pub first : Extends (is_taking_area Images Exclusive) me old before
   pub told : WasTold key draw me before after
-  pub last : Extends (takes Images Exclusive) me after new
+  pub last : Extends (is_taking_area Images Exclusive) me after new
 
 abbrev pub FoundNoneBetween : StoreKey → PodId → DirAt → DirAt → Type 0
-FoundNoneBetween key draw old new = FoundNone key draw old.process old.trace new.trace
+FoundNoneBetween key draw old new = FoundNoImage key draw old.process old.trace new.trace
 
 -- why an image wasn't removed
-pub record RemoveCause (observed : Bool) (key : StoreKey) (draw : PodId) (error : StoreError) (old new : DirAt) : Type 0 where
+pub record ImageRemovalCause (observed : Bool) (key : StoreKey) (draw : PodId) (error : StoreError) (old new : DirAt) : Type 0 where
   pub kind : is_remove_refusal error ≡ true
   pub fault : error ≡ DirFault → Rose old.faults new.faults
   pub busy : (area : Area) → error ≡ Busy area → (area ≡ Images) × (observed ≡ true → WasBusy old new)
@@ -155,5 +155,5 @@ pub record RemoveCause (observed : Bool) (key : StoreKey) (draw : PodId) (error 
   pub stray : error ≡ Stray → observed ≡ true → StrayRemoval key draw old.process old.trace new.trace
 
 -- where the lock of an area was refused, a handle of another process held it
-abbrev pub BusyElsewhere : StoreError → DirAt → DirAt → Type 0
-BusyElsewhere error old new = (area : Area) → error ≡ Busy area → HeldBetween old new (IsBusyElsewhere old.process area Exclusive)
+abbrev pub RemovalBusyElsewhere : StoreError → DirAt → DirAt → Type 0
+RemovalBusyElsewhere error old new = (area : Area) → error ≡ Busy area → HeldBetween old new (IsBusyElsewhere old.process area Exclusive)

@@ -10,11 +10,11 @@ use Rattle.dir_model.specs.Calls.{AtOwnStep}
 use Rattle.dir_model.specs.State.{DirState, stands}
 use Rattle.dir_trait.specs.DirCalls.{DirAt}
 use Rattle.image_removal.specs.Requests.{away_spot, puts_away}
-use Rattle.image_removal.specs.Calls.{Called}
+use Rattle.image_removal.specs.Calls.{WasCalled}
 
 -- its own removal of the folder there was answered Ok, or no folder stood there at an own step
 abbrev pub IsGone : Spot → ℕ → List Event → List Event → Type 0
-IsGone spot me old new = Called (RemoveFolder spot) Done me old new ⊎ AtOwnStep me old new (λ s. stands s.namespace spot ≡ false)
+IsGone spot me old new = WasCalled (RemoveFolder spot) Done me old new ⊎ AtOwnStep me old new (λ s. stands s.namespace spot ≡ false)
 
 -- it is gone, or the lock of removed was busy at an own step
 abbrev pub IsGoneUnless : (DirState → Type 0) → Spot → ℕ → List Event → List Event → Type 0
@@ -23,7 +23,7 @@ IsGoneUnless Busy spot me old new = IsGone spot me old new ⊎ AtOwnStep me old 
 -- its own move of the image to removed was answered Ok, and then the folder is gone from there, unless that lock was busy
 pub record IsRemoved (Busy : DirState → Type 0) (key : StoreKey) (draw : PodId) (me : ℕ) (old new : List Event) : Type 0 where
   pub between : List Event
-  pub moved : Called (puts_away key draw) Done me old between
+  pub moved : WasCalled (puts_away key draw) Done me old between
   pub gone : IsGoneUnless Busy (away_spot draw) me between new
 
 abbrev pub IsRemovedBetween : (DirState → Type 0) → StoreKey → PodId → DirAt → DirAt → Type 0

@@ -15,8 +15,8 @@ use Rattle.dir_model.specs.declared.request.Request.TheVariants.{MoveFolder, Ope
 use Rattle.dir_model.specs.Pods.{pod_text}
 use Rattle.dir_model.specs.State.{spot_eq}
 use Rattle.dir_rules.specs.Standing.{is_in}
-use Rattle.dir_files.specs.AreaLocks.{takes}
-use Rattle.folder_removal.specs.Removal.{deletes_at, is_stray}
+use Rattle.dir_files.specs.AreaLocks.{is_taking_area}
+use Rattle.folder_removal.specs.Removal.{asks_deletion_at, is_stray_deletion}
 use Rattle.image_reading.specs.Places.{image_spot}
 
 abbrev pub incoming_spot : List ℕ → Spot
@@ -42,45 +42,45 @@ locks_one first second (Close handle) = true
 locks_one first second request = false
 
 -- whether a folder stands at the location
-abbrev pub looks_at : Spot → Request → Bool
-looks_at spot (Open here Own) = spot_eq here spot
-looks_at spot (Open here Claim) = false
-looks_at spot (Close handle) = true
-looks_at spot request = false
+abbrev pub looks_at_folder : Spot → Request → Bool
+looks_at_folder spot (Open here Own) = spot_eq here spot
+looks_at_folder spot (Open here Claim) = false
+looks_at_folder spot (Close handle) = true
+looks_at_folder spot request = false
 
 -- the folder's move from here to there
-abbrev pub moves : Spot → Spot → Request → Bool
-moves here there (MoveFolder from to) = spot_eq from here && spot_eq to there
-moves here there request = false
+abbrev pub moves_folder : Spot → Spot → Request → Bool
+moves_folder here there (MoveFolder from to) = spot_eq from here && spot_eq to there
+moves_folder here there request = false
 
 -- the lock of removed, a look at what was put away there, and its deletion
 abbrev pub deletes_away : PodId → Request → Bool
-deletes_away draw request = takes Removed Exclusive request || (looks_at (away_spot draw) request || deletes_at (away_spot draw) request)
+deletes_away draw request = is_taking_area Removed Exclusive request || (looks_at_folder (away_spot draw) request || asks_deletion_at (away_spot draw) request)
 
 -- a removal of an image: the locks of images and removed, the image's move, and in removed a look at what was moved, and
 -- its deletion
 abbrev pub removes_at : StoreKey → PodId → Request → Bool
 removes_at key draw request =
     locks_one Images Removed request
-    || (moves (image_spot key) (away_spot draw) request || (looks_at (away_spot draw) request || deletes_at (away_spot draw) request))
+    || (moves_folder (image_spot key) (away_spot draw) request || (looks_at_folder (away_spot draw) request || asks_deletion_at (away_spot draw) request))
 
 -- the listing of an area
-abbrev pub lists : Area → Request → Bool
-lists area (ListArea here) = is_in here area
-lists area request = false
+abbrev pub lists_store_area : Area → Request → Bool
+lists_store_area area (ListArea here) = is_in here area
+lists_store_area area request = false
 
 -- a sweep: the locks of incoming and removed, their listings, moves from the first to the second, and deletions there
-abbrev pub sweeps : Request → Bool
-sweeps (ListArea area) = is_in area Incoming || is_in area Removed
-sweeps (MoveFolder from to) = is_in from.area Incoming && is_in to.area Removed
-sweeps (ListIn inner) = is_in inner.spot.area Removed
-sweeps (RemoveFileIn inner) = is_in inner.spot.area Removed
-sweeps (RemoveDirIn inner) = is_in inner.spot.area Removed
-sweeps (RemoveFolder spot) = is_in spot.area Removed
-sweeps request = locks_one Incoming Removed request
+abbrev pub sweeps_store : Request → Bool
+sweeps_store (ListArea area) = is_in area Incoming || is_in area Removed
+sweeps_store (MoveFolder from to) = is_in from.area Incoming && is_in to.area Removed
+sweeps_store (ListIn inner) = is_in inner.spot.area Removed
+sweeps_store (RemoveFileIn inner) = is_in inner.spot.area Removed
+sweeps_store (RemoveDirIn inner) = is_in inner.spot.area Removed
+sweeps_store (RemoveFolder spot) = is_in spot.area Removed
+sweeps_store request = locks_one Incoming Removed request
 
 -- an answer that what the locks keep doesn't explain
-abbrev pub is_stray_answer : Request → Reply → Bool
-is_stray_answer (MoveFolder from to) (Refused Exists left) = true
-is_stray_answer (MoveFolder from to) (Refused Missing left) = is_in from.area Incoming
-is_stray_answer request reply = is_stray request reply
+abbrev pub is_stray_removal : Request → Reply → Bool
+is_stray_removal (MoveFolder from to) (Refused Exists left) = true
+is_stray_removal (MoveFolder from to) (Refused Missing left) = is_in from.area Incoming
+is_stray_removal request reply = is_stray_deletion request reply

@@ -3,17 +3,18 @@ ghost use Rattle.std.specs.Prelude.{◌≡◌, ◌⊎◌, true, IfOk, IfErr, IsE
 ghost use Rattle.dir_model.specs.declared.request.Request.TheVariants.{RemoveFolder};
 ghost use Rattle.dir_model.specs.declared.request.Reply.TheVariants.{Done};
 ghost use Rattle.dir_trait.specs.Local.{IsActive};
-ghost use Rattle.folder_building.specs.Work.{Worked, either};
+ghost use Rattle.folder_building.specs.Work.{either};
 ghost use Rattle.dir_rules.specs.declared.seen.Seen.{Seen};
 ghost use Rattle.dir_trait.specs.Knowledge.{Knows};
+ghost use Rattle.dir_trait.specs.Effects.{OnlyAsks};
 ghost use Rattle.folder_removal.specs.Known.{StrayKnowing};
-ghost use Rattle.folder_removal.specs.Removal.{deletes_at, KeepsFolders, EndsStray};
+ghost use Rattle.folder_removal.specs.Removal.{asks_deletion_at, KeepsFolders, EndsWithStrayDeletion};
 ghost use Rattle.lifecycle.specs.Executions.{IsConforming};
-ghost use Rattle.image_removal.specs.Requests.{removed_spot, looks_at};
-ghost use Rattle.image_removal.specs.Calls.{Called};
-ghost use Rattle.image_removal.specs.Causes.{WorkCause};
+ghost use Rattle.image_removal.specs.Requests.{removed_spot, looks_at_folder};
+ghost use Rattle.image_removal.specs.Calls.{WasCalled};
+ghost use Rattle.image_removal.specs.Causes.{RemovalWorkCause};
 ghost use Rattle.image_removal.specs.Removals.{IsGone};
-ghost use Rattle.image_removal.specs.Work.{HoldsArea, StaysConforming, StaysBare, Stays};
+ghost use Rattle.image_removal.specs.Work.{HoldsArea, KeepsStandingAndRules, StaysBare, Stays};
 
 use crate::error::delete_refusal;
 use crate::look::is_there;
@@ -28,14 +29,14 @@ use std::alloc::Global;
 /// where memory ran out.
 pub(crate) fn delete<D: Dir>(alloc: Global, dir: &mut D, name: Name) -> Result<(), StoreError>
     requires active { IsActive (D.shown dir.old).local }
-    ensures worked { Worked D.observed (deletes_at (removed_spot name)) (D.shown dir.old) (D.shown dir.new) }
-    ensures cause { IfErr result (λ e. WorkCause D.observed e (D.shown dir.old) (D.shown dir.new)) }
+    ensures worked { OnlyAsks D.observed (asks_deletion_at (removed_spot name)) (D.shown dir.old) (D.shown dir.new) }
+    ensures cause { IfErr result (λ e. RemovalWorkCause D.observed e (D.shown dir.old) (D.shown dir.new)) }
     ensures kept { IfErr result (λ e. D.observed ≡ true → KeepsFolders (D.shown dir.old) (D.shown dir.new)) }
     ensures deleted { IfOk result (λ done. D.observed ≡ true
-        → Called (RemoveFolder (removed_spot name)) Done (D.shown dir.old).process (D.shown dir.old).trace (D.shown dir.new).trace) }
+        → WasCalled (RemoveFolder (removed_spot name)) Done (D.shown dir.old).process (D.shown dir.old).trace (D.shown dir.new).trace) }
     ensures stays { IfOk result (λ done. D.observed ≡ true → Stays (HoldsArea Area.Removed) StaysBare (D.shown dir.old) (D.shown dir.new)) }
-    ensures left { IfErr result (λ e. D.observed ≡ true → Stays (HoldsArea Area.Removed) StaysConforming (D.shown dir.old) (D.shown dir.new)) }
-    ensures stray { IsErrOf result StoreError.Stray → D.observed ≡ true → EndsStray (removed_spot name) (D.shown dir.old) (D.shown dir.new) }
+    ensures left { IfErr result (λ e. D.observed ≡ true → Stays (HoldsArea Area.Removed) KeepsStandingAndRules (D.shown dir.old) (D.shown dir.new)) }
+    ensures stray { IsErrOf result StoreError.Stray → D.observed ≡ true → EndsWithStrayDeletion (removed_spot name) (D.shown dir.old) (D.shown dir.new) }
     ensures knew { IsErrOf result StoreError.Stray → D.observed ≡ true → (s : Seen) → Knows (D.shown dir.old) s → HoldsArea Area.Removed s
         → StrayKnowing (removed_spot name) (D.shown dir.old).process (D.shown dir.new).trace }
 {
@@ -52,12 +53,12 @@ pub(crate) fn delete_if_there<D: Dir>(
     name: Name,
 ) -> Result<(), StoreError>
     requires active { IsActive (D.shown dir.old).local }
-    ensures worked { Worked D.observed (either (looks_at (removed_spot name)) (deletes_at (removed_spot name))) (D.shown dir.old) (D.shown dir.new) }
-    ensures cause { IfErr result (λ e. WorkCause D.observed e (D.shown dir.old) (D.shown dir.new)) }
+    ensures worked { OnlyAsks D.observed (either (looks_at_folder (removed_spot name)) (asks_deletion_at (removed_spot name))) (D.shown dir.old) (D.shown dir.new) }
+    ensures cause { IfErr result (λ e. RemovalWorkCause D.observed e (D.shown dir.old) (D.shown dir.new)) }
     ensures kept { IfErr result (λ e. D.observed ≡ true → KeepsFolders (D.shown dir.old) (D.shown dir.new)) }
     ensures gone { IfOk result (λ done. D.observed ≡ true
         → IsGone (removed_spot name) (D.shown dir.old).process (D.shown dir.old).trace (D.shown dir.new).trace) }
-    ensures stays { D.observed ≡ true → Stays (HoldsArea Area.Removed) StaysConforming (D.shown dir.old) (D.shown dir.new) }
+    ensures stays { D.observed ≡ true → Stays (HoldsArea Area.Removed) KeepsStandingAndRules (D.shown dir.old) (D.shown dir.new) }
     ensures lawful { IsErrOf result StoreError.Stray → D.observed ≡ true → (s : Seen) → Knows (D.shown dir.old) s → HoldsArea Area.Removed s
         → IsConforming (D.shown dir.new).trace → ⊥ }
 {

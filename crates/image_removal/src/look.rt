@@ -4,10 +4,10 @@ ghost use Rattle.dir_model.specs.State.{stands};
 ghost use Rattle.dir_trait.specs.Local.{IsActive};
 ghost use Rattle.dir_trait.specs.DirCalls.{HeldBetween};
 ghost use Rattle.dir_trait.specs.Knowledge.{Knows};
+ghost use Rattle.dir_trait.specs.Effects.{OnlyAsks};
 ghost use Rattle.dir_rules.specs.declared.seen.Seen.{Seen};
-ghost use Rattle.folder_building.specs.Work.{Worked};
-ghost use Rattle.image_removal.specs.Requests.{looks_at};
-ghost use Rattle.image_removal.specs.Causes.{look_answer, WorkCause};
+ghost use Rattle.image_removal.specs.Requests.{looks_at_folder};
+ghost use Rattle.image_removal.specs.Causes.{look_answer, RemovalWorkCause};
 
 use crate::error::change_refusal;
 use dir_trait::{Dir, DirError, Spot, Which};
@@ -28,8 +28,8 @@ fn look_answer(error: DirError) -> Result<bool, StoreError>
 /// `NoMemory` where memory ran out.
 pub(crate) fn is_there<D: Dir>(alloc: Global, dir: &mut D, spot: Spot) -> Result<bool, StoreError>
     requires active { IsActive (D.shown dir.old).local }
-    ensures worked { Worked D.observed (looks_at spot) (D.shown dir.old) (D.shown dir.new) }
-    ensures cause { IfErr result (λ e. WorkCause D.observed e (D.shown dir.old) (D.shown dir.new)) }
+    ensures worked { OnlyAsks D.observed (looks_at_folder spot) (D.shown dir.old) (D.shown dir.new) }
+    ensures cause { IfErr result (λ e. RemovalWorkCause D.observed e (D.shown dir.old) (D.shown dir.new)) }
     ensures told { IsErrOf result StoreError.Stray → ⊥ }
     ensures present { result ≡ Ok true → D.observed ≡ true
         → HeldBetween (D.shown dir.old) (D.shown dir.new) (λ s. stands s.namespace spot ≡ true) }

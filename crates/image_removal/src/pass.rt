@@ -1,6 +1,6 @@
 // The two passes of a sweep.
 ghost use Rattle.std.specs.Prelude.{◌≡◌};
-ghost use Rattle.image_removal.specs.Passes.{area_of, line_of};
+ghost use Rattle.image_removal.specs.Passes.{area_of_pass, line_of};
 
 use dir_trait::{Area, Name};
 
@@ -27,7 +27,7 @@ pub enum Pass {
 impl Pass {
     /// The area that it goes through.
     pub(crate) fn area(self) -> Area
-        ensures { result ≡ area_of self }
+        ensures { result ≡ area_of_pass self }
     {
         match self {
             Pass::PutAway => Area::Incoming,

@@ -8,14 +8,14 @@ ghost use Rattle.dir_model.specs.declared.request.Request.TheVariants.{MoveFolde
 ghost use Rattle.dir_model.specs.declared.request.Reply.TheVariants.{Done, Refused};
 ghost use Rattle.dir_trait.specs.Local.{IsActive};
 ghost use Rattle.dir_trait.specs.DirCalls.{HeldBetween};
-ghost use Rattle.folder_building.specs.Work.{Worked};
+ghost use Rattle.dir_trait.specs.Effects.{OnlyAsks};
 ghost use Rattle.lifecycle.specs.Executions.{IsConforming};
-ghost use Rattle.image_reading.specs.Places.{image_spot, IsAbsent};
+ghost use Rattle.image_reading.specs.Places.{image_spot, IsImageAbsent};
 ghost use Rattle.image_removal.specs.declared.pass.Pass.TheVariants.{PutAway};
 ghost use Rattle.image_removal.specs.Sweeps.{WasListed};
-ghost use Rattle.image_removal.specs.Requests.{incoming_spot, removed_spot, away_spot, puts_away, moves};
-ghost use Rattle.image_removal.specs.Calls.{Called};
-ghost use Rattle.image_removal.specs.Causes.{WorkCause, MoveCause};
+ghost use Rattle.image_removal.specs.Requests.{incoming_spot, removed_spot, away_spot, puts_away, moves_folder};
+ghost use Rattle.image_removal.specs.Calls.{WasCalled};
+ghost use Rattle.image_removal.specs.Causes.{RemovalWorkCause, MoveCause};
 ghost use Rattle.image_removal.specs.Work.{HoldsArea, MayPutAway, StaysBare, Stays};
 
 use crate::error::{change_refusal, move_refusal};
@@ -35,7 +35,7 @@ pub(crate) fn put_image_away<D: Dir>(
     draw: PodId,
 ) -> Result<(), StoreError>
     requires active { IsActive (D.shown dir.old).local }
-    ensures worked { Worked D.observed (moves (image_spot key) (away_spot draw)) (D.shown dir.old) (D.shown dir.new) }
+    ensures worked { OnlyAsks D.observed (moves_folder (image_spot key) (away_spot draw)) (D.shown dir.old) (D.shown dir.new) }
     ensures cause { IfErr result (λ e. MoveCause D.observed key draw e (D.shown dir.old) (D.shown dir.new)) }
     ensures moved { IfOk result (λ done. D.observed ≡ true
         → CallStep (D.shown dir.old).process (D.shown dir.old).trace (puts_away key draw) Done (D.shown dir.new).trace) }
@@ -54,8 +54,8 @@ pub(crate) fn put_image_away<D: Dir>(
 /// failed, `NoMemory` where memory ran out.
 pub(crate) fn put_away<D: Dir>(alloc: Global, dir: &mut D, name: Name) -> Result<(), StoreError>
     requires active { IsActive (D.shown dir.old).local }
-    ensures worked { Worked D.observed (moves (incoming_spot name) (removed_spot name)) (D.shown dir.old) (D.shown dir.new) }
-    ensures cause { IfErr result (λ e. WorkCause D.observed e (D.shown dir.old) (D.shown dir.new)) }
+    ensures worked { OnlyAsks D.observed (moves_folder (incoming_spot name) (removed_spot name)) (D.shown dir.old) (D.shown dir.new) }
+    ensures cause { IfErr result (λ e. RemovalWorkCause D.observed e (D.shown dir.old) (D.shown dir.new)) }
     ensures moved { IfOk result (λ done. D.observed ≡ true
         → CallStep (D.shown dir.old).process (D.shown dir.old).trace (MoveFolder (incoming_spot name) (removed_spot name)) Done (D.shown dir.new).trace) }
     ensures stays { D.observed ≡ true → Stays (HoldsArea Area.Incoming) StaysBare (D.shown dir.old) (D.shown dir.new) }

@@ -3,15 +3,15 @@ ghost use Rattle.std.specs.Prelude.{◌≡◌, true, IfOk, IfErr, IsErrOf};
 ghost use Rattle.dir_rules.specs.declared.seen.Seen.{Seen};
 ghost use Rattle.dir_trait.specs.Local.{IsActive};
 ghost use Rattle.dir_trait.specs.Knowledge.{Knows};
+ghost use Rattle.dir_trait.specs.Effects.{OnlyAsks};
 ghost use Rattle.dir_files.specs.AreaLocks.{is_free_of, IsBusy, IsBusyElsewhere};
-ghost use Rattle.folder_building.specs.Work.{Worked};
 ghost use Rattle.folder_removal.specs.Removal.{KeepsFolders};
 ghost use Rattle.lifecycle.specs.Executions.{IsConforming};
 ghost use Rattle.image_removal.specs.Requests.{away_spot, puts_away, deletes_away, removes_at};
-ghost use Rattle.image_removal.specs.Calls.{Called};
-ghost use Rattle.image_removal.specs.Causes.{lock_free, WorkCause, RemoveCause, BusyElsewhere};
+ghost use Rattle.image_removal.specs.Calls.{WasCalled};
+ghost use Rattle.image_removal.specs.Causes.{lock_free, RemovalWorkCause, ImageRemovalCause, RemovalBusyElsewhere};
 ghost use Rattle.image_removal.specs.Removals.{IsGoneUnless, IsRemovedBetween};
-ghost use Rattle.image_removal.specs.Work.{MayPass, MayRemove, StaysConforming, StaysBare, Stays};
+ghost use Rattle.image_removal.specs.Work.{MayPassStore, MayRemoveImage, KeepsStandingAndRules, StaysBare, Stays};
 ghost use Rattle.dir_model.specs.declared.request.Reply.TheVariants.{Done};
 
 use crate::deletion::delete_if_there;
@@ -31,14 +31,14 @@ fn put_away_locked<D: Dir>(
     draw: PodId,
 ) -> Result<(), StoreError>
     requires active { IsActive (D.shown dir.old).local }
-    ensures worked { Worked D.observed (removes_at key draw) (D.shown dir.old) (D.shown dir.new) }
-    ensures cause { IfErr result (λ e. RemoveCause D.observed key draw e (D.shown dir.old) (D.shown dir.new)) }
+    ensures worked { OnlyAsks D.observed (removes_at key draw) (D.shown dir.old) (D.shown dir.new) }
+    ensures cause { IfErr result (λ e. ImageRemovalCause D.observed key draw e (D.shown dir.old) (D.shown dir.new)) }
     ensures kept { D.observed ≡ true → KeepsFolders (D.shown dir.old) (D.shown dir.new) }
-    ensures another { IfErr result (λ e. D.observed ≡ true → (s : Seen) → Knows (D.shown dir.old) s → is_free_of Area.Images s ≡ true
-        → BusyElsewhere e (D.shown dir.old) (D.shown dir.new)) }
+    ensures by_other_process { IfErr result (λ e. D.observed ≡ true → (s : Seen) → Knows (D.shown dir.old) s → is_free_of Area.Images s ≡ true
+        → RemovalBusyElsewhere e (D.shown dir.old) (D.shown dir.new)) }
     ensures moved { IfOk result (λ done. D.observed ≡ true
-        → Called (puts_away key draw) Done (D.shown dir.old).process (D.shown dir.old).trace (D.shown dir.new).trace) }
-    ensures stays { D.observed ≡ true → Stays (MayRemove draw) StaysBare (D.shown dir.old) (D.shown dir.new) }
+        → WasCalled (puts_away key draw) Done (D.shown dir.old).process (D.shown dir.old).trace (D.shown dir.new).trace) }
+    ensures stays { D.observed ≡ true → Stays (MayRemoveImage draw) StaysBare (D.shown dir.old) (D.shown dir.new) }
     ensures lawful { IsErrOf result StoreError.Stray → D.observed ≡ true → IsConforming (D.shown dir.new).trace → ⊥ }
 {
     match lock_area(alloc, dir, Area::Images, Mode::Exclusive) {
@@ -65,17 +65,17 @@ fn lock_free(error: LockError) -> Result<(), StoreError>
 // Deletes what was put away, where the lock of removed is free.
 fn delete_if_free<D: Dir>(alloc: Global, dir: &mut D, draw: PodId) -> Result<(), StoreError>
     requires active { IsActive (D.shown dir.old).local }
-    ensures worked { Worked D.observed (deletes_away draw) (D.shown dir.old) (D.shown dir.new) }
-    ensures cause { IfErr result (λ e. WorkCause D.observed e (D.shown dir.old) (D.shown dir.new)) }
+    ensures worked { OnlyAsks D.observed (deletes_away draw) (D.shown dir.old) (D.shown dir.new) }
+    ensures cause { IfErr result (λ e. RemovalWorkCause D.observed e (D.shown dir.old) (D.shown dir.new)) }
     ensures kept { IfErr result (λ e. D.observed ≡ true → KeepsFolders (D.shown dir.old) (D.shown dir.new)) }
     ensures gone { IfOk result (λ done. D.observed ≡ true
         → IsGoneUnless (IsBusy Area.Removed Mode.Exclusive) (away_spot draw)
         (D.shown dir.old).process (D.shown dir.old).trace (D.shown dir.new).trace) }
-    ensures another { IfOk result (λ done. D.observed ≡ true → (s : Seen) → Knows (D.shown dir.old) s → is_free_of Area.Removed s ≡ true
+    ensures by_other_process { IfOk result (λ done. D.observed ≡ true → (s : Seen) → Knows (D.shown dir.old) s → is_free_of Area.Removed s ≡ true
         → IsGoneUnless (IsBusyElsewhere (D.shown dir.old).process Area.Removed Mode.Exclusive) (away_spot draw)
         (D.shown dir.old).process (D.shown dir.old).trace (D.shown dir.new).trace) }
-    ensures stays { D.observed ≡ true → Stays (MayPass Area.Removed) StaysConforming (D.shown dir.old) (D.shown dir.new) }
-    ensures lawful { IsErrOf result StoreError.Stray → D.observed ≡ true → (s : Seen) → Knows (D.shown dir.old) s → MayPass Area.Removed s
+    ensures stays { D.observed ≡ true → Stays (MayPassStore Area.Removed) KeepsStandingAndRules (D.shown dir.old) (D.shown dir.new) }
+    ensures lawful { IsErrOf result StoreError.Stray → D.observed ≡ true → (s : Seen) → Knows (D.shown dir.old) s → MayPassStore Area.Removed s
         → IsConforming (D.shown dir.new).trace → ⊥ }
 {
     match lock_area(alloc, dir, Area::Removed, Mode::Exclusive) {
@@ -103,17 +103,17 @@ pub fn remove<D: Dir>(
     draw: PodId,
 ) -> Result<(), StoreError>
     requires active { IsActive (D.shown dir.old).local }
-    ensures worked { Worked D.observed (removes_at key draw) (D.shown dir.old) (D.shown dir.new) }
-    ensures cause { IfErr result (λ e. RemoveCause D.observed key draw e (D.shown dir.old) (D.shown dir.new)) }
+    ensures worked { OnlyAsks D.observed (removes_at key draw) (D.shown dir.old) (D.shown dir.new) }
+    ensures cause { IfErr result (λ e. ImageRemovalCause D.observed key draw e (D.shown dir.old) (D.shown dir.new)) }
     ensures kept { IfErr result (λ e. D.observed ≡ true → KeepsFolders (D.shown dir.old) (D.shown dir.new)) }
-    ensures another { IfErr result (λ e. D.observed ≡ true → (s : Seen) → Knows (D.shown dir.old) s → MayRemove draw s
-        → BusyElsewhere e (D.shown dir.old) (D.shown dir.new)) }
+    ensures by_other_process { IfErr result (λ e. D.observed ≡ true → (s : Seen) → Knows (D.shown dir.old) s → MayRemoveImage draw s
+        → RemovalBusyElsewhere e (D.shown dir.old) (D.shown dir.new)) }
     ensures removed { IfOk result (λ done. D.observed ≡ true
         → IsRemovedBetween (IsBusy Area.Removed Mode.Exclusive) key draw (D.shown dir.old) (D.shown dir.new)) }
-    ensures removed_unless_another { IfOk result (λ done. D.observed ≡ true → (s : Seen) → Knows (D.shown dir.old) s → MayRemove draw s
+    ensures removed_unless_another { IfOk result (λ done. D.observed ≡ true → (s : Seen) → Knows (D.shown dir.old) s → MayRemoveImage draw s
         → IsRemovedBetween (IsBusyElsewhere (D.shown dir.old).process Area.Removed Mode.Exclusive) key draw (D.shown dir.old) (D.shown dir.new)) }
-    ensures conforms { D.observed ≡ true → Stays (MayRemove draw) StaysConforming (D.shown dir.old) (D.shown dir.new) }
-    ensures lawful { IsErrOf result StoreError.Stray → D.observed ≡ true → (s : Seen) → Knows (D.shown dir.old) s → MayRemove draw s
+    ensures conforms { D.observed ≡ true → Stays (MayRemoveImage draw) KeepsStandingAndRules (D.shown dir.old) (D.shown dir.new) }
+    ensures lawful { IsErrOf result StoreError.Stray → D.observed ≡ true → (s : Seen) → Knows (D.shown dir.old) s → MayRemoveImage draw s
         → IsConforming (D.shown dir.new).trace → ⊥ }
 {
     put_away_locked(alloc, dir, key, draw)?;

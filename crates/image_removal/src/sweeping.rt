@@ -4,24 +4,23 @@ ghost use Rattle.dir_rules.specs.declared.seen.Seen.{Seen};
 ghost use Rattle.dir_model.specs.declared.request.Reply.TheVariants.{Done};
 ghost use Rattle.dir_trait.specs.Local.{IsActive};
 ghost use Rattle.dir_trait.specs.Knowledge.{Knows};
+ghost use Rattle.dir_trait.specs.Effects.{OnlyAsks};
 ghost use Rattle.dir_files.specs.AreaLocks.{is_free_of};
-ghost use Rattle.folder_building.specs.Work.{Worked};
 ghost use Rattle.lifecycle.specs.Executions.{IsConforming};
-ghost use Rattle.image_removal.specs.Requests.{sweeps};
-ghost use Rattle.image_removal.specs.Passes.{area_of, line_of, deed_of, deals_with, deals_with_some};
-ghost use Rattle.image_removal.specs.Calls.{Called};
-ghost use Rattle.image_removal.specs.Causes.{is_fault_refusal, WorkCause};
-ghost use Rattle.image_removal.specs.Ended.{EndsAtBetween, EndsAmongBetween, EndsListingBetween, EndsPassBetween, EndsSweepBetween};
-ghost use Rattle.image_removal.specs.Sweeps.{Adds, AddsLines, HasListed, WasListed, SweepsBetween, TriesBetween, PassedBetween, TriedBetween, IsSweptBetween, HasTriedBetween, BusyNow, BusyApart};
-ghost use Rattle.image_removal.specs.Work.{HoldsArea, MayPass, MaySweep, StaysConforming, StaysBare, Stays};
+ghost use Rattle.image_removal.specs.Requests.{sweeps_store};
+ghost use Rattle.image_removal.specs.Passes.{area_of_pass, line_of, pass_request_of, deals_with_folder, deals_with_folders};
+ghost use Rattle.image_removal.specs.Calls.{WasCalled};
+ghost use Rattle.image_removal.specs.Causes.{is_fault_refusal, RemovalWorkCause};
+ghost use Rattle.image_removal.specs.Ended.{EndsAtBetween, EndsAmongFoldersBetween, EndsStoreListingBetween, EndsStorePassBetween, EndsImageSweepBetween};
+ghost use Rattle.image_removal.specs.Sweeps.{AddsSweepLines, AddsLines, HasListed, WasListed, SweepsBetween, TriesBetween, PassedBetween, TriedBetween, IsStoreSweptBetween, HasTriedBetween, BusyNow, BusyApart};
+ghost use Rattle.image_removal.specs.Work.{HoldsArea, MayPassStore, MaySweepStore, KeepsStandingAndRules, StaysBare, Stays};
 
 use crate::deletion::delete;
 use crate::error::change_refusal;
 use crate::pass::{Pass, SweepLine};
 use crate::place::is_uuid;
 use crate::putting::put_away;
-use dir_files::{LockError, lock_area, unlock_area};
-use dir_files::names_of;
+use dir_files::{LockError, lock_area, names_of, unlock_area};
 use dir_trait::{Dir, Mode, Name};
 use image_reading::StoreError;
 use std::alloc::Global;
@@ -29,13 +28,13 @@ use std::alloc::Global;
 // Deals with the folder of this name, under the lock of the pass's area.
 fn deal<D: Dir>(alloc: Global, dir: &mut D, pass: Pass, name: Name) -> Result<(), StoreError>
     requires active { IsActive (D.shown dir.old).local }
-    ensures worked { Worked D.observed (deals_with pass name) (D.shown dir.old) (D.shown dir.new) }
-    ensures cause { IfErr result (λ e. WorkCause D.observed e (D.shown dir.old) (D.shown dir.new)) }
+    ensures worked { OnlyAsks D.observed (deals_with_folder pass name) (D.shown dir.old) (D.shown dir.new) }
+    ensures cause { IfErr result (λ e. RemovalWorkCause D.observed e (D.shown dir.old) (D.shown dir.new)) }
     ensures done { IfOk result (λ done. D.observed ≡ true
-        → Called (deed_of pass name) Done (D.shown dir.old).process (D.shown dir.old).trace (D.shown dir.new).trace) }
-    ensures stays { IfOk result (λ done. D.observed ≡ true → Stays (HoldsArea (area_of pass)) StaysBare (D.shown dir.old) (D.shown dir.new)) }
-    ensures left { IfErr result (λ e. D.observed ≡ true → Stays (HoldsArea (area_of pass)) StaysConforming (D.shown dir.old) (D.shown dir.new)) }
-    ensures lawful { IsErrOf result StoreError.Stray → D.observed ≡ true → (s : Seen) → Knows (D.shown dir.old) s → HoldsArea (area_of pass) s
+        → WasCalled (pass_request_of pass name) Done (D.shown dir.old).process (D.shown dir.old).trace (D.shown dir.new).trace) }
+    ensures stays { IfOk result (λ done. D.observed ≡ true → Stays (HoldsArea (area_of_pass pass)) StaysBare (D.shown dir.old) (D.shown dir.new)) }
+    ensures left { IfErr result (λ e. D.observed ≡ true → Stays (HoldsArea (area_of_pass pass)) KeepsStandingAndRules (D.shown dir.old) (D.shown dir.new)) }
+    ensures lawful { IsErrOf result StoreError.Stray → D.observed ≡ true → (s : Seen) → Knows (D.shown dir.old) s → HoldsArea (area_of_pass pass) s
         → WasListed pass name (D.shown dir.old).process (D.shown dir.old).trace → IsConforming (D.shown dir.new).trace → ⊥ }
 {
     match pass {
@@ -63,13 +62,13 @@ fn sweep_next<D: Dir>(
     lines: &mut Vec<SweepLine>,
 ) -> Result<(), StoreError>
     requires active { IsActive (D.shown dir.old).local }
-    ensures worked { Worked D.observed (deals_with_some pass (name.now ∷ [])) (D.shown dir.old) (D.shown dir.new) }
-    ensures cause { IfErr result (λ e. WorkCause D.observed e (D.shown dir.old) (D.shown dir.new)) }
+    ensures worked { OnlyAsks D.observed (deals_with_folders pass (name.now ∷ [])) (D.shown dir.old) (D.shown dir.new) }
+    ensures cause { IfErr result (λ e. RemovalWorkCause D.observed e (D.shown dir.old) (D.shown dir.new)) }
     ensures swept { IfOk result (λ done. AddsLines D.observed pass (name.now ∷ []) lines.old.items lines.new.items (D.shown dir.old) (D.shown dir.new)) }
     ensures ended { IfErr result (λ e. D.observed ≡ true → EndsAtBetween pass name.now (D.shown dir.old) (D.shown dir.new)) }
-    ensures stays { IfOk result (λ done. D.observed ≡ true → Stays (HoldsArea (area_of pass)) StaysBare (D.shown dir.old) (D.shown dir.new)) }
-    ensures left { IfErr result (λ e. D.observed ≡ true → Stays (HoldsArea (area_of pass)) StaysConforming (D.shown dir.old) (D.shown dir.new)) }
-    ensures lawful { IsErrOf result StoreError.Stray → D.observed ≡ true → (s : Seen) → Knows (D.shown dir.old) s → HoldsArea (area_of pass) s
+    ensures stays { IfOk result (λ done. D.observed ≡ true → Stays (HoldsArea (area_of_pass pass)) StaysBare (D.shown dir.old) (D.shown dir.new)) }
+    ensures left { IfErr result (λ e. D.observed ≡ true → Stays (HoldsArea (area_of_pass pass)) KeepsStandingAndRules (D.shown dir.old) (D.shown dir.new)) }
+    ensures lawful { IsErrOf result StoreError.Stray → D.observed ≡ true → (s : Seen) → Knows (D.shown dir.old) s → HoldsArea (area_of_pass pass) s
         → WasListed pass name.now (D.shown dir.old).process (D.shown dir.old).trace → IsConforming (D.shown dir.new).trace → ⊥ }
 {
     if is_uuid(name) {
@@ -89,13 +88,13 @@ fn sweep_each<D: Dir>(
     lines: &mut Vec<SweepLine>,
 ) -> Result<(), StoreError>
     requires active { IsActive (D.shown dir.old).local }
-    ensures worked { Worked D.observed (deals_with_some pass names.now) (D.shown dir.old) (D.shown dir.new) }
-    ensures cause { IfErr result (λ e. WorkCause D.observed e (D.shown dir.old) (D.shown dir.new)) }
+    ensures worked { OnlyAsks D.observed (deals_with_folders pass names.now) (D.shown dir.old) (D.shown dir.new) }
+    ensures cause { IfErr result (λ e. RemovalWorkCause D.observed e (D.shown dir.old) (D.shown dir.new)) }
     ensures swept { IfOk result (λ done. AddsLines D.observed pass names.now lines.old.items lines.new.items (D.shown dir.old) (D.shown dir.new)) }
-    ensures ended { IfErr result (λ e. D.observed ≡ true → EndsAmongBetween pass names.now (D.shown dir.old) (D.shown dir.new)) }
-    ensures stays { IfOk result (λ done. D.observed ≡ true → Stays (HoldsArea (area_of pass)) StaysBare (D.shown dir.old) (D.shown dir.new)) }
-    ensures left { IfErr result (λ e. D.observed ≡ true → Stays (HoldsArea (area_of pass)) StaysConforming (D.shown dir.old) (D.shown dir.new)) }
-    ensures lawful { IsErrOf result StoreError.Stray → D.observed ≡ true → (s : Seen) → Knows (D.shown dir.old) s → HoldsArea (area_of pass) s
+    ensures ended { IfErr result (λ e. D.observed ≡ true → EndsAmongFoldersBetween pass names.now (D.shown dir.old) (D.shown dir.new)) }
+    ensures stays { IfOk result (λ done. D.observed ≡ true → Stays (HoldsArea (area_of_pass pass)) StaysBare (D.shown dir.old) (D.shown dir.new)) }
+    ensures left { IfErr result (λ e. D.observed ≡ true → Stays (HoldsArea (area_of_pass pass)) KeepsStandingAndRules (D.shown dir.old) (D.shown dir.new)) }
+    ensures lawful { IsErrOf result StoreError.Stray → D.observed ≡ true → (s : Seen) → Knows (D.shown dir.old) s → HoldsArea (area_of_pass pass) s
         → HasListed pass names.now (D.shown dir.old).process (D.shown dir.old).trace → IsConforming (D.shown dir.new).trace → ⊥ }
 {
     'names: for name in names {
@@ -112,14 +111,14 @@ fn sweep_listed<D: Dir>(
     lines: &mut Vec<SweepLine>,
 ) -> Result<(), StoreError>
     requires active { IsActive (D.shown dir.old).local }
-    ensures worked { Worked D.observed sweeps (D.shown dir.old) (D.shown dir.new) }
-    ensures cause { IfErr result (λ e. WorkCause D.observed e (D.shown dir.old) (D.shown dir.new)) }
-    ensures swept { IfOk result (λ done. D.observed ≡ true → Adds (SweepsBetween pass (D.shown dir.old) (D.shown dir.new)) lines.old.items lines.new.items) }
+    ensures worked { OnlyAsks D.observed sweeps_store (D.shown dir.old) (D.shown dir.new) }
+    ensures cause { IfErr result (λ e. RemovalWorkCause D.observed e (D.shown dir.old) (D.shown dir.new)) }
+    ensures swept { IfOk result (λ done. D.observed ≡ true → AddsSweepLines (SweepsBetween pass (D.shown dir.old) (D.shown dir.new)) lines.old.items lines.new.items) }
     ensures tried { IfErr result (λ e. D.observed ≡ true → TriesBetween pass (D.shown dir.old) (D.shown dir.new)) }
-    ensures ended { IfErr result (λ e. D.observed ≡ true → EndsListingBetween pass (D.shown dir.old) (D.shown dir.new)) }
-    ensures stays { IfOk result (λ done. D.observed ≡ true → Stays (HoldsArea (area_of pass)) StaysBare (D.shown dir.old) (D.shown dir.new)) }
-    ensures left { IfErr result (λ e. D.observed ≡ true → Stays (HoldsArea (area_of pass)) StaysConforming (D.shown dir.old) (D.shown dir.new)) }
-    ensures lawful { IsErrOf result StoreError.Stray → D.observed ≡ true → (s : Seen) → Knows (D.shown dir.old) s → HoldsArea (area_of pass) s
+    ensures ended { IfErr result (λ e. D.observed ≡ true → EndsStoreListingBetween pass (D.shown dir.old) (D.shown dir.new)) }
+    ensures stays { IfOk result (λ done. D.observed ≡ true → Stays (HoldsArea (area_of_pass pass)) StaysBare (D.shown dir.old) (D.shown dir.new)) }
+    ensures left { IfErr result (λ e. D.observed ≡ true → Stays (HoldsArea (area_of_pass pass)) KeepsStandingAndRules (D.shown dir.old) (D.shown dir.new)) }
+    ensures lawful { IsErrOf result StoreError.Stray → D.observed ≡ true → (s : Seen) → Knows (D.shown dir.old) s → HoldsArea (area_of_pass pass) s
         → IsConforming (D.shown dir.new).trace → ⊥ }
 {
     match names_of(alloc, dir, pass.area()) {
@@ -130,7 +129,7 @@ fn sweep_listed<D: Dir>(
 
 // Where the lock of an area is busy, that is the line.
 fn busy_line(pass: Pass, error: LockError, lines: &mut Vec<SweepLine>) -> Result<(), StoreError>
-    ensures busy { IfOk result (λ done. (error ≡ LockError.Busy) × (lines.new.items ≡ lines.old.items ++ SweepLine.BusyGate (area_of pass) ∷ [])) }
+    ensures busy { IfOk result (λ done. (error ≡ LockError.Busy) × (lines.new.items ≡ lines.old.items ++ SweepLine.BusyGate (area_of_pass pass) ∷ [])) }
     ensures fault { IsErrOf result StoreError.DirFault → error ≡ LockError.DirFault }
     ensures kind { IfErr result (λ e. is_fault_refusal e ≡ true) }
 {
@@ -149,17 +148,17 @@ fn sweep_area<D: Dir>(
     lines: &mut Vec<SweepLine>,
 ) -> Result<(), StoreError>
     requires active { IsActive (D.shown dir.old).local }
-    ensures worked { Worked D.observed sweeps (D.shown dir.old) (D.shown dir.new) }
-    ensures cause { IfErr result (λ e. WorkCause D.observed e (D.shown dir.old) (D.shown dir.new)) }
+    ensures worked { OnlyAsks D.observed sweeps_store (D.shown dir.old) (D.shown dir.new) }
+    ensures cause { IfErr result (λ e. RemovalWorkCause D.observed e (D.shown dir.old) (D.shown dir.new)) }
     ensures passed { IfOk result (λ done. D.observed ≡ true
-        → Adds (PassedBetween BusyNow pass (D.shown dir.old) (D.shown dir.new)) lines.old.items lines.new.items) }
-    ensures another { IfOk result (λ done. D.observed ≡ true → (s : Seen) → Knows (D.shown dir.old) s → is_free_of (area_of pass) s ≡ true
-        → Adds (PassedBetween (BusyApart (D.shown dir.old).process) pass (D.shown dir.old) (D.shown dir.new)) lines.old.items lines.new.items) }
+        → AddsSweepLines (PassedBetween BusyNow pass (D.shown dir.old) (D.shown dir.new)) lines.old.items lines.new.items) }
+    ensures by_other_process { IfOk result (λ done. D.observed ≡ true → (s : Seen) → Knows (D.shown dir.old) s → is_free_of (area_of_pass pass) s ≡ true
+        → AddsSweepLines (PassedBetween (BusyApart (D.shown dir.old).process) pass (D.shown dir.old) (D.shown dir.new)) lines.old.items lines.new.items) }
     ensures tried { IfErr result (λ e. D.observed ≡ true → TriedBetween pass (D.shown dir.old) (D.shown dir.new)) }
-    ensures ended { IfErr result (λ e. D.observed ≡ true → EndsPassBetween pass (D.shown dir.old) (D.shown dir.new)) }
-    ensures stays { IfOk result (λ done. D.observed ≡ true → Stays (MayPass (area_of pass)) StaysBare (D.shown dir.old) (D.shown dir.new)) }
-    ensures left { IfErr result (λ e. D.observed ≡ true → Stays (MayPass (area_of pass)) StaysConforming (D.shown dir.old) (D.shown dir.new)) }
-    ensures lawful { IsErrOf result StoreError.Stray → D.observed ≡ true → (s : Seen) → Knows (D.shown dir.old) s → MayPass (area_of pass) s
+    ensures ended { IfErr result (λ e. D.observed ≡ true → EndsStorePassBetween pass (D.shown dir.old) (D.shown dir.new)) }
+    ensures stays { IfOk result (λ done. D.observed ≡ true → Stays (MayPassStore (area_of_pass pass)) StaysBare (D.shown dir.old) (D.shown dir.new)) }
+    ensures left { IfErr result (λ e. D.observed ≡ true → Stays (MayPassStore (area_of_pass pass)) KeepsStandingAndRules (D.shown dir.old) (D.shown dir.new)) }
+    ensures lawful { IsErrOf result StoreError.Stray → D.observed ≡ true → (s : Seen) → Knows (D.shown dir.old) s → MayPassStore (area_of_pass pass) s
         → IsConforming (D.shown dir.new).trace → ⊥ }
 {
     match lock_area(alloc, dir, pass.area(), Mode::Exclusive) {
@@ -179,16 +178,16 @@ fn sweep_both<D: Dir>(
     lines: &mut Vec<SweepLine>,
 ) -> Result<(), StoreError>
     requires active { IsActive (D.shown dir.old).local }
-    ensures worked { Worked D.observed sweeps (D.shown dir.old) (D.shown dir.new) }
-    ensures cause { IfErr result (λ e. WorkCause D.observed e (D.shown dir.old) (D.shown dir.new)) }
+    ensures worked { OnlyAsks D.observed sweeps_store (D.shown dir.old) (D.shown dir.new) }
+    ensures cause { IfErr result (λ e. RemovalWorkCause D.observed e (D.shown dir.old) (D.shown dir.new)) }
     ensures swept { IfOk result (λ done. D.observed ≡ true
-        → Adds (IsSweptBetween BusyNow (D.shown dir.old) (D.shown dir.new)) lines.old.items lines.new.items) }
-    ensures swept_unless_another { IfOk result (λ done. D.observed ≡ true → (s : Seen) → Knows (D.shown dir.old) s → MaySweep s
-        → Adds (IsSweptBetween (BusyApart (D.shown dir.old).process) (D.shown dir.old) (D.shown dir.new)) lines.old.items lines.new.items) }
+        → AddsSweepLines (IsStoreSweptBetween BusyNow (D.shown dir.old) (D.shown dir.new)) lines.old.items lines.new.items) }
+    ensures swept_unless_another { IfOk result (λ done. D.observed ≡ true → (s : Seen) → Knows (D.shown dir.old) s → MaySweepStore s
+        → AddsSweepLines (IsStoreSweptBetween (BusyApart (D.shown dir.old).process) (D.shown dir.old) (D.shown dir.new)) lines.old.items lines.new.items) }
     ensures tried { IfErr result (λ e. D.observed ≡ true → HasTriedBetween (D.shown dir.old) (D.shown dir.new)) }
-    ensures ended { IfErr result (λ e. D.observed ≡ true → EndsSweepBetween (D.shown dir.old) (D.shown dir.new)) }
-    ensures conforms { D.observed ≡ true → Stays MaySweep StaysConforming (D.shown dir.old) (D.shown dir.new) }
-    ensures lawful { IsErrOf result StoreError.Stray → D.observed ≡ true → (s : Seen) → Knows (D.shown dir.old) s → MaySweep s
+    ensures ended { IfErr result (λ e. D.observed ≡ true → EndsImageSweepBetween (D.shown dir.old) (D.shown dir.new)) }
+    ensures conforms { D.observed ≡ true → Stays MaySweepStore KeepsStandingAndRules (D.shown dir.old) (D.shown dir.new) }
+    ensures lawful { IsErrOf result StoreError.Stray → D.observed ≡ true → (s : Seen) → Knows (D.shown dir.old) s → MaySweepStore s
         → IsConforming (D.shown dir.new).trace → ⊥ }
 {
     sweep_area(alloc, dir, Pass::PutAway, lines)?;
@@ -205,16 +204,16 @@ fn sweep_both<D: Dir>(
 /// lock is held afterwards.
 pub fn sweep<D: Dir>(alloc: Global, dir: &mut D) -> Result<Vec<SweepLine>, StoreError>
     requires active { IsActive (D.shown dir.old).local }
-    ensures worked { Worked D.observed sweeps (D.shown dir.old) (D.shown dir.new) }
-    ensures cause { IfErr result (λ e. WorkCause D.observed e (D.shown dir.old) (D.shown dir.new)) }
+    ensures worked { OnlyAsks D.observed sweeps_store (D.shown dir.old) (D.shown dir.new) }
+    ensures cause { IfErr result (λ e. RemovalWorkCause D.observed e (D.shown dir.old) (D.shown dir.new)) }
     ensures swept { IfOk result (λ lines. D.observed ≡ true
-        → IsSweptBetween BusyNow (D.shown dir.old) (D.shown dir.new) lines.items) }
-    ensures swept_unless_another { IfOk result (λ lines. D.observed ≡ true → (s : Seen) → Knows (D.shown dir.old) s → MaySweep s
-        → IsSweptBetween (BusyApart (D.shown dir.old).process) (D.shown dir.old) (D.shown dir.new) lines.items) }
+        → IsStoreSweptBetween BusyNow (D.shown dir.old) (D.shown dir.new) lines.items) }
+    ensures swept_unless_another { IfOk result (λ lines. D.observed ≡ true → (s : Seen) → Knows (D.shown dir.old) s → MaySweepStore s
+        → IsStoreSweptBetween (BusyApart (D.shown dir.old).process) (D.shown dir.old) (D.shown dir.new) lines.items) }
     ensures tried { IfErr result (λ e. D.observed ≡ true → HasTriedBetween (D.shown dir.old) (D.shown dir.new)) }
-    ensures ended { IfErr result (λ e. D.observed ≡ true → EndsSweepBetween (D.shown dir.old) (D.shown dir.new)) }
-    ensures conforms { D.observed ≡ true → Stays MaySweep StaysConforming (D.shown dir.old) (D.shown dir.new) }
-    ensures lawful { IsErrOf result StoreError.Stray → D.observed ≡ true → (s : Seen) → Knows (D.shown dir.old) s → MaySweep s
+    ensures ended { IfErr result (λ e. D.observed ≡ true → EndsImageSweepBetween (D.shown dir.old) (D.shown dir.new)) }
+    ensures conforms { D.observed ≡ true → Stays MaySweepStore KeepsStandingAndRules (D.shown dir.old) (D.shown dir.new) }
+    ensures lawful { IsErrOf result StoreError.Stray → D.observed ≡ true → (s : Seen) → Knows (D.shown dir.old) s → MaySweepStore s
         → IsConforming (D.shown dir.new).trace → ⊥ }
 {
     let mut lines = Vec::new(alloc);

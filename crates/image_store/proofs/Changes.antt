@@ -1,5 +1,5 @@
 -- The make of the folder and its move: what they leave, and what their refusals rest on.
-use Rattle.std.proofs.Common.{◌≡◌, ◌⊎◌, ℕ, Bool, true, false, ◌||◌, Some, None, Result, Ok, Err, IfErr, List, [], refl, sym, ap, subst, ◌∙◌, append-nil, inl, inr}
+use Rattle.std.proofs.Common.{◌≡◌, ◌⊎◌, ℕ, Bool, true, false, ◌||◌, Some, None, Result, Ok, Err, IfErr, List, [], refl, sym, ap, subst, append-nil, inl, inr}
 use Rattle.dir_model.specs.declared.event.Event.{Event}
 use Rattle.dir_model.specs.declared.pod.PodId.{PodId}
 use Rattle.dir_model.specs.declared.spot.Spot.{Spot}
@@ -11,22 +11,24 @@ use Rattle.dir_model.specs.declared.request.Reply.TheVariants.{Done, Refused}
 use Rattle.dir_model.specs.declared.request.Request.{Request}
 use Rattle.dir_model.specs.declared.request.Request.TheVariants.{MakeFolder, MoveFolder, MakeDirIn, MakeFileIn, AppendIn, SyncIn}
 use Rattle.dir_model.specs.Causes.{Rose}
-use Rattle.dir_model.specs.Calls.{Interference, TookPlace, LeftNothing, CallStep}
+use Rattle.dir_model.specs.Calls.{TookPlace, LeftNothing, CallStep}
 use Rattle.dir_model.specs.Replies.{may_refuse, done_reply}
 use Rattle.dir_model.specs.State.{spot_eq}
 use Rattle.dir_model.specs.declared.area.Area.TheVariants.{Incoming}
 use Rattle.dir_model.proofs.Lists.{and_both}
+use Rattle.dir_model.proofs.Spots.{spot_self}
 use Rattle.dir_rules.specs.Standing.{is_in}
 use Rattle.folder_contents.proofs.Spots.{one_location}
 use Rattle.dir_rules.specs.declared.seen.Entry.{Entry}
 use Rattle.dir_rules.specs.declared.seen.Seen.{Seen}
-use Rattle.dir_rules.specs.Conforms.{Agrees, IsTied}
-use Rattle.dir_rules.proofs.Tied.{meanwhile_unseen, lived_meanwhile}
+use Rattle.dir_rules.specs.Conforms.{IsTied}
+use Rattle.dir_rules.proofs.Tied.{tied_meanwhile}
 use Rattle.dir_trait.specs.DirCalls.{DirAt, DirCall}
 use Rattle.dir_trait.specs.Knowledge.{Knows}
 use Rattle.dir_trait.proofs.Knowing.{knows_call}
+use Rattle.dir_trait.specs.Effects.{OnlyAsks}
 use Rattle.ac_types.specs.declared.store_key.StoreKey.{StoreKey}
-use Rattle.folder_building.specs.Work.{Worked, EndsStray, either, builds_at, is_stray}
+use Rattle.folder_building.specs.Work.{EndsWithStrayBuilding, either, builds_at, is_stray_building}
 use Rattle.folder_building.proofs.Working.{worked_call}
 use Rattle.image_reading.specs.declared.error.StoreError.TheVariants.{DirFault, Stray}
 use Rattle.image_reading.specs.Places.{image_spot}
@@ -34,29 +36,29 @@ use Rattle.image_reading.specs.Within.{Within}
 use Rattle.image_reading.proofs.Widths.{within_self}
 use Rattle.image_store.specs.Refusals.{change_refusal, move_answer, is_change_refusal}
 use Rattle.image_store.specs.Requests.{building_spot, imports_at, makes_image, is_of_incoming, is_stray_reply}
-use Rattle.image_store.specs.Work.{at_work, UnderBoth, From, FromFilled, holding, HasOwnFolder, HasMoved, IsPlaced, Unbrought}
-use Rattle.image_store.specs.Causes.{WasAnswered, WasStray, WasTaken, ChangeCause}
-use Rattle.image_store.proofs.Steps.{same_spot, made_seen, unmade_seen, moved_seen, unmoved_seen}
+use Rattle.image_store.specs.Work.{seen_importing, UnderImportLocks, WhereImporting, WhereImportFilled, holding, HasImportFolder, HasMovedImage, IsImagePlaced, Unbrought}
+use Rattle.image_store.specs.Causes.{WasLastAnswered, WasStrayImport, KeyWasTaken, ChangeCause}
+use Rattle.image_store.proofs.Steps.{made_seen, unmade_seen, moved_seen, unmoved_seen}
 
 asks_make : (spot : Spot) → makes_image spot (MakeFolder spot) ≡ true
-asks_make spot = rw (same_spot spot) refl
+asks_make spot = rw (spot_self spot) refl
 
 asks_move : (spot : Spot) (key : StoreKey) → imports_at spot (MoveFolder spot (image_spot key)) ≡ true
-asks_move spot key = rw (same_spot spot) refl
+asks_move spot key = rw (spot_self spot) refl
 
-pub worked_make : {observed : Bool} {spot : Spot} {old new : DirAt} (answer : Result (Unit {0}) DirError) → DirCall observed old (MakeFolder spot) (done_reply answer) new → Worked observed (makes_image spot) old new
+pub worked_make : {observed : Bool} {spot : Spot} {old new : DirAt} (answer : Result (Unit {0}) DirError) → DirCall observed old (MakeFolder spot) (done_reply answer) new → OnlyAsks observed (makes_image spot) old new
 worked_make {observed} {spot} (Ok done) c = worked_call (asks_make spot) refl c
 worked_make {observed} {spot} (Err error) c = worked_call (asks_make spot) refl c
 
-pub worked_move : {observed : Bool} {spot : Spot} {old new : DirAt} (key : StoreKey) (answer : Result (Unit {0}) DirError) → DirCall observed old (MoveFolder spot (image_spot key)) (done_reply answer) new → Worked observed (imports_at spot) old new
+pub worked_move : {observed : Bool} {spot : Spot} {old new : DirAt} (key : StoreKey) (answer : Result (Unit {0}) DirError) → DirCall observed old (MoveFolder spot (image_spot key)) (done_reply answer) new → OnlyAsks observed (imports_at spot) old new
 worked_move {observed} {spot} key (Ok done) c = worked_call (asks_move spot key) refl c
 worked_move {observed} {spot} key (Err error) c = worked_call (asks_move spot key) refl c
 
 -- an answer that the folder doesn't explain
-answered : {is : Request → Reply → Bool} {old new : DirAt} {request : Request} {reply : Reply} → is request reply ≡ true → CallStep old.process old.trace request reply new.trace → Within (WasAnswered is) old new
+answered : {is : Request → Reply → Bool} {old new : DirAt} {request : Request} {reply : Reply} → is request reply ≡ true → CallStep old.process old.trace request reply new.trace → Within (WasLastAnswered is) old new
 answered {is} {old} {new} {request} {reply} so step = within_self (record { request = request; reply = reply; so = so; step = step })
 
-stray_more : (request : Request) (reply : Reply) → is_stray request reply ≡ true → is_stray_reply request reply ≡ true
+stray_more : (request : Request) (reply : Reply) → is_stray_building request reply ≡ true → is_stray_reply request reply ≡ true
 stray_more (MakeFolder spot) reply is = cc
 stray_more (MoveFolder from to) reply is = cc
 stray_more request reply is = is
@@ -79,9 +81,9 @@ builds_there draw request is = by request (or_none_right (builds_at (building_sp
     by (SyncIn inner) h = in_incoming draw inner.spot h
     by request h = cc
 
-pub was_stray : (draw : PodId) {spot : Spot} {old new : DirAt} → spot ≡ building_spot draw → EndsStray (either (builds_at spot) (λ r. false)) old new → WasStray old new
+pub was_stray : (draw : PodId) {spot : Spot} {old new : DirAt} → spot ≡ building_spot draw → EndsWithStrayBuilding (either (builds_at spot) (λ r. false)) old new → WasStrayImport old new
 was_stray draw {spot} {old} {new} at e =
-    let w = subst (λ (s : Spot). EndsStray (either (builds_at s) (λ r. false)) old new) at e in record {
+    let w = subst (λ (s : Spot). EndsWithStrayBuilding (either (builds_at s) (λ r. false)) old new) at e in record {
       first = record old { trace = w.before };
       last = new;
       earlier = w.first.more;
@@ -116,10 +118,10 @@ make_cause {observed} {spot} at e may fault c = record {
 }
 
 -- what is known of the folder once it was made, or not
-pub knows_made : {observed : Bool} {draw : PodId} {old new : DirAt} → observed ≡ true → DirCall observed old (MakeFolder (building_spot draw)) Done new → From draw UnderBoth false None old (λ intent hs. Knows new (at_work intent hs true (Some (holding (building_spot draw) []))))
+pub knows_made : {observed : Bool} {draw : PodId} {old new : DirAt} → observed ≡ true → DirCall observed old (MakeFolder (building_spot draw)) Done new → WhereImporting draw UnderImportLocks false None old (λ intent hs. Knows new (seen_importing intent hs true (Some (holding (building_spot draw) []))))
 knows_made {observed} {draw} {old} {new} t c intent hs imports under k = subst (λ (s : Seen). Knows new s) (made_seen draw intent hs imports under) (knows_call t k refl refl c)
 
-pub knows_unmade : {observed : Bool} {draw : PodId} {old new : DirAt} (e : DirError) → observed ≡ true → DirCall observed old (MakeFolder (building_spot draw)) (Refused e 0) new → From draw UnderBoth false None old (λ intent hs. HasOwnFolder draw intent hs new)
+pub knows_unmade : {observed : Bool} {draw : PodId} {old new : DirAt} (e : DirError) → observed ≡ true → DirCall observed old (MakeFolder (building_spot draw)) (Refused e 0) new → WhereImporting draw UnderImportLocks false None old (λ intent hs. HasImportFolder draw intent hs new)
 knows_unmade {observed} {draw} {old} {new} e t c intent hs imports under k = record {
   stored = false;
   making = None;
@@ -127,33 +129,21 @@ knows_unmade {observed} {draw} {old} {new} e t c intent hs imports under k = rec
   knows = subst (λ (s : Seen). Knows new s) (unmade_seen draw intent hs imports under e) (knows_call t k refl refl c);
 }
 
--- the same move, by what the spots are
-pub with_spots : {observed : Bool} {old new : DirAt} {from from' to to' : Spot} {reply : Reply} → from ≡ from' → to ≡ to' → DirCall observed old (MoveFolder from to) reply new → DirCall observed old (MoveFolder from' to') reply new
-with_spots {observed} {old} {new} {from} {from'} {to} {to'} {reply} a b c =
-    subst (λ (t : Spot). DirCall observed old (MoveFolder from' t) reply new) b (subst (λ (f : Spot). DirCall observed old (MoveFolder f to) reply new) a c)
-
--- what a process knew before a call, it knew at the call's step
-tied_meanwhile : {me : ℕ} {old new : List Event} {s : Seen} → IsTied me old s → Interference me old new → IsTied me new s
-tied_meanwhile {me} {old} {new} {s} tied m = record {
-  living = λ now. subst (Agrees s) (sym (meanwhile_unseen m)) (tied.living (lived_meanwhile m now));
-  conforms = λ kept. ap (λ (x : Seen). x.kept) (meanwhile_unseen m) ∙ tied.conforms kept;
-}
-
 -- the move that was answered Ok
-pub moved_by : {me : ℕ} {from to : Spot} {old new : List Event} {s : Seen} (entries : List Entry) → s.making ≡ Some (holding from entries) → IsTied me old s → CallStep me old (MoveFolder from to) Done new → HasMoved (λ es. es ≡ entries) me from to old new
+pub moved_by : {me : ℕ} {from to : Spot} {old new : List Event} {s : Seen} (entries : List Entry) → s.making ≡ Some (holding from entries) → IsTied me old s → CallStep me old (MoveFolder from to) Done new → HasMovedImage (λ es. es ≡ entries) me from to old new
 moved_by {me} {from} {to} {old} {new} {s} entries making tied c = by c.own
   where
-    by : TookPlace c.before me (MoveFolder from to) Done new ⊎ LeftNothing c.before me (MoveFolder from to) Done new → HasMoved (λ es. es ≡ entries) me from to old new
+    by : TookPlace c.before me (MoveFolder from to) Done new ⊎ LeftNothing c.before me (MoveFolder from to) Done new → HasMovedImage (λ es. es ≡ entries) me from to old new
     by (inl t) = record { before = c.before; later = []; meanwhile = c.meanwhile.others; begins = c.meanwhile.grown; moved = t.grown; seen = s; entries = entries; making = making; knew = tied_meanwhile tied c.meanwhile; made = refl }
     by (inr l) = let late = l.late in cc
 
-pub placed_by : {observed : Bool} {draw : PodId} {old new : DirAt} (key : StoreKey) → observed ≡ true → DirCall observed old (MoveFolder (building_spot draw) (image_spot key)) Done new → FromFilled draw old (λ intent hs entries. IsPlaced draw (image_spot key) intent hs entries old new)
+pub placed_by : {observed : Bool} {draw : PodId} {old new : DirAt} (key : StoreKey) → observed ≡ true → DirCall observed old (MoveFolder (building_spot draw) (image_spot key)) Done new → WhereImportFilled draw old (λ intent hs entries. IsImagePlaced draw (image_spot key) intent hs entries old new)
 placed_by {observed} {draw} {old} {new} key t c intent hs entries imports under k = record {
   knows = subst (λ (s : Seen). Knows new s) (moved_seen draw intent hs imports under entries (image_spot key) refl) (knows_call t k refl refl c);
   moved = moved_by entries refl k.tied (c.step t);
 }
 
-pub unplaced_by : {observed : Bool} {draw : PodId} {old new : DirAt} (key : StoreKey) (e : DirError) → observed ≡ true → DirCall observed old (MoveFolder (building_spot draw) (image_spot key)) (Refused e 0) new → FromFilled draw old (λ intent hs entries. Knows new (at_work intent hs true (Some (holding (building_spot draw) entries))))
+pub unplaced_by : {observed : Bool} {draw : PodId} {old new : DirAt} (key : StoreKey) (e : DirError) → observed ≡ true → DirCall observed old (MoveFolder (building_spot draw) (image_spot key)) (Refused e 0) new → WhereImportFilled draw old (λ intent hs entries. Knows new (seen_importing intent hs true (Some (holding (building_spot draw) entries))))
 unplaced_by {observed} {draw} {old} {new} key e t c intent hs entries imports under k = subst (λ (s : Seen). Knows new s) (unmoved_seen draw intent hs imports under entries (image_spot key) refl e) (knows_call t k refl refl c)
 
 stray_move : (from to : Spot) (e : DirError) → may_refuse (MoveFolder from to) e ≡ true → (e ≡ Exists → ⊥) → change_refusal e ≡ Stray → is_stray_reply (MoveFolder from to) (Refused e 0) ≡ true
@@ -182,14 +172,14 @@ module _ (observed : Bool) (draw : PodId) (old new : DirAt) (key : StoreKey) whe
   move_cause Failed may fault c = move_error refl Failed may (λ is. cc) fault c
   move_cause dir.NoMemory may fault c = move_error refl dir.NoMemory may (λ is. cc) fault c
 
-  pub move_taken : (e : DirError) → Refusal e → move_answer e ≡ Ok true → observed ≡ true → WasTaken key old new
-  move_taken Exists c is t = record { request = MoveFolder (building_spot draw) (image_spot key); reply = Refused Exists 0; so = same_spot (image_spot key); step = c.step t }
+  pub move_taken : (e : DirError) → Refusal e → move_answer e ≡ Ok true → observed ≡ true → KeyWasTaken key old new
+  move_taken Exists c is t = record { request = MoveFolder (building_spot draw) (image_spot key); reply = Refused Exists 0; so = spot_self (image_spot key); step = c.step t }
   move_taken e c is t = cc
 
   pub move_unplaced : (e : DirError) → move_answer e ≡ Ok false → ⊥
   move_unplaced Exists is = cc
   move_unplaced e is = cc
 
-  pub move_left : (e : DirError) → Refusal e → Unbrought (move_answer e) (observed ≡ true → FromFilled draw old (λ intent hs entries. Knows new (at_work intent hs true (Some (holding (building_spot draw) entries)))))
+  pub move_left : (e : DirError) → Refusal e → Unbrought (move_answer e) (observed ≡ true → WhereImportFilled draw old (λ intent hs entries. Knows new (seen_importing intent hs true (Some (holding (building_spot draw) entries)))))
   move_left Exists c = λ t. unplaced_by key Exists t c
   move_left e c = λ t. unplaced_by key e t c

@@ -1,7 +1,8 @@
 -- While every process keeps the rules no import is answered as if its folder weren't its own, and none sees an image go.
-use Rattle.std.proofs.Common.{◌≡◌, ◌⊎◌, inl, inr, ℕ, Bool, true, false, not, ◌&&◌, ◌||◌, ◌==◌, cond, Option, Some, None, is_some, List, [], ◌∷◌, ◌++◌, append_assoc, append-nil, refl, sym, ap, subst, ◌∙◌}
+use Rattle.std.proofs.Common.{◌≡◌, ◌⊎◌, inl, inr, ℕ, Bool, true, false, not, ◌&&◌, ◌||◌, ◌==◌, cond, Some, None, List, [], ◌∷◌, ◌++◌, append_assoc, append-nil, refl, sym, ap, subst, ◌∙◌}
 use Rattle.std.specs.Prelude.{IfErr, Result, Ok, Err}
 use Rattle.std.specs.List.{AllByRecursion}
+use Rattle.plain_laws.proofs.Booleans.{clash}
 use Rattle.ac_types.specs.declared.store_key.StoreKey.{StoreKey}
 use Rattle.dir_model.specs.declared.area.Area.{Area}
 use Rattle.dir_model.specs.declared.area.Area.TheVariants as area
@@ -13,32 +14,32 @@ use Rattle.dir_model.specs.declared.request.Request.TheVariants.{MakeFolder, Mov
 use Rattle.dir_model.specs.declared.request.Reply.{Reply}
 use Rattle.dir_model.specs.declared.request.Reply.TheVariants.{Done, Opened, Refused}
 use Rattle.dir_model.specs.Calls.{CallStep, TookPlace, LeftNothing, event, is_begin, is_foreign, is_kill}
-use Rattle.dir_model.specs.Replies.{is_error}
 use Rattle.dir_model.specs.State.{Namespace, DirState, empty_state, folder_at, stands, lives, spot_eq}
 use Rattle.dir_model.specs.Trace.{namespace_replied, state_after}
 use Rattle.dir_model.proofs.Allowed.{allowed_reply}
 use Rattle.dir_model.proofs.Chains.{states_next-append, state_after-push}
 use Rattle.dir_model.proofs.Lists.{and_left, and_right, all_left, all_right, all_weaker, or_map, same_rest}
+use Rattle.dir_model.proofs.Moments.{some_number}
 use Rattle.dir_rules.specs.declared.seen.Seen.{Seen}
 use Rattle.dir_rules.specs.declared.standing.Standing.{Standing}
 use Rattle.dir_rules.specs.Anomalies.{loses_own}
 use Rattle.dir_rules.specs.Seen.{makes_at}
-use Rattle.dir_rules.specs.Standing.{is_in, holds_gate, closes_gate, standing_replied}
-use Rattle.dir_rules.specs.LockRules.{may_ask}
-use Rattle.dir_rules.specs.Rules.{allows, may_bring_between, may_look, has_done, is_all_done}
-use Rattle.dir_rules.specs.Conforms.{seen_of, seen_after, seen_replied, saw, nothing_seen}
+use Rattle.dir_rules.specs.Standing.{is_in, shares_area, excludes_area, standing_replied}
+use Rattle.dir_rules.specs.LockRules.{lock_rules_allow}
+use Rattle.dir_rules.specs.Rules.{allows, contents_allow_move, may_read_area, has_done, is_all_done}
+use Rattle.dir_rules.specs.Conforms.{seen_of, seen_after, seen_replied, seen_after_event, nothing_seen}
 use Rattle.dir_rules.proofs.Tied.{seen_after-append}
+use Rattle.dir_laws.proofs.Living.{lived_first}
+use Rattle.dir_laws.proofs.Refusals.{exists_by}
 use Rattle.dir_trait.specs.DirCalls.{DirAt}
 use Rattle.lifecycle.specs.Executions.{IsConforming}
 use Rattle.lifecycle.proofs.Draws.{conforming_left}
-use Rattle.lifecycle.proofs.Handles.{clash}
-use Rattle.folder_contents.specs.UnderGate.{takes, is_taken_by, KnowsAlong, StaysAlong}
+use Rattle.folder_contents.specs.UnderGate.{is_taken_from, is_taken_by, KnowsAlong, StaysAlong}
 use Rattle.folder_contents.proofs.Along.{Happens, happens, one_of}
 use Rattle.folder_contents.proofs.Handed.{brought}
 use Rattle.folder_contents.proofs.Known.{alive_at}
 use Rattle.folder_contents.proofs.Spots.{in_area, one_location}
 use Rattle.folder_contents.proofs.UnderGate.{images_stay_shared, images_stay_closed}
-use Rattle.gate_reading.proofs.GoingOn.{lived_first}
 use Rattle.gate_reading.proofs.OwnSteps.{own_is}
 use Rattle.impossible_replies.proofs.Alongside.{steps}
 use Rattle.impossible_replies.proofs.Citing.{never_lost_change}
@@ -49,8 +50,8 @@ use Rattle.image_reading.specs.Looks.{reads_image}
 use Rattle.image_reading.specs.Places.{image_spot}
 use Rattle.bundle_image.specs.declared.refusal.BundleRefusal.{BundleRefusal}
 use Rattle.bundle_image.specs.declared.refusal.BundleRefusal.TheVariants as bundle
-use Rattle.image_store.specs.Causes.{Source, WasStray, Vanishes, StrayCause, is_refused_move}
-use Rattle.image_store.specs.Imports.{IsRefused}
+use Rattle.image_store.specs.Causes.{Source, WasStrayImport, Vanishes, StrayCause, is_refused_move}
+use Rattle.image_store.specs.Imports.{IsImportRefused}
 use Rattle.image_store.specs.Refusals.{bundle_refusal}
 use Rattle.image_store.specs.Requests.{is_of_incoming, is_stray_reply}
 
@@ -62,19 +63,16 @@ off_run a h = cc
 -- who may move from incoming to images makes that folder
 makes_moved : (s : Seen) (from to : Spot) → is_in area.Incoming from.area ≡ true → is_in area.Images to.area ≡ true → allows s (MoveFolder from to) ≡ true → makes_at s.making from ≡ true
 makes_moved s from to out into may =
-    let b = subst (λ (a : Area). may_bring_between s from to area.Incoming a ≡ true) (sym (in_area area.Images to.area into))
-    (subst (λ (a : Area). may_bring_between s from to a to.area ≡ true) (sym (in_area area.Incoming from.area out)) (brought s from to may)) in
+    let b = subst (λ (a : Area). contents_allow_move s from to area.Incoming a ≡ true) (sym (in_area area.Images to.area into))
+    (subst (λ (a : Area). contents_allow_move s from to a to.area ≡ true) (sym (in_area area.Incoming from.area out)) (brought s from to may)) in
     and_left (makes_at s.making from) _ (and_left (has_done is_all_done s from) s.stored b)
-
-never_both : (b : Bool) → b ≡ true → b ≡ false → ⊥
-never_both b x y = clash b x y
 
 module _ {me : ℕ} {old new : List Event} (conforming : IsConforming new) where
   not_made : (spot : Spot) (left : ℕ) → CallStep me old (MakeFolder spot) (Refused Exists left) new → is_in area.Incoming spot.area ≡ true → ⊥
   not_made spot left c inside = by c.own
     where
       by : TookPlace c.before me (MakeFolder spot) (Refused Exists left) new ⊎ LeftNothing c.before me (MakeFolder spot) (Refused Exists left) new → ⊥
-      by (inl took) = never_both (is_in area.Incoming spot.area) inside ((makers_reply new conforming).another c.before (event me (MakeFolder spot) (Refused Exists left)) [] took.grown refl)
+      by (inl took) = clash (is_in area.Incoming spot.area) inside ((makers_reply new conforming).another c.before (event me (MakeFolder spot) (Refused Exists left)) [] took.grown refl)
       by (inr late) = let l = and_right (left == 0) false late.late in cc
 
   not_moved : (from to : Spot) (left : ℕ) → CallStep me old (MoveFolder from to) (Refused Missing left) new → is_of_incoming (MoveFolder from to) ≡ true → ⊥
@@ -87,7 +85,7 @@ module _ {me : ℕ} {old new : List Event} (conforming : IsConforming new) where
           let x = steps c.before e (subst IsConforming took.grown conforming) refl refl in
           let makes = makes_moved s from to (and_left (is_in area.Incoming from.area) (is_in area.Images to.area) inside) (and_right (is_in area.Incoming from.area) (is_in area.Images to.area) inside) x.may in
           let lost : loses_own s (MoveFolder from to) (Refused Missing left) ≡ true = rw makes refl in
-          never_both (loses_own s (MoveFolder from to) (Refused Missing left)) lost ((makers_reply new conforming).own c.before e [] took.grown refl makes)
+          clash (loses_own s (MoveFolder from to) (Refused Missing left)) lost ((makers_reply new conforming).own c.before e [] took.grown refl makes)
       by (inr late) = let l = and_right (left == 0) false late.late in cc
 
   -- the stray answers of an import
@@ -108,7 +106,7 @@ module _ {me : ℕ} {old new : List Event} (conforming : IsConforming new) where
   not_stray (SyncIn i) reply c inside stray = cc
   not_stray request reply c inside stray = cc
 
-none_stray : {old new : DirAt} → IsConforming new.trace → WasStray old new → ⊥
+none_stray : {old new : DirAt} → IsConforming new.trace → WasStrayImport old new → ⊥
 none_stray {old} {new} conforming w =
     let last = conforming_left w.last.trace w.later (subst IsConforming w.ends conforming) in
     let a = w.told in
@@ -138,18 +136,18 @@ begins_not key (ReadIn inner at room) h = refl
 begins_not key (ListIn inner) h = refl
 begins_not key request h = cc
 
-takes_not : (key : StoreKey) (spot : Spot) (request : Request) (reply : Reply) → reads_image key request ≡ true → takes spot request reply ≡ false
+takes_not : (key : StoreKey) (spot : Spot) (request : Request) (reply : Reply) → reads_image key request ≡ true → is_taken_from spot request reply ≡ false
 takes_not key spot (ReadIn inner at room) reply h = refl
 takes_not key spot (ListIn inner) reply h = refl
 takes_not key spot request reply h = cc
 
 -- and is allowed under the lock of images alone
-look_at : (s : Seen) (key : StoreKey) (spot : Spot) → spot_eq spot (image_spot key) ≡ true → may_look s spot.area ≡ true → may_look s area.Images ≡ true
-look_at s key spot is may = subst (λ (x : Spot). may_look s x.area ≡ true) (one_location spot (image_spot key) is) may
+look_at : (s : Seen) (key : StoreKey) (spot : Spot) → spot_eq spot (image_spot key) ≡ true → may_read_area s spot.area ≡ true → may_read_area s area.Images ≡ true
+look_at s key spot is may = subst (λ (x : Spot). may_read_area s x.area ≡ true) (one_location spot (image_spot key) is) may
 
-looks : (s : Seen) (key : StoreKey) (request : Request) → reads_image key request ≡ true → allows s request ≡ true → may_look s area.Images ≡ true
-looks s key (ReadIn inner at room) h may = look_at s key inner.spot h (and_right (may_ask s.standing (ReadIn inner at room)) (may_look s inner.spot.area) may)
-looks s key (ListIn inner) h may = look_at s key inner.spot (and_left (spot_eq inner.spot (image_spot key)) _ h) (and_right (may_ask s.standing (ListIn inner)) (may_look s inner.spot.area) may)
+looks : (s : Seen) (key : StoreKey) (request : Request) → reads_image key request ≡ true → allows s request ≡ true → may_read_area s area.Images ≡ true
+looks s key (ReadIn inner at room) h may = look_at s key inner.spot h (and_right (lock_rules_allow s.standing (ReadIn inner at room)) (may_read_area s inner.spot.area) may)
+looks s key (ListIn inner) h may = look_at s key inner.spot (and_left (spot_eq inner.spot (image_spot key)) _ h) (and_right (lock_rules_allow s.standing (ListIn inner)) (may_read_area s inner.spot.area) may)
 looks s key request h may = cc
 
 module _ (me : ℕ) (key : StoreKey) where
@@ -158,7 +156,7 @@ module _ (me : ℕ) (key : StoreKey) where
 
   standing_after : (s : Seen) (es : List Event) → Reads es → (seen_after me s es).standing ≡ s.standing
   standing_after s [] all = refl
-  standing_after s (e ∷ es) all = standing_after (saw me s e) es all.1 ∙ by (is_foreign me e) all.0
+  standing_after s (e ∷ es) all = standing_after (seen_after_event me s e) es all.1 ∙ by (is_foreign me e) all.0
     where
       by : (b : Bool) → (b || reads_image key e.request) ≡ true → (cond b s (seen_replied s e.request e.reply)).standing ≡ s.standing
       by true x = refl
@@ -185,7 +183,7 @@ module _ (me : ℕ) (key : StoreKey) where
         by true h = cc
         by false h = refl
 
-    may : may_look (seen_of me (mid ++ x)) area.Images ≡ true
+    may : may_read_area (seen_of me (mid ++ x)) area.Images ≡ true
     may = looks (seen_of me (mid ++ x)) key step.request reads
         (subst (λ (p : ℕ). allows (seen_of p (mid ++ x)) step.request ≡ true) (own_is me step own).0 (now.may (own_is me step own).1))
 
@@ -220,12 +218,12 @@ module _ (me : ℕ) (key : StoreKey) where
         all_weaker (λ e. (is_foreign me e || reads_image key e.request) ≡ true) (λ e. is_taken_by me spot e ≡ false)
         (λ e. by e (e.process == me) (is_kill e.request) refl) stretch asked
       where
-        kills_not : (request : Request) (reply : Reply) → is_kill request ≡ true → takes spot request reply ≡ false
+        kills_not : (request : Request) (reply : Reply) → is_kill request ≡ true → is_taken_from spot request reply ≡ false
         kills_not (MoveFolder from to) reply h = cc
         kills_not (RemoveFolder gone) reply h = cc
         kills_not request reply h = refl
 
-        by : (e : Event) (own kill : Bool) → is_kill e.request ≡ kill → ((not own || kill) || reads_image key e.request) ≡ true → (own && takes spot e.request e.reply) ≡ false
+        by : (e : Event) (own kill : Bool) → is_kill e.request ≡ kill → ((not own || kill) || reads_image key e.request) ≡ true → (own && is_taken_from spot e.request e.reply) ≡ false
         by e false kill k h = refl
         by e true true k h = kills_not e.request e.reply k
         by e true false k h = takes_not key spot e.request e.reply h
@@ -234,23 +232,13 @@ module _ (me : ℕ) (key : StoreKey) where
     stays : (folder : ℕ) → folder_at (state_after mid).namespace (image_spot key) ≡ Some folder → folder_at (state_after ((mid ++ x) ++ step ∷ [])).namespace (image_spot key) ≡ Some folder
     stays folder at =
         subst (λ (h : List Event). folder_at (state_after h).namespace (image_spot key) ≡ Some folder) (sym (append_assoc mid x (step ∷ [])))
-        (by (holds_gate area.Images (seen_of me (mid ++ x)).standing) (closes_gate area.Images (seen_of me (mid ++ x)).standing) refl refl may stretch [] (sym (append-nil stretch))).0
+        (by (shares_area area.Images (seen_of me (mid ++ x)).standing) (excludes_area area.Images (seen_of me (mid ++ x)).standing) refl refl may stretch [] (sym (append-nil stretch))).0
       where
-        by : (shares closes : Bool) → holds_gate area.Images (seen_of me (mid ++ x)).standing ≡ shares → closes_gate area.Images (seen_of me (mid ++ x)).standing ≡ closes → (shares || closes) ≡ true →
+        by : (shares closes : Bool) → shares_area area.Images (seen_of me (mid ++ x)).standing ≡ shares → excludes_area area.Images (seen_of me (mid ++ x)).standing ≡ closes → (shares || closes) ≡ true →
             StaysAlong mid stretch (image_spot key) folder
-        by true closes s c h = images_stay_shared new conforming me mid stretch rest (image_spot key) folder up_to refl (knows_along (holds_gate area.Images) s) at
-        by false true s c h = images_stay_closed new conforming me mid stretch rest (image_spot key) folder up_to refl (knows_along (closes_gate area.Images) c) (taken_not (image_spot key)) at
+        by true closes s c h = images_stay_shared new conforming me mid stretch rest (image_spot key) folder up_to refl (knows_along (shares_area area.Images) s) at
+        by false true s c h = images_stay_closed new conforming me mid stretch rest (image_spot key) folder up_to refl (knows_along (excludes_area area.Images) c) (taken_not (image_spot key)) at
         by false false s c h = cc
-
--- where the move into images was refused so, an image stood
-exists_stands : (there free : Bool) → is_error Exists (cond there (cond free (Some Exists) None) (Some Missing)) ≡ true → free ≡ true
-exists_stands true true h = refl
-exists_stands true false h = cc
-exists_stands false free h = cc
-
-some_of : (o : Option ℕ) → is_some o ≡ true → (folder : ℕ) × (o ≡ Some folder)
-some_of (Some folder) h = (folder, refl)
-some_of None h = cc
 
 taken_stands : {me : ℕ} {old new : List Event} (key : StoreKey) (request : Request) (reply : Reply) → CallStep me old request reply new → is_refused_move key request reply ≡ true →
     (folder : ℕ) × (folder_at (state_after new).namespace (image_spot key) ≡ Some folder)
@@ -265,8 +253,8 @@ taken_stands {me} {old} {new} key (MoveFolder from to) (Refused Exists left) c i
         let s : DirState = state_after c.before in
         let e : Event = event me (MoveFolder from to) (Refused Exists left) in
         let told = and_right (left == 0) _ (allowed_reply s me (MoveFolder from to) (Refused Exists left) took.allowed) in
-        let there : stands s.namespace to ≡ true = exists_stands (stands s.namespace from) (stands s.namespace to) told in
-        let found = some_of (folder_at s.namespace (image_spot key)) (subst (λ (x : Spot). stands s.namespace x ≡ true) at there) in (
+        let there : stands s.namespace to ≡ true = exists_by (stands s.namespace from) (stands s.namespace to) told in
+        let found = some_number (folder_at s.namespace (image_spot key)) (subst (λ (x : Spot). stands s.namespace x ≡ true) at there) in (
           found.0,
           subst (λ (h : List Event). folder_at (state_after h).namespace (image_spot key) ≡ Some found.0) (sym took.grown)
               (subst (λ (t : DirState). folder_at t.namespace (image_spot key) ≡ Some found.0) (sym (state_after-push c.before e)) found.1),
@@ -302,7 +290,7 @@ bundle_lawful bundle.BundleFault is = cc
 bundle_lawful bundle.NoMemory is = cc
 
 -- no import is refused so
-pub never_stray : {observed : Bool} {source : Source} {e : StoreError} {old new : DirAt} → IsRefused observed source e old new → e ≡ store_error.Stray → observed ≡ true → IsConforming new.trace → ⊥
+pub never_stray : {observed : Bool} {source : Source} {e : StoreError} {old new : DirAt} → IsImportRefused observed source e old new → e ≡ store_error.Stray → observed ≡ true → IsConforming new.trace → ⊥
 never_stray {observed} {source} {e} (inl r) is t conforming = bundle_lawful r.0 (sym is ∙ r.1)
 never_stray {observed} {source} {e} (inr x) is t conforming = no_stray_cause conforming (x.2.stray is t)
 

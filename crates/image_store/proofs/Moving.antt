@@ -16,15 +16,16 @@ use Rattle.dir_model.specs.declared.request.Request.TheVariants.{MoveFolder, Clo
 use Rattle.dir_model.specs.Calls.{CallStep, TookPlace, LeftNothing, Extends, event, is_foreign}
 use Rattle.dir_model.proofs.Lists.{all_both, all_weaker, or_map, or_last}
 use Rattle.dir_trait.specs.DirCalls.{DirAt, DirCall}
-use Rattle.dir_files.specs.AreaLocks.{takes, closes}
-use Rattle.folder_building.specs.Work.{Worked}
+use Rattle.dir_trait.specs.Effects.{OnlyAsks}
+use Rattle.dir_files.specs.AreaLocks.{is_taking_area, closes}
+use Rattle.folder_building.proofs.Following.{GivesBack}
 use Rattle.image_reading.specs.declared.error.StoreError.{StoreError}
 use Rattle.image_reading.specs.Looks.{reads_image, OnlyReadsImage}
 use Rattle.image_reading.specs.Places.{image_spot}
 use Rattle.image_store.specs.Refusals.{move_answer}
 use Rattle.image_store.specs.Requests.{brings_image, is_close, makes_image}
-use Rattle.image_store.specs.Moves.{BringsNone, MovedNothing, MovedOnce, Moves}
-use Rattle.image_store.proofs.Locked.{Shares, GivesBack}
+use Rattle.image_store.specs.Moves.{BringsNone, MovedNoImage, MovedOnce, Moves}
+use Rattle.image_store.proofs.Locked.{Shares}
 
 -- requests of which none moves a folder
 abbrev pub is_move : Request → Bool
@@ -36,7 +37,7 @@ stays_out (MoveFolder from to) reply off = cc
 stays_out request reply off = refl
 
 -- in a stretch of such requests nothing was moved
-pub nothing_by : (asks : Request → Bool) {me : ℕ} {old new : List Event} → ((r : Request) → asks r ≡ true → is_move r ≡ false) → Extends asks me old new → MovedNothing me old new
+pub nothing_by : (asks : Request → Bool) {me : ℕ} {old new : List Event} → ((r : Request) → asks r ≡ true → is_move r ≡ false) → Extends asks me old new → MovedNoImage me old new
 nothing_by asks {me} {old} {new} off e = record {
   more = e.more;
   grown = e.grown;
@@ -48,7 +49,7 @@ reads_move_none : (key : StoreKey) (r : Request) → reads_image key r ≡ true 
 reads_move_none key (MoveFolder from to) h = cc
 reads_move_none key r h = refl
 
-takes_move_none : (area : Area) (r : Request) → takes area Shared r ≡ true → is_move r ≡ false
+takes_move_none : (area : Area) (r : Request) → is_taking_area area Shared r ≡ true → is_move r ≡ false
 takes_move_none area (MoveFolder from to) h = cc
 takes_move_none area r h = refl
 
@@ -64,27 +65,27 @@ closes_close : (h : Handle) (r : Request) → closes h r ≡ true → is_close r
 closes_close h (Close given) is = refl
 closes_close h r is = cc
 
-pub nothing_moved : {me : ℕ} {old : List Event} → MovedNothing me old old
+pub nothing_moved : {me : ℕ} {old : List Event} → MovedNoImage me old old
 nothing_moved {me} {old} = record { more = []; grown = sym (append-nil old); none = tt }
 
-pub nothing_read : {observed : Bool} (key : StoreKey) {a b : DirAt} → OnlyReadsImage observed key a b → observed ≡ true → MovedNothing a.process a.trace b.trace
+pub nothing_read : {observed : Bool} (key : StoreKey) {a b : DirAt} → OnlyReadsImage observed key a b → observed ≡ true → MovedNoImage a.process a.trace b.trace
 nothing_read {observed} key r t = nothing_by (reads_image key) (reads_move_none key) (r.extends t)
 
-pub nothing_built : {observed : Bool} (spot : Spot) {a b : DirAt} → Worked observed (makes_image spot) a b → observed ≡ true → MovedNothing a.process a.trace b.trace
+pub nothing_built : {observed : Bool} (spot : Spot) {a b : DirAt} → OnlyAsks observed (makes_image spot) a b → observed ≡ true → MovedNoImage a.process a.trace b.trace
 nothing_built {observed} spot w t = nothing_by (makes_image spot) (makes_move_none spot) (w.extends t)
 
-pub nothing_shared : (area : Area) {me : ℕ} {old new : List Event} → Extends (takes area Shared) me old new → MovedNothing me old new
-nothing_shared area e = nothing_by (takes area Shared) (takes_move_none area) e
+pub nothing_shared : (area : Area) {me : ℕ} {old new : List Event} → Extends (is_taking_area area Shared) me old new → MovedNoImage me old new
+nothing_shared area e = nothing_by (is_taking_area area Shared) (takes_move_none area) e
 
 -- one stretch after the other
-pub nothing_more : {me : ℕ} {a b c : List Event} → MovedNothing me a b → MovedNothing me b c → MovedNothing me a c
+pub nothing_more : {me : ℕ} {a b c : List Event} → MovedNoImage me a b → MovedNoImage me b c → MovedNoImage me a c
 nothing_more {me} {a} {b} {c} x y = record {
   more = x.more ++ y.more;
   grown = y.grown ∙ (ap (λ (h : List Event). h ++ y.more) x.grown ∙ append_assoc a x.more y.more);
   none = all_both _ x.more y.more x.none y.none;
 }
 
-once_after : {me : ℕ} {from to : Spot} {a b c : List Event} → MovedNothing me a b → MovedOnce me from to b c → MovedOnce me from to a c
+once_after : {me : ℕ} {from to : Spot} {a b c : List Event} → MovedNoImage me a b → MovedOnce me from to b c → MovedOnce me from to a c
 once_after {me} {from} {to} {a} {b} {c} x y = record {
   meanwhile = x.more ++ y.meanwhile;
   later = y.later;
@@ -105,10 +106,10 @@ once_before {me} {from} {to} h {a} {b} {c} x e = record {
 
 module _ (from : Spot) (key : StoreKey) where
   -- after a stretch in which nothing was moved
-  pub moves_after : (r : Result Bool StoreError) (a b c : DirAt) → b.process ≡ a.process → MovedNothing a.process a.trace b.trace → Moves from key r b c → Moves from key r a c
+  pub moves_after : (r : Result Bool StoreError) (a b c : DirAt) → b.process ≡ a.process → MovedNoImage a.process a.trace b.trace → Moves from key r b c → Moves from key r a c
   moves_after (Ok false) a b c same x y = once_after x (subst (λ (me : ℕ). MovedOnce me from (image_spot key) b.trace c.trace) same y)
-  moves_after (Ok true) a b c same x y = nothing_more x (subst (λ (me : ℕ). MovedNothing me b.trace c.trace) same y)
-  moves_after (Err e) a b c same x y = nothing_more x (subst (λ (me : ℕ). MovedNothing me b.trace c.trace) same y)
+  moves_after (Ok true) a b c same x y = nothing_more x (subst (λ (me : ℕ). MovedNoImage me b.trace c.trace) same y)
+  moves_after (Err e) a b c same x y = nothing_more x (subst (λ (me : ℕ). MovedNoImage me b.trace c.trace) same y)
 
   -- and before a lock is given back
   pub moves_before : (r : Result Bool StoreError) (h : Handle) (a b c : DirAt) → b.process ≡ a.process → Moves from key r a b → Extends (closes h) b.process b.trace c.trace → Moves from key r a c
@@ -122,7 +123,7 @@ module _ (from : Spot) (key : StoreKey) where
       moves_before r h a c d (same ∙ s.same) (moves_after r a b c s.same (nothing_shared area (s.extends t)) x) (g.extends t)
 
   -- where the answer isn't that the folder was brought
-  pub moves_none : (r : Result Bool StoreError) (a b : DirAt) → (r ≡ Ok false → ⊥) → MovedNothing a.process a.trace b.trace → Moves from key r a b
+  pub moves_none : (r : Result Bool StoreError) (a b : DirAt) → (r ≡ Ok false → ⊥) → MovedNoImage a.process a.trace b.trace → Moves from key r a b
   moves_none (Ok false) a b other x = absurd (other refl)
   moves_none (Ok true) a b other x = x
   moves_none (Err e) a b other x = x
@@ -145,7 +146,7 @@ module _ (from : Spot) (key : StoreKey) where
       }
       by (inr left) = let late = left.late in cc
 
-  pub moved_not : {observed : Bool} {old new : DirAt} (e : DirError) → observed ≡ true → DirCall observed old (MoveFolder from (image_spot key)) (Refused e 0) new → MovedNothing old.process old.trace new.trace
+  pub moved_not : {observed : Bool} {old new : DirAt} (e : DirError) → observed ≡ true → DirCall observed old (MoveFolder from (image_spot key)) (Refused e 0) new → MovedNoImage old.process old.trace new.trace
   moved_not {observed} {old} {new} e t call = by c.own
     where
       c : CallStep old.process old.trace (MoveFolder from (image_spot key)) (Refused e 0) new.trace
@@ -155,7 +156,7 @@ module _ (from : Spot) (key : StoreKey) where
       foreign = all_weaker (λ x. is_foreign old.process x ≡ true) (λ x. (is_foreign old.process x || not (brings_image x.request x.reply)) ≡ true)
           (λ x foreign. ap (λ b. b || not (brings_image x.request x.reply)) foreign) c.meanwhile.others c.meanwhile.foreign
 
-      by : TookPlace c.before old.process (MoveFolder from (image_spot key)) (Refused e 0) new.trace ⊎ LeftNothing c.before old.process (MoveFolder from (image_spot key)) (Refused e 0) new.trace → MovedNothing old.process old.trace new.trace
+      by : TookPlace c.before old.process (MoveFolder from (image_spot key)) (Refused e 0) new.trace ⊎ LeftNothing c.before old.process (MoveFolder from (image_spot key)) (Refused e 0) new.trace → MovedNoImage old.process old.trace new.trace
       by (inl took) =
           let step : Event = event old.process (MoveFolder from (image_spot key)) (Refused e 0) in record {
             more = c.meanwhile.others ++ step ∷ [];
@@ -169,7 +170,7 @@ module _ (from : Spot) (key : StoreKey) where
   answered_not e old new t call = moved_not e t call
 
 -- what was moved, by the answer of the whole import
-pub moves_refused : (from : Spot) (key : StoreKey) (r : Result Bool StoreError) (e : StoreError) (a b : DirAt) → r ≡ Err e → Moves from key r a b → MovedNothing a.process a.trace b.trace
+pub moves_refused : (from : Spot) (key : StoreKey) (r : Result Bool StoreError) (e : StoreError) (a b : DirAt) → r ≡ Err e → Moves from key r a b → MovedNoImage a.process a.trace b.trace
 moves_refused from key r e a b is x = subst (λ (q : Result Bool StoreError). Moves from key q a b) is x
 
 -- and it isn't brought where another image stood

@@ -14,17 +14,17 @@ use Rattle.dir_rules.specs.declared.standing.Held.{Held}
 use Rattle.dir_rules.specs.declared.seen.Making.{Making}
 use Rattle.dir_rules.specs.Standing.{is_gate_shared}
 use Rattle.dir_trait.specs.DirCalls.{DirAt}
+use Rattle.dir_trait.specs.Effects.{OnlyAsks}
 use Rattle.dir_files.specs.Reads.{may_read}
 use Rattle.ac_types.specs.declared.store_key.StoreKey.{StoreKey}
 use Rattle.bundle_image.specs.declared.image.BundleImage.{BundleImage}
-use Rattle.folder_building.specs.Work.{Worked}
 use Rattle.dir_model.proofs.Chains.{extends_wider}
 use Rattle.image_reading.specs.declared.error.StoreError.{StoreError}
 use Rattle.image_reading.specs.Places.{image_spot}
 use Rattle.image_reading.specs.Looks.{reads_image, OnlyReadsImage}
 use Rattle.image_store.specs.Requests.{imports_at}
-use Rattle.image_store.specs.Work.{at_work, Unbrought}
-use Rattle.image_store.specs.Imports.{key_of}
+use Rattle.image_store.specs.Work.{seen_importing, Unbrought}
+use Rattle.image_store.specs.Imports.{key_of_image}
 
 -- looks at images are among an import's requests
 reads_import : (spot : Spot) (key : StoreKey) (request : Request) → reads_image key request ≡ true → imports_at spot request ≡ true
@@ -36,11 +36,11 @@ reads_import spot key (ListIn inner) is =
     rw (h, b) refl
 reads_import spot key request is = cc
 
-pub worked_reads : {observed : Bool} (spot : Spot) (key : StoreKey) {old new : DirAt} → OnlyReadsImage observed key old new → Worked observed (imports_at spot) old new
+pub worked_reads : {observed : Bool} (spot : Spot) (key : StoreKey) {old new : DirAt} → OnlyReadsImage observed key old new → OnlyAsks observed (imports_at spot) old new
 worked_reads {observed} spot key r = record { same = r.same; faults = r.faults; local = r.local; extends = λ t. extends_wider (reads_import spot key) (r.extends t) }
 
 -- under the lock of images it may read there
-pub may_read_there : (intent : Intent) (hs : List Held) (stored : Bool) (making : Option Making) → list_any (is_gate_shared Images) hs ≡ true → may_read Images (at_work intent hs stored making).standing ≡ true
+pub may_read_there : (intent : Intent) (hs : List Held) (stored : Bool) (making : Option Making) → list_any (is_gate_shared Images) hs ≡ true → may_read Images (seen_importing intent hs stored making).standing ≡ true
 may_read_there intent hs stored making images = rw images refl
 
 pub unbrought_any : (r : Result Bool StoreError) (Left : Type 0) → Left → Unbrought r Left
@@ -48,5 +48,5 @@ unbrought_any (Ok false) Left left = tt
 unbrought_any (Ok true) Left left = left
 unbrought_any (Err e) Left left = left
 
-pub same_key : (key : StoreKey) (image : BundleImage) → key.bytes ≡ take 32 image.id.bytes → key ≡ key_of image
+pub same_key : (key : StoreKey) (image : BundleImage) → key.bytes ≡ take 32 image.id.bytes → key ≡ key_of_image image
 same_key key image is = ap (λ (b : List ℕ). let k : StoreKey = record { bytes = b } in k) is

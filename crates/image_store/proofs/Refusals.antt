@@ -21,21 +21,22 @@ use Rattle.folder_building.specs.declared.error.BuildError.TheVariants as failur
 use Rattle.folder_building.specs.declared.plan.PlanEntry.{PlanEntry}
 use Rattle.folder_building.specs.Sources.{UnlikeAt}
 use Rattle.folder_building.specs.ImagePlans.{image_entries}
+use Rattle.folder_building.proofs.Following.{Follows}
 use Rattle.image_reading.specs.declared.error.StoreError.{StoreError}
 use Rattle.image_reading.specs.declared.error.StoreError.TheVariants.{Busy, Damaged, IdConflict, BundleFault, DirFault, NoMemory, Stray}
 use Rattle.image_reading.specs.Looks.{reads_image}
-use Rattle.image_reading.specs.Places.{IsAbsent}
+use Rattle.image_reading.specs.Places.{IsImageAbsent}
 use Rattle.image_reading.specs.Refusals.{IsReadRefusal, IsDigestPath}
-use Rattle.image_reading.specs.Images.{HasDigest, LacksStored}
+use Rattle.image_reading.specs.Images.{ReadsDigest, LacksStored}
 use Rattle.image_reading.proofs.Widths.{within_self}
-use Rattle.image_store.specs.Refusals.{lock_refusal, is_lock_refusal, is_look_refusal, is_change_refusal, is_fill_refusal, is_place_refusal, is_work_refusal, is_import_area, is_import_refusal, bundle_refusal}
+use Rattle.image_store.specs.Refusals.{lock_refusal, is_import_lock_refusal, is_look_refusal, is_change_refusal, is_fill_refusal, is_place_refusal, is_import_work_refusal, is_import_area, is_import_refusal, bundle_refusal}
 use Rattle.image_store.specs.Plans.{IsUnlikeRefusal, IsBuildRefusal}
-use Rattle.image_store.specs.Causes.{LockCause, BusyElsewhere, LookCause, ChangeCause, FillCause, BuildCause, CompareCause, PlaceCause, ImportCause, HadIncoming, FoundInTurn, WasStray, WasTaken, Source, UnlikePlanned, LacksThere, is_late}
+use Rattle.image_store.specs.Causes.{LockCause, ImportBusyElsewhere, LookCause, ChangeCause, FillCause, BuildCause, CompareCause, PlaceCause, ImportCause, HadIncoming, FoundInTurn, WasStrayImport, KeyWasTaken, Source, UnlikePlanned, LacksThere, is_late}
 use Rattle.image_store.proofs.Unlikes.{files_of, unlike_planned, unlike_listed}
-use Rattle.image_store.proofs.Widths.{Follows, fault_after, told_after, conflict_after}
+use Rattle.image_store.proofs.Widths.{fault_after, told_after, conflict_after}
 
 -- the lock
-lock_kind : (area : Area) (e : LockError) → is_lock_refusal area (lock_refusal area e) ≡ true
+lock_kind : (area : Area) (e : LockError) → is_import_lock_refusal area (lock_refusal area e) ≡ true
 lock_kind area lock.Busy = same_self (rank area)
 lock_kind area lock.DirFault = refl
 lock_kind area lock.NoMemory = refl
@@ -57,11 +58,11 @@ lock_cause {observed} {old} {new} area e fault busy = record {
   busy = λ here is t. let b = lock_busy area here e is in subst (λ (a : Area). HeldBetween old new (IsBusy a Shared)) b.1 (busy b.0 t);
 }
 
-pub busy_elsewhere : (old new : DirAt) (area : Area) (e : LockError) → (e ≡ lock.Busy → HeldBetween old new (IsBusyElsewhere old.process area Shared)) → BusyElsewhere (lock_refusal area e) old new
+pub busy_elsewhere : (old new : DirAt) (area : Area) (e : LockError) → (e ≡ lock.Busy → HeldBetween old new (IsBusyElsewhere old.process area Shared)) → ImportBusyElsewhere (lock_refusal area e) old new
 busy_elsewhere old new area e busy here is = let b = lock_busy area here e is in subst (λ (a : Area). HeldBetween old new (IsBusyElsewhere old.process a Shared)) b.1 (busy b.0)
 
 -- nothing but a lock is busy
-pub never_busy : (may : StoreError → Bool) (old new : DirAt) (e : StoreError) → ((area : Area) → may (Busy area) ≡ false) → may e ≡ true → BusyElsewhere e old new
+pub never_busy : (may : StoreError → Bool) (old new : DirAt) (e : StoreError) → ((area : Area) → may (Busy area) ≡ false) → may e ≡ true → ImportBusyElsewhere e old new
 never_busy may old new e none kind area is = let b : false ≡ true = sym (none area) ∙ (ap may (sym is) ∙ kind) in absurd cc
 
 -- the look at an image
@@ -85,7 +86,7 @@ look_cause key digest e r fault lacks = record {
   conflict = λ other stored fresh is. absurd (no_conflict key other stored fresh e r is);
 }
 
-pub other_cause : {observed : Bool} {old new : DirAt} (key : StoreKey) (stored digest : List ℕ) (e : StoreError) → e ≡ IdConflict key stored digest → stored ≢ digest → (observed ≡ true → HasDigest key stored old new) → LookCause observed key digest e old new
+pub other_cause : {observed : Bool} {old new : DirAt} (key : StoreKey) (stored digest : List ℕ) (e : StoreError) → e ≡ IdConflict key stored digest → stored ≢ digest → (observed ≡ true → ReadsDigest key stored old new) → LookCause observed key digest e old new
 other_cause {observed} {old} {new} key stored digest e is differ there = subst (λ (x : StoreError). LookCause observed key digest x old new) (sym is) (record {
   kind = refl;
   fault = λ same. cc;
@@ -94,7 +95,7 @@ other_cause {observed} {old} {new} key stored digest e is differ there = subst (
     key_is = sym parts.0;
     new_is = sym parts.2;
     differ = λ equal. differ (parts.1 ∙ equal);
-    there = λ t. within_self (subst (λ (d : List ℕ). HasDigest key d old new) parts.1 (there t));
+    there = λ t. within_self (subst (λ (d : List ℕ). ReadsDigest key d old new) parts.1 (there t));
   };
 })
 
@@ -108,7 +109,7 @@ look_calm e h is = let b : is_look_refusal Stray ≡ true = ap is_look_refusal (
 pub look_compare : {observed : Bool} {key : StoreKey} {digest : List ℕ} {e : StoreError} {old new : DirAt} → LookCause observed key digest e old new → CompareCause observed key digest e old new
 look_compare {observed} {key} {digest} {e} x = record { kind = look_place e x.kind; fault = x.fault; damaged = x.damaged; conflict = x.conflict; gone = λ is t. absurd (look_calm e x.kind is) }
 
-pub gone_cause : {observed : Bool} {key : StoreKey} {digest : List ℕ} {old new : DirAt} → (observed ≡ true → HeldBetween old new (IsAbsent key)) → CompareCause observed key digest Stray old new
+pub gone_cause : {observed : Bool} {key : StoreKey} {digest : List ℕ} {old new : DirAt} → (observed ≡ true → HeldBetween old new (IsImageAbsent key)) → CompareCause observed key digest Stray old new
 gone_cause absent = record { kind = refl; fault = λ is. cc; damaged = λ path is. cc; conflict = λ other stored fresh is. cc; gone = λ is t. absent t }
 
 -- the folder
@@ -133,7 +134,7 @@ change_placing {observed} {key} {digest} {e} x = record {
   stray = λ is t. inl (x.stray is t);
 }
 
-pub compare_placing : {observed : Bool} {key : StoreKey} {digest : List ℕ} {e : StoreError} {a b c : DirAt} → Follows observed a b → (observed ≡ true → WasTaken key a b) → (observed ≡ true → ExtendsBy (reads_image key) b c) → CompareCause observed key digest e b c → PlaceCause observed key digest e a c
+pub compare_placing : {observed : Bool} {key : StoreKey} {digest : List ℕ} {e : StoreError} {a b c : DirAt} → Follows observed a b → (observed ≡ true → KeyWasTaken key a b) → (observed ≡ true → ExtendsBy (reads_image key) b c) → CompareCause observed key digest e b c → PlaceCause observed key digest e a c
 compare_placing {observed} {key} {digest} {e} {a} {b} {c} ab taken reads x = record {
   kind = x.kind;
   fault = λ is. fault_after a b c ab (x.fault is);
@@ -171,7 +172,7 @@ module _ {observed : Bool} (faults : ℕ) (reference : Option GName) (source : S
   known_cause : (e x : StoreError) → x ≡ e → FillCause observed source plan e old new → FillCause observed source plan x old new
   known_cause e x is c = subst (λ (y : StoreError). FillCause observed source plan y old new) (sym is) c
 
-  pub fill_cause : (failed : BuildError) (x : StoreError) → IsBuildRefusal plan failed x → (failed ≡ failure.DirFault → Rose old.faults new.faults) → ((place : ℕ) → failed ≡ failure.Unlike place → UnlikeAt (files_of faults reference source) plan place) → (failed ≡ failure.Stray → observed ≡ true → WasStray old new) → FillCause observed source plan x old new
+  pub fill_cause : (failed : BuildError) (x : StoreError) → IsBuildRefusal plan failed x → (failed ≡ failure.DirFault → Rose old.faults new.faults) → ((place : ℕ) → failed ≡ failure.Unlike place → UnlikeAt (files_of faults reference source) plan place) → (failed ≡ failure.Stray → observed ≡ true → WasStrayImport old new) → FillCause observed source plan x old new
   fill_cause (failure.Unlike place) x r fault unlike stray = record {
     kind = unlike_kind plan place x r;
     fault = λ is. absurd ((unlike_other plan place x r).0 is);
@@ -206,7 +207,7 @@ fill_build {observed} {source} manifest id lines now plan same x = record {
 }
 
 -- all together
-fill_work : (e : StoreError) → is_fill_refusal e ≡ true → is_work_refusal e ≡ true
+fill_work : (e : StoreError) → is_fill_refusal e ≡ true → is_import_work_refusal e ≡ true
 fill_work (Damaged path) h = refl
 fill_work BundleFault h = refl
 fill_work DirFault h = refl
@@ -214,7 +215,7 @@ fill_work NoMemory h = refl
 fill_work Stray h = refl
 fill_work e h = cc
 
-place_work : (e : StoreError) → is_place_refusal e ≡ true → is_work_refusal e ≡ true
+place_work : (e : StoreError) → is_place_refusal e ≡ true → is_import_work_refusal e ≡ true
 place_work (Damaged path) h = refl
 place_work (IdConflict key stored fresh) h = refl
 place_work DirFault h = refl
@@ -229,7 +230,7 @@ look_import DirFault h = refl
 look_import NoMemory h = refl
 look_import e h = cc
 
-work_import : (e : StoreError) → is_work_refusal e ≡ true → is_import_refusal e ≡ true
+work_import : (e : StoreError) → is_import_work_refusal e ≡ true → is_import_refusal e ≡ true
 work_import (Busy area) h = cc
 work_import e h = h
 
@@ -242,7 +243,7 @@ import_area Incoming Incoming of h = refl
 import_area Incoming _ of h = cc
 import_area _ _ of h = cc
 
-lock_import : (area : Area) (e : StoreError) → is_import_area area ≡ true → is_lock_refusal area e ≡ true → is_import_refusal e ≡ true
+lock_import : (area : Area) (e : StoreError) → is_import_area area ≡ true → is_import_lock_refusal area e ≡ true → is_import_refusal e ≡ true
 lock_import area (Busy here) of h = import_area area here of h
 lock_import area DirFault of h = refl
 lock_import area NoMemory of h = refl
@@ -254,7 +255,7 @@ look_early Stray h late = cc
 look_early (Busy area) h late = cc
 look_early e h late = cc
 
-lock_early : (e : StoreError) → is_lock_refusal Images e ≡ true → is_late e ≡ true → ⊥
+lock_early : (e : StoreError) → is_import_lock_refusal Images e ≡ true → is_late e ≡ true → ⊥
 lock_early (Busy Incoming) h late = cc
 lock_early (Busy area) h late = cc
 lock_early e h late = cc
@@ -284,10 +285,10 @@ apart_by may e x h none is = let b : true ≡ false = sym h ∙ (ap may is ∙ n
 
 -- before an image was looked for
 pub lock_in_turn : {observed : Bool} {source : Source} {key : StoreKey} {lines : List ListingLine} {old new : DirAt} (e : StoreError) → LockCause observed Images e old new → FoundInTurn observed source key lines e old new
-lock_in_turn e x = record { late = λ late t. absurd (lock_early e x.kind late); damaged = λ path is. absurd (apart_by (is_lock_refusal Images) e (Damaged path) x.kind refl is) }
+lock_in_turn e x = record { late = λ late t. absurd (lock_early e x.kind late); damaged = λ path is. absurd (apart_by (is_import_lock_refusal Images) e (Damaged path) x.kind refl is) }
 
 module _ {observed : Bool} {source : Source} {key : StoreKey} {digest : List ℕ} {lines : List ListingLine} {old new : DirAt} where
-  pub build_import : (e : StoreError) → BuildCause observed source lines e old new → ImportCause is_work_refusal observed source key digest lines e old new
+  pub build_import : (e : StoreError) → BuildCause observed source lines e old new → ImportCause is_import_work_refusal observed source key digest lines e old new
   build_import e x = record {
     kind = fill_work e x.kind;
     fault = x.fault;
@@ -297,7 +298,7 @@ module _ {observed : Bool} {source : Source} {key : StoreKey} {digest : List ℕ
     stray = λ is t. inl (x.stray is t);
   }
 
-  pub place_import : (e : StoreError) → PlaceCause observed key digest e old new → ImportCause is_work_refusal observed source key digest lines e old new
+  pub place_import : (e : StoreError) → PlaceCause observed key digest e old new → ImportCause is_import_work_refusal observed source key digest lines e old new
   place_import e x = record {
     kind = place_work e x.kind;
     fault = x.fault;
@@ -307,7 +308,7 @@ module _ {observed : Bool} {source : Source} {key : StoreKey} {digest : List ℕ
     stray = x.stray;
   }
 
-  pub work_importing : (e : StoreError) → ImportCause is_work_refusal observed source key digest lines e old new → ImportCause is_import_refusal observed source key digest lines e old new
+  pub work_importing : (e : StoreError) → ImportCause is_import_work_refusal observed source key digest lines e old new → ImportCause is_import_refusal observed source key digest lines e old new
   work_importing e x = record { kind = work_import e x.kind; fault = x.fault; busy = x.busy; damaged = x.damaged; conflict = x.conflict; stray = x.stray }
 
   pub look_importing : (e : StoreError) → LookCause observed key digest e old new → ImportCause is_import_refusal observed source key digest lines e old new
@@ -325,10 +326,10 @@ module _ {observed : Bool} {source : Source} {key : StoreKey} {digest : List ℕ
   look_in_turn e x = record { late = λ late t. absurd (look_early e x.kind late); damaged = λ path is. inl (x.damaged path is) }
 
   -- and once none was found
-  pub late_in_turn : (e : StoreError) → (observed ≡ true → HeldBetween old new (IsAbsent key)) → (is_lock_refusal Incoming e ≡ false → observed ≡ true → HadIncoming old new) → ImportCause is_import_refusal observed source key digest lines e old new → FoundInTurn observed source key lines e old new
+  pub late_in_turn : (e : StoreError) → (observed ≡ true → HeldBetween old new (IsImageAbsent key)) → (is_import_lock_refusal Incoming e ≡ false → observed ≡ true → HadIncoming old new) → ImportCause is_import_refusal observed source key digest lines e old new → FoundInTurn observed source key lines e old new
   late_in_turn e absent locked x = record {
     late = λ late t. absent t;
-    damaged = λ path is. elim (x.damaged path is) [ inl l ↦ inl l | inr u ↦ inr (u, record { absent = absent; locked = locked (ap (is_lock_refusal Incoming) is) }) ];
+    damaged = λ path is. elim (x.damaged path is) [ inl l ↦ inl l | inr u ↦ inr (u, record { absent = absent; locked = locked (ap (is_import_lock_refusal Incoming) is) }) ];
   }
 
   pub lock_importing : (area : Area) (e : StoreError) → is_import_area area ≡ true → LockCause observed area e old new → ImportCause is_import_refusal observed source key digest lines e old new
@@ -336,7 +337,7 @@ module _ {observed : Bool} {source : Source} {key : StoreKey} {digest : List ℕ
     kind = lock_import area e of x.kind;
     fault = x.fault;
     busy = x.busy;
-    damaged = λ path is. absurd (apart_by (is_lock_refusal area) e (Damaged path) x.kind refl is);
-    conflict = λ other stored fresh is. absurd (apart_by (is_lock_refusal area) e (IdConflict other stored fresh) x.kind refl is);
-    stray = λ is t. absurd (apart_by (is_lock_refusal area) e Stray x.kind refl is);
+    damaged = λ path is. absurd (apart_by (is_import_lock_refusal area) e (Damaged path) x.kind refl is);
+    conflict = λ other stored fresh is. absurd (apart_by (is_import_lock_refusal area) e (IdConflict other stored fresh) x.kind refl is);
+    stray = λ is t. absurd (apart_by (is_import_lock_refusal area) e Stray x.kind refl is);
   }

@@ -1,6 +1,7 @@
 -- What a process that imports knows after its make of the folder and its move.
-use Rattle.std.proofs.Common.{◌≡◌, Bool, true, false, ◌&&◌, ◌==◌, cond, bytes_eq, Option, Some, None, List, [], ◌∷◌, map, refl, sym, ap, subst, ◌∙◌}
+use Rattle.std.proofs.Common.{◌≡◌, Bool, true, false, ◌&&◌, cond, bytes_eq, Option, Some, None, List, [], ◌∷◌, map, refl, sym, ap, subst, ◌∙◌}
 use Rattle.std.specs.List.{list_any}
+use Rattle.plain_laws.proofs.Texts.{same_bytes}
 use Rattle.dir_model.specs.declared.area.Area.TheVariants.{Incoming, Images}
 use Rattle.dir_model.specs.declared.intent.Intent.{Intent}
 use Rattle.dir_model.specs.declared.pod.PodId.{PodId}
@@ -8,10 +9,8 @@ use Rattle.dir_model.specs.declared.spot.Spot.{Spot}
 use Rattle.dir_model.specs.declared.request.DirError.{DirError}
 use Rattle.dir_model.specs.declared.request.Request.TheVariants.{MakeFolder, MoveFolder}
 use Rattle.dir_model.specs.declared.request.Reply.TheVariants.{Done, Refused}
-use Rattle.dir_model.specs.Areas.{rank}
 use Rattle.dir_model.specs.Pods.{pod_text}
-use Rattle.dir_model.specs.State.{spot_eq}
-use Rattle.dir_model.proofs.Lists.{and_both, same_self}
+use Rattle.dir_model.proofs.Spots.{spot_self}
 use Rattle.dir_rules.specs.declared.standing.Held.{Held}
 use Rattle.dir_rules.specs.declared.seen.Entry.{Entry}
 use Rattle.dir_rules.specs.declared.seen.Making.{Making}
@@ -20,19 +19,15 @@ use Rattle.dir_rules.specs.Standing.{is_gate_shared, uncover}
 use Rattle.dir_rules.specs.Seen.{moved_making}
 use Rattle.dir_rules.specs.Rules.{allows}
 use Rattle.dir_rules.specs.Conforms.{seen_replied}
-use Rattle.dir_rules.proofs.Looks.{same_bytes}
 use Rattle.image_store.specs.Requests.{building_spot}
-use Rattle.image_store.specs.Work.{at_work, IsImport, holding, UnderBoth}
-
-pub same_spot : (spot : Spot) → spot_eq spot spot ≡ true
-same_spot spot = and_both (rank spot.area == rank spot.area) (bytes_eq spot.name spot.name) (same_self (rank spot.area)) (same_bytes spot.name)
+use Rattle.image_store.specs.Work.{seen_importing, IsImport, holding, UnderImportLocks}
 
 -- handles of no pod stay as they are
 still_held : (hs : List Held) (draw : PodId) → map (uncover (building_spot draw)) hs ≡ hs
 still_held [] draw = refl
 still_held (h ∷ hs) draw = ap (λ l. h ∷ l) (still_held hs draw)
 
-module _ (draw : PodId) (intent : Intent) (hs : List Held) (imports : IsImport draw intent) (under : UnderBoth hs) where
+module _ (draw : PodId) (intent : Intent) (hs : List Held) (imports : IsImport draw intent) (under : UnderImportLocks hs) where
   abbrev Here : Spot
   Here = building_spot draw
 
@@ -40,7 +35,7 @@ module _ (draw : PodId) (intent : Intent) (hs : List Held) (imports : IsImport d
   drawn = ap (λ (d : PodId). bytes_eq (pod_text d.bytes) (pod_text draw.bytes)) imports.drawn ∙ same_bytes (pod_text draw.bytes)
 
   abbrev Free : Seen
-  Free = at_work intent hs false None
+  Free = seen_importing intent hs false None
 
   may_make : allows Free (MakeFolder Here) ≡ true
   may_make =
@@ -49,9 +44,9 @@ module _ (draw : PodId) (intent : Intent) (hs : List Held) (imports : IsImport d
       ∙ ap (λ b. b && true) drawn)
 
   abbrev Made : Bool → Bool → Seen
-  Made stored kept = record (at_work intent hs stored (Some (holding Here []))) { kept = kept }
+  Made stored kept = record (seen_importing intent hs stored (Some (holding Here []))) { kept = kept }
 
-  pub made_seen : seen_replied Free (MakeFolder Here) Done ≡ at_work intent hs true (Some (holding Here []))
+  pub made_seen : seen_replied Free (MakeFolder Here) Done ≡ seen_importing intent hs true (Some (holding Here []))
   made_seen = ap (λ b. Made b (allows Free (MakeFolder Here) && true)) under.incoming ∙ ap (λ b. Made true (b && true)) may_make
 
   pub unmade_seen : (error : DirError) → seen_replied Free (MakeFolder Here) (Refused error 0) ≡ Free
@@ -59,7 +54,7 @@ module _ (draw : PodId) (intent : Intent) (hs : List Held) (imports : IsImport d
 
   module _ (entries : List Entry) (to : Spot) (images : to.area ≡ Images) where
     abbrev Filled : Seen
-    Filled = at_work intent hs true (Some (holding Here entries))
+    Filled = seen_importing intent hs true (Some (holding Here entries))
 
     abbrev Bound : Spot
     Bound = record { area = Images; name = to.name }
@@ -68,15 +63,15 @@ module _ (draw : PodId) (intent : Intent) (hs : List Held) (imports : IsImport d
     is_bound = ap (λ area. let s : Spot = record { area = area; name = to.name } in s) images
 
     may_move : allows Filled (MoveFolder Here Bound) ≡ true
-    may_move = ap (λ b. (((b && true) && true) && true) && true) (same_spot Here)
+    may_move = ap (λ b. (((b && true) && true) && true) && true) (spot_self Here)
 
     abbrev Moved : List Held → Option Making → Bool → Seen
-    Moved held making kept = record (at_work intent held false making) { kept = kept }
+    Moved held making kept = record (seen_importing intent held false making) { kept = kept }
 
-    pub moved_seen : seen_replied Filled (MoveFolder Here to) Done ≡ at_work intent hs false (Some (holding to entries))
-    moved_seen = subst (λ (t : Spot). seen_replied Filled (MoveFolder Here t) Done ≡ at_work intent hs false (Some (holding t entries))) (sym is_bound)
+    pub moved_seen : seen_replied Filled (MoveFolder Here to) Done ≡ seen_importing intent hs false (Some (holding to entries))
+    moved_seen = subst (λ (t : Spot). seen_replied Filled (MoveFolder Here t) Done ≡ seen_importing intent hs false (Some (holding t entries))) (sym is_bound)
         (ap (λ (held : List Held). Moved held (Some (moved_making Here Bound (holding Here entries))) (allows Filled (MoveFolder Here Bound) && true)) (still_held hs draw)
-        ∙ (ap (λ b. Moved hs (Some (cond b (holding Bound entries) (holding Here entries))) (allows Filled (MoveFolder Here Bound) && true)) (same_spot Here)
+        ∙ (ap (λ b. Moved hs (Some (cond b (holding Bound entries) (holding Here entries))) (allows Filled (MoveFolder Here Bound) && true)) (spot_self Here)
         ∙ ap (λ b. Moved hs (Some (holding Bound entries)) (b && true)) may_move))
 
     pub unmoved_seen : (error : DirError) → seen_replied Filled (MoveFolder Here to) (Refused error 0) ≡ Filled

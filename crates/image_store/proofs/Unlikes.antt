@@ -1,6 +1,7 @@
 -- Which file of the bundle a plan that wasn't carried out points at.
 use Rattle.std.proofs.Common.{◌≡◌, ◌⊎◌, inl, inr, ◌<◌, ℕ, true, false, codes, Option, Some, None, List, [], ◌∷◌, ◌++◌, length, slice_get, refl, sym, ap, subst, ◌∙◌, arith, length-append}
 use Rattle.std.specs.Borrow.{GName}
+use Rattle.plain_laws.proofs.Lists.{at_place}
 use Rattle.path_map.specs.declared.entry.Entry.{Entry}
 use Rattle.path_map.specs.declared.entry.Meta.{Meta}
 use Rattle.path_map.specs.declared.entry.Entry.TheVariants.{Dir, File, Link}
@@ -10,17 +11,12 @@ use Rattle.folder_building.specs.declared.plan.PlanEntry.{PlanEntry}
 use Rattle.folder_building.specs.declared.plan.Content.{Content}
 use Rattle.folder_building.specs.declared.plan.Content.TheVariants.{Directory, Given, Copied}
 use Rattle.folder_building.specs.Sources.{SourceAt, UnlikeContent, UnlikeAt}
-use Rattle.folder_building.specs.TreePlans.{entry_at, tree_entries}
+use Rattle.folder_building.specs.TreePlans.{plan_entry_at, tree_entries}
 use Rattle.folder_building.specs.ImagePlans.{id_file, given_file, mark_file, image_entries}
-use Rattle.dir_trait.specs.Bundles.{file_bytes, child_path}
+use Rattle.dir_trait.specs.Bundles.{bytes_of_node, child_path}
 use Rattle.image_reading.specs.declared.error.StoreError.TheVariants.{Damaged}
 use Rattle.image_store.specs.Plans.{origin_of, IsUnlikeRefusal}
 use Rattle.image_store.specs.Causes.{Source, IsUnlikeContent, UnlikePlanned, UnlikeListed}
-
--- the entry at a place
-pub at_place : {X : Type 0} (before rest : List X) (x : X) → slice_get (before ++ x ∷ rest) (length before) ≡ Some x
-at_place [] rest x = refl
-at_place (y ∷ before) rest x = at_place before rest x
 
 pub place_inside : {source : SourceAt} {plan : List PlanEntry} {place : ℕ} → UnlikeAt source plan place → place < length plan
 place_inside {source} {plan} {place} u =
@@ -29,7 +25,7 @@ place_inside {source} {plan} {place} u =
 
 -- a bundle as a source of files
 abbrev pub files_of : ℕ → Option GName → Source → SourceAt
-files_of faults reference source = record { faults = faults; reference = reference; asks = λ r. false; may = λ st. true; told = source.told; file = λ o. file_bytes (source.tree (child_path source.root o.path)) }
+files_of faults reference source = record { faults = faults; reference = reference; asks = λ r. false; may = λ st. true; told = source.told; file = λ o. bytes_of_node (source.tree (child_path source.root o.path)) }
 
 unlike_content : (faults : ℕ) (reference : Option GName) (source : Source) (content : Content) → UnlikeContent (files_of faults reference source) content → IsUnlikeContent source content
 unlike_content faults reference source Directory u = u
@@ -76,11 +72,11 @@ module _ (source : Source) (path : List ℕ) where
   listed [] before rest entry is from unlike = absurd (none_there before rest entry is)
   listed (l ∷ lines) before rest entry is from unlike = by (λ more same. listed lines more rest entry same from unlike) l.entry is
     where
-      directory : ((more : List PlanEntry) → tree_of lines ≡ more ++ entry ∷ rest → UnlikeListed source lines path) → (kind : Entry) → (entry_at (codes "rootfs" ++ l.path) Directory ≡ entry) ⊎ ((more : List PlanEntry) × (tree_of lines ≡ more ++ entry ∷ rest)) → UnlikeListed source (record { path = l.path; entry = kind } ∷ lines) path
-      directory others kind (inl same) = absurd (not_copied (entry_at (codes "rootfs" ++ l.path) Directory) entry same (λ u. u) unlike)
+      directory : ((more : List PlanEntry) → tree_of lines ≡ more ++ entry ∷ rest → UnlikeListed source lines path) → (kind : Entry) → (plan_entry_at (codes "rootfs" ++ l.path) Directory ≡ entry) ⊎ ((more : List PlanEntry) × (tree_of lines ≡ more ++ entry ∷ rest)) → UnlikeListed source (record { path = l.path; entry = kind } ∷ lines) path
+      directory others kind (inl same) = absurd (not_copied (plan_entry_at (codes "rootfs" ++ l.path) Directory) entry same (λ u. u) unlike)
       directory others kind (inr more) = later (record { path = l.path; entry = kind }) lines (others more.0 more.1)
 
-      file : ((more : List PlanEntry) → tree_of lines ≡ more ++ entry ∷ rest → UnlikeListed source lines path) → (meta : Meta) (size : ℕ) (sha : List ℕ) → (entry_at (codes "rootfs" ++ l.path) (Copied (record { folder = None; path = codes "rootfs" ++ l.path }) size sha) ≡ entry) ⊎ ((more : List PlanEntry) × (tree_of lines ≡ more ++ entry ∷ rest)) → UnlikeListed source (record { path = l.path; entry = File meta size sha } ∷ lines) path
+      file : ((more : List PlanEntry) → tree_of lines ≡ more ++ entry ∷ rest → UnlikeListed source lines path) → (meta : Meta) (size : ℕ) (sha : List ℕ) → (plan_entry_at (codes "rootfs" ++ l.path) (Copied (record { folder = None; path = codes "rootfs" ++ l.path }) size sha) ≡ entry) ⊎ ((more : List PlanEntry) × (tree_of lines ≡ more ++ entry ∷ rest)) → UnlikeListed source (record { path = l.path; entry = File meta size sha } ∷ lines) path
       file others meta size sha (inl same) = record {
         before = [];
         line = record { path = l.path; entry = File meta size sha };
@@ -92,8 +88,8 @@ module _ (source : Source) (path : List ℕ) where
       file others meta size sha (inr more) = later (record { path = l.path; entry = File meta size sha }) lines (others more.0 more.1)
 
       by : ((more : List PlanEntry) → tree_of lines ≡ more ++ entry ∷ rest → UnlikeListed source lines path) → (kind : Entry) → tree_of (record { path = l.path; entry = kind } ∷ lines) ≡ before ++ entry ∷ rest → UnlikeListed source (record { path = l.path; entry = kind } ∷ lines) path
-      by others (Dir meta) is = directory others (Dir meta) (peel (entry_at (codes "rootfs" ++ l.path) Directory) (tree_of lines) before rest entry is)
-      by others (File meta size sha) is = file others meta size sha (peel (entry_at (codes "rootfs" ++ l.path) (Copied (record { folder = None; path = codes "rootfs" ++ l.path }) size sha)) (tree_of lines) before rest entry is)
+      by others (Dir meta) is = directory others (Dir meta) (peel (plan_entry_at (codes "rootfs" ++ l.path) Directory) (tree_of lines) before rest entry is)
+      by others (File meta size sha) is = file others meta size sha (peel (plan_entry_at (codes "rootfs" ++ l.path) (Copied (record { folder = None; path = codes "rootfs" ++ l.path }) size sha)) (tree_of lines) before rest entry is)
       by others (Link meta target) is = later (record { path = l.path; entry = Link meta target }) lines (others before is)
 
   -- one entry of the plan that isn't copied
@@ -107,9 +103,9 @@ module _ (source : Source) (path : List ℕ) where
   -- of an image's plan only the tree is copied
   pub unlike_listed : (manifest id : List ℕ) (lines : List ListingLine) (now : ℕ) → UnlikePlanned source (image_entries manifest id lines now) path → UnlikeListed source lines path
   unlike_listed manifest id lines now u =
-      let a = past (given_file (codes "manifest") manifest) (given_file (codes "id") (id_file id) ∷ given_file (codes "tree") (listing_text lines) ∷ mark_file now ∷ entry_at (codes "rootfs") Directory ∷ tree_of lines) u.before u.rest u.entry (λ x. x) u.unlike u.is in
-      let b = past (given_file (codes "id") (id_file id)) (given_file (codes "tree") (listing_text lines) ∷ mark_file now ∷ entry_at (codes "rootfs") Directory ∷ tree_of lines) a.0 u.rest u.entry (λ x. x) u.unlike a.1 in
-      let c = past (given_file (codes "tree") (listing_text lines)) (mark_file now ∷ entry_at (codes "rootfs") Directory ∷ tree_of lines) b.0 u.rest u.entry (λ x. x) u.unlike b.1 in
-      let d = past (mark_file now) (entry_at (codes "rootfs") Directory ∷ tree_of lines) c.0 u.rest u.entry (λ x. x) u.unlike c.1 in
-      let e = past (entry_at (codes "rootfs") Directory) (tree_of lines) d.0 u.rest u.entry (λ x. x) u.unlike d.1 in
+      let a = past (given_file (codes "manifest") manifest) (given_file (codes "id") (id_file id) ∷ given_file (codes "tree") (listing_text lines) ∷ mark_file now ∷ plan_entry_at (codes "rootfs") Directory ∷ tree_of lines) u.before u.rest u.entry (λ x. x) u.unlike u.is in
+      let b = past (given_file (codes "id") (id_file id)) (given_file (codes "tree") (listing_text lines) ∷ mark_file now ∷ plan_entry_at (codes "rootfs") Directory ∷ tree_of lines) a.0 u.rest u.entry (λ x. x) u.unlike a.1 in
+      let c = past (given_file (codes "tree") (listing_text lines)) (mark_file now ∷ plan_entry_at (codes "rootfs") Directory ∷ tree_of lines) b.0 u.rest u.entry (λ x. x) u.unlike b.1 in
+      let d = past (mark_file now) (plan_entry_at (codes "rootfs") Directory ∷ tree_of lines) c.0 u.rest u.entry (λ x. x) u.unlike c.1 in
+      let e = past (plan_entry_at (codes "rootfs") Directory) (tree_of lines) d.0 u.rest u.entry (λ x. x) u.unlike d.1 in
       listed lines e.0 u.rest u.entry e.1 u.from u.unlike

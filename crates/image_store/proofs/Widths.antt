@@ -1,28 +1,17 @@
 -- What came about in a part of a time came about in the whole.
-use Rattle.std.proofs.Common.{◌≡◌, ◌⊎◌, inl, inr, ◌≤◌, ℕ, Bool, true, List}
-use Rattle.dir_model.specs.declared.request.Request.{Request}
+use Rattle.std.proofs.Common.{◌≡◌, ◌⊎◌, inl, inr, ℕ, Bool, true, List}
 use Rattle.dir_model.specs.Causes.{Rose}
 use Rattle.dir_model.specs.State.{DirState}
 use Rattle.dir_model.proofs.Moments.{at_after, at_before}
-use Rattle.dir_trait.specs.DirCalls.{DirAt, HeldBetween, ExtendsBy}
+use Rattle.dir_trait.specs.DirCalls.{DirAt, HeldBetween}
 use Rattle.ac_types.specs.declared.store_key.StoreKey.{StoreKey}
+use Rattle.dir_laws.proofs.Rose.{rose_later, rose_still}
 use Rattle.tree_digest.specs.declared.line.ListingLine.{ListingLine}
 use Rattle.image_reading.specs.declared.error.StoreError.{StoreError}
 use Rattle.image_reading.specs.Within.{Within}
 use Rattle.image_reading.proofs.Widths.{within_after, within_before}
-use Rattle.bundle_image.proofs.Reading.{rose_later, rose_still}
-use Rattle.folder_building.specs.Work.{Worked}
-use Rattle.image_store.specs.Causes.{Source, StrayCause, Conflicts, DamagedInTurn, FoundInTurn, LacksPart, UnlikeListed, ImportCause}
-
--- calls, whatever they leave open
-pub record Follows (observed : Bool) (old new : DirAt) : Type 0 where
-  pub same : new.process ≡ old.process
-  pub faults : old.faults ≤ new.faults
-  pub asks : Request → Bool
-  pub extends : observed ≡ true → ExtendsBy asks old new
-
-pub follows_work : {observed : Bool} {asks : Request → Bool} {a b : DirAt} → Worked observed asks a b → Follows observed a b
-follows_work {observed} {asks} w = record { same = w.same; faults = w.faults; asks = asks; extends = w.extends }
+use Rattle.folder_building.proofs.Following.{Follows}
+use Rattle.image_store.specs.Causes.{Source, StrayCause, Conflicts, DamagedInTurn, FoundInTurn, FindsLackingPart, UnlikeListed, ImportCause}
 
 module _ {observed : Bool} (a b c : DirAt) (ab : Follows observed a b) where
   pub fault_after : Rose b.faults c.faults → Rose a.faults c.faults
@@ -58,11 +47,11 @@ conflict_after {observed} {key} {other} {digest} {stored} {fresh} {a} {b} {c} ab
 pub conflict_before : {observed : Bool} {key other : StoreKey} {digest stored fresh : List ℕ} {a b c : DirAt} → b.process ≡ a.process → Conflicts observed key other digest stored fresh a b → Follows observed b c → Conflicts observed key other digest stored fresh a c
 conflict_before {observed} {key} {other} {digest} {stored} {fresh} {a} {b} {c} same x bc = record { key_is = x.key_is; new_is = x.new_is; differ = x.differ; there = λ t. told_before a b c same bc t (x.there t) }
 
-part_after : (observed : Bool) (key : StoreKey) (path : List ℕ) (lines : List ListingLine) (source : Source) (a b c : DirAt) → Follows observed a b → LacksPart observed key path b c ⊎ UnlikeListed source lines path → LacksPart observed key path a c ⊎ UnlikeListed source lines path
+part_after : (observed : Bool) (key : StoreKey) (path : List ℕ) (lines : List ListingLine) (source : Source) (a b c : DirAt) → Follows observed a b → FindsLackingPart observed key path b c ⊎ UnlikeListed source lines path → FindsLackingPart observed key path a c ⊎ UnlikeListed source lines path
 part_after observed key path lines source a b c ab (inl l) = inl (λ t. told_after a b c ab t (l t))
 part_after observed key path lines source a b c ab (inr u) = inr u
 
-part_before : (observed : Bool) (key : StoreKey) (path : List ℕ) (lines : List ListingLine) (source : Source) (a b c : DirAt) → b.process ≡ a.process → LacksPart observed key path a b ⊎ UnlikeListed source lines path → Follows observed b c → LacksPart observed key path a c ⊎ UnlikeListed source lines path
+part_before : (observed : Bool) (key : StoreKey) (path : List ℕ) (lines : List ListingLine) (source : Source) (a b c : DirAt) → b.process ≡ a.process → FindsLackingPart observed key path a b ⊎ UnlikeListed source lines path → Follows observed b c → FindsLackingPart observed key path a c ⊎ UnlikeListed source lines path
 part_before observed key path lines source a b c same (inl l) bc = inl (λ t. told_before a b c same bc t (l t))
 part_before observed key path lines source a b c same (inr u) bc = inr u
 

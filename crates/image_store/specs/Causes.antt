@@ -15,7 +15,7 @@ use Rattle.dir_model.specs.Causes.{Rose}
 use Rattle.dir_model.specs.Local.{Local}
 use Rattle.dir_model.specs.State.{spot_eq}
 use Rattle.dir_model.specs.Calls.{CallStep}
-use Rattle.dir_trait.specs.Bundles.{Tree, file_bytes, child_path}
+use Rattle.dir_trait.specs.Bundles.{BundleTree, bytes_of_node, child_path}
 use Rattle.dir_trait.specs.DirCalls.{DirAt, ExtendsBy, HeldBetween}
 use Rattle.path_map.specs.declared.entry.Entry.TheVariants.{File}
 use Rattle.path_map.specs.declared.entry.Entry.{Entry}
@@ -23,31 +23,31 @@ use Rattle.tree_digest.specs.declared.line.ListingLine.{ListingLine}
 use Rattle.folder_building.specs.declared.plan.PlanEntry.{PlanEntry}
 use Rattle.folder_building.specs.declared.plan.Content.{Content}
 use Rattle.folder_building.specs.declared.plan.Content.TheVariants.{Copied}
-use Rattle.dir_files.specs.AreaLocks.{IsBusy, IsBusyElsewhere, and_lock}
+use Rattle.dir_files.specs.AreaLocks.{IsBusy, IsBusyElsewhere, and_area_lock}
 use Rattle.image_reading.specs.declared.error.StoreError.{StoreError}
 use Rattle.image_reading.specs.declared.error.StoreError.TheVariants.{Busy, Damaged, IdConflict, DirFault, Stray}
-use Rattle.image_reading.specs.Places.{image_spot, tree_name, IsAbsent, IsPresent}
+use Rattle.image_reading.specs.Places.{image_spot, tree_name, IsImageAbsent, IsPresent}
 use Rattle.image_reading.specs.Within.{Within}
 use Rattle.image_reading.specs.Looks.{reads_image}
 use Rattle.image_reading.specs.Files.{LacksTree}
-use Rattle.image_reading.specs.Images.{HasDigest, LacksInTurn}
-use Rattle.image_store.specs.Refusals.{is_lock_refusal, is_look_refusal, is_change_refusal, is_fill_refusal, is_place_refusal}
+use Rattle.image_reading.specs.Images.{ReadsDigest, LacksInTurn}
+use Rattle.image_store.specs.Refusals.{is_import_lock_refusal, is_look_refusal, is_change_refusal, is_fill_refusal, is_place_refusal}
 use Rattle.image_store.specs.Plans.{origin_of}
 use Rattle.image_store.specs.Requests.{is_stray_import}
 
 -- a lock isn't had: some handle held it exclusively at an own step
 pub record LockCause (observed : Bool) (area : Area) (error : StoreError) (old new : DirAt) : Type 0 where
-  pub kind : is_lock_refusal area error ≡ true
+  pub kind : is_import_lock_refusal area error ≡ true
   pub fault : error ≡ DirFault → Rose old.faults new.faults
   pub busy : (here : Area) → error ≡ Busy here → observed ≡ true → HeldBetween old new (IsBusy here Shared)
 
 -- where the lock of an area was refused, a handle of another process held it
-abbrev pub BusyElsewhere : StoreError → DirAt → DirAt → Type 0
-BusyElsewhere error old new = (area : Area) → error ≡ Busy area → HeldBetween old new (IsBusyElsewhere old.process area Shared)
+abbrev pub ImportBusyElsewhere : StoreError → DirAt → DirAt → Type 0
+ImportBusyElsewhere error old new = (area : Area) → error ≡ Busy area → HeldBetween old new (IsBusyElsewhere old.process area Shared)
 
 -- an image with this key and this digest was there
 abbrev pub WasThere : StoreKey → List ℕ → DirAt → DirAt → Type 0
-WasThere key digest old new = Within (HasDigest key digest) old new
+WasThere key digest old new = Within (ReadsDigest key digest) old new
 
 -- an image with this key was there, and its digest isn't the new one's
 pub record Conflicts (observed : Bool) (key other : StoreKey) (digest stored new_digest : List ℕ) (old new : DirAt) : Type 0 where
@@ -60,44 +60,44 @@ pub record Conflicts (observed : Bool) (key other : StoreKey) (digest stored new
 abbrev pub LacksThere : StoreKey → List ℕ → DirAt → DirAt → Type 0
 LacksThere key path old new = HeldBetween old new (IsPresent key) × LacksInTurn key tree_name (LacksTree key) path old new
 
-abbrev pub LacksPart : Bool → StoreKey → List ℕ → DirAt → DirAt → Type 0
-LacksPart observed key path old new = observed ≡ true → Within (LacksThere key path) old new
+abbrev pub FindsLackingPart : Bool → StoreKey → List ℕ → DirAt → DirAt → Type 0
+FindsLackingPart observed key path old new = observed ≡ true → Within (LacksThere key path) old new
 
 -- the image that stands there is damaged, or is another
 pub record LookCause (observed : Bool) (key : StoreKey) (digest : List ℕ) (error : StoreError) (old new : DirAt) : Type 0 where
   pub kind : is_look_refusal error ≡ true
   pub fault : error ≡ DirFault → Rose old.faults new.faults
-  pub damaged : (path : List ℕ) → error ≡ Damaged path → LacksPart observed key path old new
+  pub damaged : (path : List ℕ) → error ≡ Damaged path → FindsLackingPart observed key path old new
   pub conflict : (other : StoreKey) (stored fresh : List ℕ) → error ≡ IdConflict other stored fresh → Conflicts observed key other digest stored fresh old new
 
 -- a reply of this kind came
-pub record WasAnswered (is : Request → Reply → Bool) (old new : DirAt) : Type 0 where
+pub record WasLastAnswered (is : Request → Reply → Bool) (old new : DirAt) : Type 0 where
   pub request : Request
   pub reply : Reply
   pub so : is request reply ≡ true
   pub step : CallStep old.process old.trace request reply new.trace
 
-abbrev pub WasStray : DirAt → DirAt → Type 0
-WasStray old new = Within (WasAnswered is_stray_import) old new
+abbrev pub WasStrayImport : DirAt → DirAt → Type 0
+WasStrayImport old new = Within (WasLastAnswered is_stray_import) old new
 
 -- the folder wasn't made or moved
 pub record ChangeCause (observed : Bool) (error : StoreError) (old new : DirAt) : Type 0 where
   pub kind : is_change_refusal error ≡ true
   pub fault : error ≡ DirFault → Rose old.faults new.faults
-  pub stray : error ≡ Stray → observed ≡ true → WasStray old new
+  pub stray : error ≡ Stray → observed ≡ true → WasStrayImport old new
 
 -- the bundle whose image is imported: whether it tells what stands in it, that, and its path
 pub record Source : Type 0 where
   pub told : Bool
-  pub tree : Tree
+  pub tree : BundleTree
   pub root : List ℕ
 
-abbrev pub source_at : Bool → Tree → List ℕ → Source
-source_at told tree root = record { told = told; tree = tree; root = root }
+abbrev pub bundle_source_at : Bool → BundleTree → List ℕ → Source
+bundle_source_at told tree root = record { told = told; tree = tree; root = root }
 
 -- the bundle has no file with this size and SHA-512 at the path
 abbrev pub IsUnlikeFile : Source → List ℕ → ℕ → List ℕ → Type 0
-IsUnlikeFile source path size sha = source.told ≡ true → (bytes : List ℕ) → file_bytes (source.tree (child_path source.root path)) ≡ Some bytes → length bytes ≡ size → sha512 bytes ≡ sha → ⊥
+IsUnlikeFile source path size sha = source.told ≡ true → (bytes : List ℕ) → bytes_of_node (source.tree (child_path source.root path)) ≡ Some bytes → length bytes ≡ size → sha512 bytes ≡ sha → ⊥
 
 abbrev pub IsUnlikeContent : Source → Content → Type 0
 IsUnlikeContent source (Copied origin size sha) = IsUnlikeFile source origin.path size sha
@@ -117,7 +117,7 @@ pub record FillCause (observed : Bool) (source : Source) (plan : List PlanEntry)
   pub kind : is_fill_refusal error ≡ true
   pub fault : error ≡ DirFault → Rose old.faults new.faults
   pub damaged : (path : List ℕ) → error ≡ Damaged path → UnlikePlanned source plan path
-  pub stray : error ≡ Stray → observed ≡ true → WasStray old new
+  pub stray : error ≡ Stray → observed ≡ true → WasStrayImport old new
 
 abbrev pub IsUnlikeEntry : Source → List ℕ → Entry → Type 0
 IsUnlikeEntry source path (File meta size sha) = IsUnlikeFile source path size sha
@@ -137,38 +137,38 @@ pub record BuildCause (observed : Bool) (source : Source) (lines : List ListingL
   pub kind : is_fill_refusal error ≡ true
   pub fault : error ≡ DirFault → Rose old.faults new.faults
   pub damaged : (path : List ℕ) → error ≡ Damaged path → UnlikeListed source lines path
-  pub stray : error ≡ Stray → observed ≡ true → WasStray old new
+  pub stray : error ≡ Stray → observed ≡ true → WasStrayImport old new
 
 -- the move into images was refused since a folder stood there
 abbrev pub is_refused_move : StoreKey → Request → Reply → Bool
 is_refused_move key (MoveFolder from to) (Refused Exists left) = spot_eq to (image_spot key)
 is_refused_move key request reply = false
 
-abbrev pub WasTaken : StoreKey → DirAt → DirAt → Type 0
-WasTaken key old new = WasAnswered (is_refused_move key) old new
+abbrev pub KeyWasTaken : StoreKey → DirAt → DirAt → Type 0
+KeyWasTaken key old new = WasLastAnswered (is_refused_move key) old new
 
 -- where an image stood, it is damaged, another, or gone
 pub record CompareCause (observed : Bool) (key : StoreKey) (digest : List ℕ) (error : StoreError) (old new : DirAt) : Type 0 where
   pub kind : is_place_refusal error ≡ true
   pub fault : error ≡ DirFault → Rose old.faults new.faults
-  pub damaged : (path : List ℕ) → error ≡ Damaged path → LacksPart observed key path old new
+  pub damaged : (path : List ℕ) → error ≡ Damaged path → FindsLackingPart observed key path old new
   pub conflict : (other : StoreKey) (stored fresh : List ℕ) → error ≡ IdConflict other stored fresh → Conflicts observed key other digest stored fresh old new
-  pub gone : error ≡ Stray → observed ≡ true → HeldBetween old new (IsAbsent key)
+  pub gone : error ≡ Stray → observed ≡ true → HeldBetween old new (IsImageAbsent key)
 
 -- the move was refused so, it asked for nothing more than reads of that image, and then no folder stood there
 pub record Vanishes (key : StoreKey) (old new : DirAt) : Type 0 where
   pub between : DirAt
   pub same : between.process ≡ old.process
-  pub taken : WasTaken key old between
+  pub taken : KeyWasTaken key old between
   pub reads : ExtendsBy (reads_image key) between new
-  pub gone : HeldBetween between new (IsAbsent key)
+  pub gone : HeldBetween between new (IsImageAbsent key)
 
 abbrev pub Vanished : StoreKey → DirAt → DirAt → Type 0
 Vanished key old new = Within (Vanishes key) old new
 
 -- an answer came that the process's own folder doesn't explain, or the image vanished
 abbrev pub StrayCause : StoreKey → DirAt → DirAt → Type 0
-StrayCause key old new = WasStray old new ⊎ Vanished key old new
+StrayCause key old new = WasStrayImport old new ⊎ Vanished key old new
 
 -- what comes only once no image with this key was found there
 abbrev pub is_late : StoreError → Bool
@@ -178,31 +178,31 @@ is_late error = false
 
 -- an own handle has just got the lock of incoming
 abbrev pub GotIncoming : DirAt → Type 0
-GotIncoming now = (before : Local) × (gate : Handle) × (now.local ≡ and_lock before gate Incoming Shared)
+GotIncoming now = (before : Local) × (gate : Handle) × (now.local ≡ and_area_lock before gate Incoming Shared)
 
 abbrev pub HadIncoming : DirAt → DirAt → Type 0
 HadIncoming old new = Within (λ first last. GotIncoming first) old new
 
 -- no image with this key was found there, and the lock of incoming was had
 pub record IsMaking (observed : Bool) (key : StoreKey) (old new : DirAt) : Type 0 where
-  pub absent : observed ≡ true → HeldBetween old new (IsAbsent key)
+  pub absent : observed ≡ true → HeldBetween old new (IsImageAbsent key)
   pub locked : observed ≡ true → HadIncoming old new
 
 -- and what is damaged is told in its turn: a part of an image that stood there; or, only once none was found there and under the lock
 -- of incoming, a file of the bundle
 abbrev pub DamagedInTurn : Bool → Source → StoreKey → List ListingLine → List ℕ → DirAt → DirAt → Type 0
 DamagedInTurn observed source key lines path old new =
-    LacksPart observed key path old new ⊎ (UnlikeListed source lines path × IsMaking observed key old new)
+    FindsLackingPart observed key path old new ⊎ (UnlikeListed source lines path × IsMaking observed key old new)
 
 pub record FoundInTurn (observed : Bool) (source : Source) (key : StoreKey) (lines : List ListingLine) (error : StoreError) (old new : DirAt) : Type 0 where
-  pub late : is_late error ≡ true → observed ≡ true → HeldBetween old new (IsAbsent key)
+  pub late : is_late error ≡ true → observed ≡ true → HeldBetween old new (IsImageAbsent key)
   pub damaged : (path : List ℕ) → error ≡ Damaged path → DamagedInTurn observed source key lines path old new
 
 -- the folder didn't come into images
 pub record PlaceCause (observed : Bool) (key : StoreKey) (digest : List ℕ) (error : StoreError) (old new : DirAt) : Type 0 where
   pub kind : is_place_refusal error ≡ true
   pub fault : error ≡ DirFault → Rose old.faults new.faults
-  pub damaged : (path : List ℕ) → error ≡ Damaged path → LacksPart observed key path old new
+  pub damaged : (path : List ℕ) → error ≡ Damaged path → FindsLackingPart observed key path old new
   pub conflict : (other : StoreKey) (stored fresh : List ℕ) → error ≡ IdConflict other stored fresh → Conflicts observed key other digest stored fresh old new
   pub stray : error ≡ Stray → observed ≡ true → StrayCause key old new
 
@@ -211,6 +211,6 @@ pub record ImportCause (may : StoreError → Bool) (observed : Bool) (source : S
   pub kind : may error ≡ true
   pub fault : error ≡ DirFault → Rose old.faults new.faults
   pub busy : (area : Area) → error ≡ Busy area → observed ≡ true → HeldBetween old new (IsBusy area Shared)
-  pub damaged : (path : List ℕ) → error ≡ Damaged path → LacksPart observed key path old new ⊎ UnlikeListed source lines path
+  pub damaged : (path : List ℕ) → error ≡ Damaged path → FindsLackingPart observed key path old new ⊎ UnlikeListed source lines path
   pub conflict : (other : StoreKey) (stored fresh : List ℕ) → error ≡ IdConflict other stored fresh → Conflicts observed key other digest stored fresh old new
   pub stray : error ≡ Stray → observed ≡ true → StrayCause key old new

@@ -18,7 +18,7 @@ abbrev pub BringsNone : ℕ → List Event → Type 0
 BringsNone me more = AllByRecursion (λ e. (is_foreign me e || not (brings_image e.request e.reply)) ≡ true) more
 
 -- between these two traces it moved nothing into images
-pub record MovedNothing (me : ℕ) (old new : List Event) : Type 0 where
+pub record MovedNoImage (me : ℕ) (old new : List Event) : Type 0 where
   pub more : List Event
   pub grown : new ≡ old ++ more
   pub none : BringsNone me more
@@ -38,10 +38,10 @@ pub record MovedOnce (me : ℕ) (from to : Spot) (old new : List Event) : Type 0
 -- with the answer that the image wasn't there it moved its folder into images, and else nothing
 abbrev pub Moves : Spot → StoreKey → Result Bool StoreError → DirAt → DirAt → Type 0
 Moves from key (Ok false) old new = MovedOnce old.process from (image_spot key) old.trace new.trace
-Moves from key (Ok true) old new = MovedNothing old.process old.trace new.trace
-Moves from key (Err error) old new = MovedNothing old.process old.trace new.trace
+Moves from key (Ok true) old new = MovedNoImage old.process old.trace new.trace
+Moves from key (Err error) old new = MovedNoImage old.process old.trace new.trace
 
 -- so it is in the end
 abbrev pub MovesAtEnd : Spot → Result Imported StoreError → DirAt → DirAt → Type 0
 MovesAtEnd from (Ok done) old new = Moves from done.key (Ok done.there) old new
-MovesAtEnd from (Err error) old new = MovedNothing old.process old.trace new.trace
+MovesAtEnd from (Err error) old new = MovedNoImage old.process old.trace new.trace

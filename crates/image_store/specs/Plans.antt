@@ -9,13 +9,13 @@ use Rattle.folder_building.specs.declared.plan.Content.TheVariants.{Copied}
 use Rattle.image_reading.specs.declared.error.StoreError.{StoreError}
 use Rattle.image_reading.specs.declared.error.StoreError.TheVariants.{Damaged, BundleFault, DirFault, NoMemory, Stray}
 
-abbrev pub origin_path : List ℕ → Content → List ℕ
-origin_path path (Copied origin size sha) = origin.path
-origin_path path content = path
+abbrev pub copied_path : List ℕ → Content → List ℕ
+copied_path path (Copied origin size sha) = origin.path
+copied_path path content = path
 
 -- the path from which its bytes come, or else its own
 abbrev pub origin_of : PlanEntry → List ℕ
-origin_of e = origin_path e.path e.content
+origin_of e = copied_path e.path e.content
 
 -- the entry with this number is copied from there, and that file is damaged
 abbrev pub IsUnlikeRefusal : List PlanEntry → ℕ → StoreError → Type 0

@@ -39,11 +39,11 @@ move_answer Exists = Ok true
 move_answer error = Err (change_refusal error)
 
 -- the refusals that each part of an import may have
-abbrev pub is_lock_refusal : Area → StoreError → Bool
-is_lock_refusal area (Busy here) = is_in area here
-is_lock_refusal area DirFault = true
-is_lock_refusal area NoMemory = true
-is_lock_refusal area error = false
+abbrev pub is_import_lock_refusal : Area → StoreError → Bool
+is_import_lock_refusal area (Busy here) = is_in area here
+is_import_lock_refusal area DirFault = true
+is_import_lock_refusal area NoMemory = true
+is_import_lock_refusal area error = false
 
 abbrev pub is_look_refusal : StoreError → Bool
 is_look_refusal (Damaged path) = true
@@ -67,9 +67,9 @@ abbrev pub is_place_refusal : StoreError → Bool
 is_place_refusal Stray = true
 is_place_refusal error = is_look_refusal error
 
-abbrev pub is_work_refusal : StoreError → Bool
-is_work_refusal BundleFault = true
-is_work_refusal error = is_place_refusal error
+abbrev pub is_import_work_refusal : StoreError → Bool
+is_import_work_refusal BundleFault = true
+is_import_work_refusal error = is_place_refusal error
 
 -- the areas whose locks an import takes
 abbrev pub is_import_area : Area → Bool
@@ -79,4 +79,4 @@ is_import_area area = false
 
 abbrev pub is_import_refusal : StoreError → Bool
 is_import_refusal (Busy area) = is_import_area area
-is_import_refusal error = is_work_refusal error
+is_import_refusal error = is_import_work_refusal error

@@ -12,7 +12,7 @@ use Rattle.dir_model.specs.declared.request.Request.TheVariants.{OpenArea, TryLo
 use Rattle.dir_model.specs.Pods.{pod_text}
 use Rattle.dir_model.specs.State.{spot_eq}
 use Rattle.dir_rules.specs.Standing.{is_in}
-use Rattle.folder_building.specs.Work.{builds_at, is_stray}
+use Rattle.folder_building.specs.Work.{builds_at, is_stray_building}
 use Rattle.image_reading.specs.Looks.{reads_images}
 
 -- where the process with this draw builds an image
@@ -51,7 +51,7 @@ is_of_incoming request = false
 abbrev pub is_stray_reply : Request → Reply → Bool
 is_stray_reply (MakeFolder spot) (Refused Exists left) = true
 is_stray_reply (MoveFolder from to) (Refused Missing left) = true
-is_stray_reply request reply = is_stray request reply
+is_stray_reply request reply = is_stray_building request reply
 
 -- and the request is about a folder in incoming
 abbrev pub is_stray_import : Request → Reply → Bool

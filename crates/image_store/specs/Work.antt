@@ -25,8 +25,8 @@ use Rattle.image_store.specs.Requests.{building_spot}
 
 -- it has begun so, has these handles, and makes this folder; stored where it has had the lock of incoming since. Each of its
 -- requests was allowed, and it has seen nothing else
-abbrev pub at_work : Intent → List Held → Bool → Option Making → Seen
-at_work intent hs stored making = record nothing_seen { standing = record nothing_standing { intent = Some intent; holdings = hs }; stored = stored; making = making }
+abbrev pub seen_importing : Intent → List Held → Bool → Option Making → Seen
+seen_importing intent hs stored making = record nothing_seen { standing = record nothing_standing { intent = Some intent; holdings = hs }; stored = stored; making = making }
 
 -- it has begun an import with this draw
 pub record IsImport (draw : PodId) (intent : Intent) : Type 0 where
@@ -38,39 +38,39 @@ abbrev pub holding : Spot → List Entry → Making
 holding spot entries = record { spot = spot; clean = true; entries = entries; unsynced = [] }
 
 -- it has the lock of images shared, and no handle on that of incoming
-pub record UnderImages (hs : List Held) : Type 0 where
+pub record ImportsUnderImages (hs : List Held) : Type 0 where
   pub images : list_any (is_gate_shared Images) hs ≡ true
   pub free : is_open_on (Gate Incoming) hs ≡ false
 
 -- it has both shared
-pub record UnderBoth (hs : List Held) : Type 0 where
+pub record UnderImportLocks (hs : List Held) : Type 0 where
   pub images : list_any (is_gate_shared Images) hs ≡ true
   pub incoming : list_any (is_gate_shared Incoming) hs ≡ true
 
 -- wherever a process imports with this draw, has such handles and knows this of the folder that it makes
-abbrev pub From : PodId → (List Held → Type 0) → Bool → Option Making → DirAt → (Intent → List Held → Type 0) → Type 0
-From draw Under stored making old After = (intent : Intent) (hs : List Held) → IsImport draw intent → Under hs → Knows old (at_work intent hs stored making) → After intent hs
+abbrev pub WhereImporting : PodId → (List Held → Type 0) → Bool → Option Making → DirAt → (Intent → List Held → Type 0) → Type 0
+WhereImporting draw Under stored making old After = (intent : Intent) (hs : List Held) → IsImport draw intent → Under hs → Knows old (seen_importing intent hs stored making) → After intent hs
 
 -- it has made no folder, or the one in incoming
-abbrev pub IsOwnFolder : PodId → Option Making → Type 0
-IsOwnFolder draw None = Unit {0}
-IsOwnFolder draw (Some m) = m.spot ≡ building_spot draw
+abbrev pub IsImportFolder : PodId → Option Making → Type 0
+IsImportFolder draw None = Unit {0}
+IsImportFolder draw (Some m) = m.spot ≡ building_spot draw
 
 -- it has these handles still, and at most its own folder in incoming
-pub record HasOwnFolder (draw : PodId) (intent : Intent) (hs : List Held) (new : DirAt) : Type 0 where
+pub record HasImportFolder (draw : PodId) (intent : Intent) (hs : List Held) (new : DirAt) : Type 0 where
   pub stored : Bool
   pub making : Option Making
-  pub own : IsOwnFolder draw making
-  pub knows : Knows new (at_work intent hs stored making)
+  pub own : IsImportFolder draw making
+  pub knows : Knows new (seen_importing intent hs stored making)
 
 -- it has filled the folder so
-pub record HasFilled (P : List Entry → Type 0) (draw : PodId) (intent : Intent) (hs : List Held) (new : DirAt) : Type 0 where
+pub record HasFilledImport (P : List Entry → Type 0) (draw : PodId) (intent : Intent) (hs : List Held) (new : DirAt) : Type 0 where
   pub entries : List Entry
   pub made : P entries
-  pub knows : Knows new (at_work intent hs true (Some (holding (building_spot draw) entries)))
+  pub knows : Knows new (seen_importing intent hs true (Some (holding (building_spot draw) entries)))
 
 -- by its own Ok move the folder, which held this by what it knew, came to another location
-pub record HasMoved (P : List Entry → Type 0) (me : ℕ) (from to : Spot) (old new : List Event) : Type 0 where
+pub record HasMovedImage (P : List Entry → Type 0) (me : ℕ) (from to : Spot) (old new : List Event) : Type 0 where
   pub before : List Event
   pub later : List Event
   pub meanwhile : List Event
@@ -83,13 +83,13 @@ pub record HasMoved (P : List Entry → Type 0) (me : ℕ) (from to : Spot) (old
   pub made : P entries
 
 -- wherever it has filled the folder
-abbrev pub FromFilled : PodId → DirAt → (Intent → List Held → List Entry → Type 0) → Type 0
-FromFilled draw old After = (intent : Intent) (hs : List Held) (entries : List Entry) → IsImport draw intent → UnderBoth hs → Knows old (at_work intent hs true (Some (holding (building_spot draw) entries))) → After intent hs entries
+abbrev pub WhereImportFilled : PodId → DirAt → (Intent → List Held → List Entry → Type 0) → Type 0
+WhereImportFilled draw old After = (intent : Intent) (hs : List Held) (entries : List Entry) → IsImport draw intent → UnderImportLocks hs → Knows old (seen_importing intent hs true (Some (holding (building_spot draw) entries))) → After intent hs entries
 
 -- it knows the folder so in images, and brought it there
-pub record IsPlaced (draw : PodId) (to : Spot) (intent : Intent) (hs : List Held) (entries : List Entry) (old new : DirAt) : Type 0 where
-  pub knows : Knows new (at_work intent hs false (Some (holding to entries)))
-  pub moved : HasMoved (λ es. es ≡ entries) old.process (building_spot draw) to old.trace new.trace
+pub record IsImagePlaced (draw : PodId) (to : Spot) (intent : Intent) (hs : List Held) (entries : List Entry) (old new : DirAt) : Type 0 where
+  pub knows : Knows new (seen_importing intent hs false (Some (holding to entries)))
+  pub moved : HasMovedImage (λ es. es ≡ entries) old.process (building_spot draw) to old.trace new.trace
 
 -- it has no handle
 abbrev pub IsAlone : List Held → Type 0

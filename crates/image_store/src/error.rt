@@ -3,8 +3,8 @@ ghost use Rattle.std.specs.Prelude.{◌≡◌};
 ghost use Rattle.image_store.specs.Refusals.{bundle_refusal, lock_refusal, change_refusal};
 
 use ac_types::NoMemory;
-use dir_files::LockError;
 use bundle_image::BundleRefusal;
+use dir_files::LockError;
 use dir_trait::{Area, DirError};
 use image_reading::StoreError;
 

@@ -2,23 +2,23 @@
 ghost use Rattle.std.specs.Prelude.{◌≡◌, ◌≤◌, true, false, None, Ok, Err, IfOk, IfErr, IsErrOf};
 ghost use Rattle.dir_model.specs.Causes.{Rose};
 ghost use Rattle.dir_trait.specs.Local.{IsActive};
+ghost use Rattle.dir_trait.specs.Effects.{OnlyAsks};
 ghost use Rattle.lifecycle.specs.Executions.{IsConforming};
-ghost use Rattle.folder_building.specs.Work.{Worked};
 ghost use Rattle.image_reading.specs.Places.{image_spot};
-ghost use Rattle.image_store.specs.Refusals.{is_lock_refusal, is_work_refusal, is_import_refusal};
+ghost use Rattle.image_store.specs.Refusals.{is_import_lock_refusal, is_import_work_refusal, is_import_refusal};
 ghost use Rattle.image_store.specs.Requests.{building_spot, imports_at};
-ghost use Rattle.image_store.specs.Work.{UnderImages, UnderBoth, IsAlone, From};
-ghost use Rattle.image_store.specs.Causes.{source_at, BusyElsewhere, HadIncoming, WasThere, FoundInTurn, ImportCause};
+ghost use Rattle.image_store.specs.Work.{ImportsUnderImages, UnderImportLocks, IsAlone, WhereImporting};
+ghost use Rattle.image_store.specs.Causes.{bundle_source_at, ImportBusyElsewhere, HadIncoming, WasThere, FoundInTurn, ImportCause};
 ghost use Rattle.image_store.specs.Moves.{Moves, MovesAtEnd};
-ghost use Rattle.image_store.specs.Imports.{key_of, digest_of, IsOf, OfBundle, IsRefused, ComesInTurn, Leaves, LeavesAtEnd, IsImported};
+ghost use Rattle.image_store.specs.Imports.{key_of_image, digest_of, IsOf, OfBundle, IsImportRefused, RefusalComesInTurn, ImportLeaves, LeavesAtEnd, IsImported};
 
 use crate::building::build;
 use crate::error::{bundle_refusal, out_of_memory};
 use crate::look::{is_there, share};
 use crate::placing::place;
 use ac_types::StoreKey;
-use dir_files::unlock_area;
 use bundle_image::{BundleImage, read_bundle};
+use dir_files::unlock_area;
 use dir_trait::{Area, Bundle, Dir, PodId};
 use image_reading::StoreError;
 use std::alloc::Global;
@@ -44,15 +44,15 @@ fn build_and_place<D: Dir, B: Bundle>(
     draw: PodId,
 ) -> Result<bool, StoreError>
     requires active { IsActive (D.shown dir.old).local }
-    ensures worked { Worked D.observed (imports_at (building_spot draw)) (D.shown dir.old) (D.shown dir.new) }
-    ensures still { D.observed ≡ true → Moves (building_spot draw) (key_of image.now) result (D.shown dir.old) (D.shown dir.new) }
+    ensures worked { OnlyAsks D.observed (imports_at (building_spot draw)) (D.shown dir.old) (D.shown dir.new) }
+    ensures still { D.observed ≡ true → Moves (building_spot draw) (key_of_image image.now) result (D.shown dir.old) (D.shown dir.new) }
     ensures bundle { (B.shown bundle.old).faults ≤ (B.shown bundle.new).faults }
     ensures bundle_cause { IsErrOf result StoreError.BundleFault → Rose (B.shown bundle.old).faults (B.shown bundle.new).faults }
-    ensures cause { IfErr result (λ e. ImportCause is_work_refusal D.observed (source_at B.observed (B.shown bundle.old).tree path.now)
-        (key_of image.now) digest.now image.now.listing e (D.shown dir.old) (D.shown dir.new)) }
-    ensures there { result ≡ Ok true → D.observed ≡ true → WasThere (key_of image.now) digest.now (D.shown dir.old) (D.shown dir.new) }
-    ensures leaves { D.observed ≡ true → From draw UnderBoth false None (D.shown dir.old)
-        (λ intent hs. Leaves draw now image.now intent hs result (D.shown dir.old) (D.shown dir.new)) }
+    ensures cause { IfErr result (λ e. ImportCause is_import_work_refusal D.observed (bundle_source_at B.observed (B.shown bundle.old).tree path.now)
+        (key_of_image image.now) digest.now image.now.listing e (D.shown dir.old) (D.shown dir.new)) }
+    ensures there { result ≡ Ok true → D.observed ≡ true → WasThere (key_of_image image.now) digest.now (D.shown dir.old) (D.shown dir.new) }
+    ensures leaves { D.observed ≡ true → WhereImporting draw UnderImportLocks false None (D.shown dir.old)
+        (λ intent hs. ImportLeaves draw now image.now intent hs result (D.shown dir.old) (D.shown dir.new)) }
 {
     build(alloc, dir, bundle, path, image, now, draw)?;
     place(alloc, dir, draw, StoreKey::of(image.id), digest)
@@ -70,18 +70,18 @@ fn import_new<D: Dir, B: Bundle>(
     draw: PodId,
 ) -> Result<bool, StoreError>
     requires active { IsActive (D.shown dir.old).local }
-    ensures worked { Worked D.observed (imports_at (building_spot draw)) (D.shown dir.old) (D.shown dir.new) }
-    ensures still { D.observed ≡ true → Moves (building_spot draw) (key_of image.now) result (D.shown dir.old) (D.shown dir.new) }
+    ensures worked { OnlyAsks D.observed (imports_at (building_spot draw)) (D.shown dir.old) (D.shown dir.new) }
+    ensures still { D.observed ≡ true → Moves (building_spot draw) (key_of_image image.now) result (D.shown dir.old) (D.shown dir.new) }
     ensures bundle { (B.shown bundle.old).faults ≤ (B.shown bundle.new).faults }
     ensures bundle_cause { IsErrOf result StoreError.BundleFault → Rose (B.shown bundle.old).faults (B.shown bundle.new).faults }
-    ensures cause { IfErr result (λ e. ImportCause is_import_refusal D.observed (source_at B.observed (B.shown bundle.old).tree path.now)
-        (key_of image.now) digest.now image.now.listing e (D.shown dir.old) (D.shown dir.new)) }
-    ensures locked { IfErr result (λ e. is_lock_refusal Area.Incoming e ≡ false → D.observed ≡ true → HadIncoming (D.shown dir.old) (D.shown dir.new)) }
-    ensures another { IfErr result (λ e. D.observed ≡ true → From draw UnderImages false None (D.shown dir.old)
-        (λ intent hs. BusyElsewhere e (D.shown dir.old) (D.shown dir.new))) }
-    ensures there { result ≡ Ok true → D.observed ≡ true → WasThere (key_of image.now) digest.now (D.shown dir.old) (D.shown dir.new) }
-    ensures leaves { D.observed ≡ true → From draw UnderImages false None (D.shown dir.old)
-        (λ intent hs. Leaves draw now image.now intent hs result (D.shown dir.old) (D.shown dir.new)) }
+    ensures cause { IfErr result (λ e. ImportCause is_import_refusal D.observed (bundle_source_at B.observed (B.shown bundle.old).tree path.now)
+        (key_of_image image.now) digest.now image.now.listing e (D.shown dir.old) (D.shown dir.new)) }
+    ensures locked { IfErr result (λ e. is_import_lock_refusal Area.Incoming e ≡ false → D.observed ≡ true → HadIncoming (D.shown dir.old) (D.shown dir.new)) }
+    ensures by_other_process { IfErr result (λ e. D.observed ≡ true → WhereImporting draw ImportsUnderImages false None (D.shown dir.old)
+        (λ intent hs. ImportBusyElsewhere e (D.shown dir.old) (D.shown dir.new))) }
+    ensures there { result ≡ Ok true → D.observed ≡ true → WasThere (key_of_image image.now) digest.now (D.shown dir.old) (D.shown dir.new) }
+    ensures leaves { D.observed ≡ true → WhereImporting draw ImportsUnderImages false None (D.shown dir.old)
+        (λ intent hs. ImportLeaves draw now image.now intent hs result (D.shown dir.old) (D.shown dir.new)) }
 {
     let gate = share(alloc, dir, Area::Incoming)?;
     let result = build_and_place(alloc, dir, bundle, path, image, digest, now, draw);
@@ -101,19 +101,19 @@ fn import_or_find<D: Dir, B: Bundle>(
     draw: PodId,
 ) -> Result<bool, StoreError>
     requires active { IsActive (D.shown dir.old).local }
-    ensures worked { Worked D.observed (imports_at (building_spot draw)) (D.shown dir.old) (D.shown dir.new) }
-    ensures still { D.observed ≡ true → Moves (building_spot draw) (key_of image.now) result (D.shown dir.old) (D.shown dir.new) }
+    ensures worked { OnlyAsks D.observed (imports_at (building_spot draw)) (D.shown dir.old) (D.shown dir.new) }
+    ensures still { D.observed ≡ true → Moves (building_spot draw) (key_of_image image.now) result (D.shown dir.old) (D.shown dir.new) }
     ensures bundle { (B.shown bundle.old).faults ≤ (B.shown bundle.new).faults }
     ensures bundle_cause { IsErrOf result StoreError.BundleFault → Rose (B.shown bundle.old).faults (B.shown bundle.new).faults }
-    ensures cause { IfErr result (λ e. ImportCause is_import_refusal D.observed (source_at B.observed (B.shown bundle.old).tree path.now)
-        (key_of image.now) digest.now image.now.listing e (D.shown dir.old) (D.shown dir.new)) }
-    ensures turn { IfErr result (λ e. FoundInTurn D.observed (source_at B.observed (B.shown bundle.old).tree path.now)
-        (key_of image.now) image.now.listing e (D.shown dir.old) (D.shown dir.new)) }
-    ensures another { IfErr result (λ e. D.observed ≡ true → From draw UnderImages false None (D.shown dir.old)
-        (λ intent hs. BusyElsewhere e (D.shown dir.old) (D.shown dir.new))) }
-    ensures there { result ≡ Ok true → D.observed ≡ true → WasThere (key_of image.now) digest.now (D.shown dir.old) (D.shown dir.new) }
-    ensures leaves { D.observed ≡ true → From draw UnderImages false None (D.shown dir.old)
-        (λ intent hs. Leaves draw now image.now intent hs result (D.shown dir.old) (D.shown dir.new)) }
+    ensures cause { IfErr result (λ e. ImportCause is_import_refusal D.observed (bundle_source_at B.observed (B.shown bundle.old).tree path.now)
+        (key_of_image image.now) digest.now image.now.listing e (D.shown dir.old) (D.shown dir.new)) }
+    ensures turn { IfErr result (λ e. FoundInTurn D.observed (bundle_source_at B.observed (B.shown bundle.old).tree path.now)
+        (key_of_image image.now) image.now.listing e (D.shown dir.old) (D.shown dir.new)) }
+    ensures by_other_process { IfErr result (λ e. D.observed ≡ true → WhereImporting draw ImportsUnderImages false None (D.shown dir.old)
+        (λ intent hs. ImportBusyElsewhere e (D.shown dir.old) (D.shown dir.new))) }
+    ensures there { result ≡ Ok true → D.observed ≡ true → WasThere (key_of_image image.now) digest.now (D.shown dir.old) (D.shown dir.new) }
+    ensures leaves { D.observed ≡ true → WhereImporting draw ImportsUnderImages false None (D.shown dir.old)
+        (λ intent hs. ImportLeaves draw now image.now intent hs result (D.shown dir.old) (D.shown dir.new)) }
 {
     if is_there(alloc, dir, StoreKey::of(image.id), digest)? {
         Ok(true)
@@ -134,19 +134,19 @@ fn import_locked<D: Dir, B: Bundle>(
     draw: PodId,
 ) -> Result<bool, StoreError>
     requires active { IsActive (D.shown dir.old).local }
-    ensures worked { Worked D.observed (imports_at (building_spot draw)) (D.shown dir.old) (D.shown dir.new) }
-    ensures still { D.observed ≡ true → Moves (building_spot draw) (key_of image.now) result (D.shown dir.old) (D.shown dir.new) }
+    ensures worked { OnlyAsks D.observed (imports_at (building_spot draw)) (D.shown dir.old) (D.shown dir.new) }
+    ensures still { D.observed ≡ true → Moves (building_spot draw) (key_of_image image.now) result (D.shown dir.old) (D.shown dir.new) }
     ensures bundle { (B.shown bundle.old).faults ≤ (B.shown bundle.new).faults }
     ensures bundle_cause { IsErrOf result StoreError.BundleFault → Rose (B.shown bundle.old).faults (B.shown bundle.new).faults }
-    ensures cause { IfErr result (λ e. ImportCause is_import_refusal D.observed (source_at B.observed (B.shown bundle.old).tree path.now)
-        (key_of image.now) digest.now image.now.listing e (D.shown dir.old) (D.shown dir.new)) }
-    ensures turn { IfErr result (λ e. FoundInTurn D.observed (source_at B.observed (B.shown bundle.old).tree path.now)
-        (key_of image.now) image.now.listing e (D.shown dir.old) (D.shown dir.new)) }
-    ensures another { IfErr result (λ e. D.observed ≡ true → From draw IsAlone false None (D.shown dir.old)
-        (λ intent hs. BusyElsewhere e (D.shown dir.old) (D.shown dir.new))) }
-    ensures there { result ≡ Ok true → D.observed ≡ true → WasThere (key_of image.now) digest.now (D.shown dir.old) (D.shown dir.new) }
-    ensures leaves { D.observed ≡ true → From draw IsAlone false None (D.shown dir.old)
-        (λ intent hs. Leaves draw now image.now intent hs result (D.shown dir.old) (D.shown dir.new)) }
+    ensures cause { IfErr result (λ e. ImportCause is_import_refusal D.observed (bundle_source_at B.observed (B.shown bundle.old).tree path.now)
+        (key_of_image image.now) digest.now image.now.listing e (D.shown dir.old) (D.shown dir.new)) }
+    ensures turn { IfErr result (λ e. FoundInTurn D.observed (bundle_source_at B.observed (B.shown bundle.old).tree path.now)
+        (key_of_image image.now) image.now.listing e (D.shown dir.old) (D.shown dir.new)) }
+    ensures by_other_process { IfErr result (λ e. D.observed ≡ true → WhereImporting draw IsAlone false None (D.shown dir.old)
+        (λ intent hs. ImportBusyElsewhere e (D.shown dir.old) (D.shown dir.new))) }
+    ensures there { result ≡ Ok true → D.observed ≡ true → WasThere (key_of_image image.now) digest.now (D.shown dir.old) (D.shown dir.new) }
+    ensures leaves { D.observed ≡ true → WhereImporting draw IsAlone false None (D.shown dir.old)
+        (λ intent hs. ImportLeaves draw now image.now intent hs result (D.shown dir.old) (D.shown dir.new)) }
 {
     let gate = share(alloc, dir, Area::Images)?;
     let result = import_or_find(alloc, dir, bundle, path, image, digest, now, draw);
@@ -165,19 +165,19 @@ fn import_image<D: Dir, B: Bundle>(
     draw: PodId,
 ) -> Result<bool, StoreError>
     requires active { IsActive (D.shown dir.old).local }
-    ensures worked { Worked D.observed (imports_at (building_spot draw)) (D.shown dir.old) (D.shown dir.new) }
-    ensures still { D.observed ≡ true → Moves (building_spot draw) (key_of image.now) result (D.shown dir.old) (D.shown dir.new) }
+    ensures worked { OnlyAsks D.observed (imports_at (building_spot draw)) (D.shown dir.old) (D.shown dir.new) }
+    ensures still { D.observed ≡ true → Moves (building_spot draw) (key_of_image image.now) result (D.shown dir.old) (D.shown dir.new) }
     ensures bundle { (B.shown bundle.old).faults ≤ (B.shown bundle.new).faults }
     ensures bundle_cause { IsErrOf result StoreError.BundleFault → Rose (B.shown bundle.old).faults (B.shown bundle.new).faults }
-    ensures cause { IfErr result (λ e. ImportCause is_import_refusal D.observed (source_at B.observed (B.shown bundle.old).tree path.now)
-        (key_of image.now) (digest_of image.now) image.now.listing e (D.shown dir.old) (D.shown dir.new)) }
-    ensures turn { IfErr result (λ e. FoundInTurn D.observed (source_at B.observed (B.shown bundle.old).tree path.now)
-        (key_of image.now) image.now.listing e (D.shown dir.old) (D.shown dir.new)) }
-    ensures another { IfErr result (λ e. D.observed ≡ true → From draw IsAlone false None (D.shown dir.old)
-        (λ intent hs. BusyElsewhere e (D.shown dir.old) (D.shown dir.new))) }
-    ensures there { result ≡ Ok true → D.observed ≡ true → WasThere (key_of image.now) (digest_of image.now) (D.shown dir.old) (D.shown dir.new) }
-    ensures leaves { D.observed ≡ true → From draw IsAlone false None (D.shown dir.old)
-        (λ intent hs. Leaves draw now image.now intent hs result (D.shown dir.old) (D.shown dir.new)) }
+    ensures cause { IfErr result (λ e. ImportCause is_import_refusal D.observed (bundle_source_at B.observed (B.shown bundle.old).tree path.now)
+        (key_of_image image.now) (digest_of image.now) image.now.listing e (D.shown dir.old) (D.shown dir.new)) }
+    ensures turn { IfErr result (λ e. FoundInTurn D.observed (bundle_source_at B.observed (B.shown bundle.old).tree path.now)
+        (key_of_image image.now) image.now.listing e (D.shown dir.old) (D.shown dir.new)) }
+    ensures by_other_process { IfErr result (λ e. D.observed ≡ true → WhereImporting draw IsAlone false None (D.shown dir.old)
+        (λ intent hs. ImportBusyElsewhere e (D.shown dir.old) (D.shown dir.new))) }
+    ensures there { result ≡ Ok true → D.observed ≡ true → WasThere (key_of_image image.now) (digest_of image.now) (D.shown dir.old) (D.shown dir.new) }
+    ensures leaves { D.observed ≡ true → WhereImporting draw IsAlone false None (D.shown dir.old)
+        (λ intent hs. ImportLeaves draw now image.now intent hs result (D.shown dir.old) (D.shown dir.new)) }
 {
     match image
         .listing
@@ -210,22 +210,22 @@ pub fn import<D: Dir, B: Bundle>(
     draw: PodId,
 ) -> Result<Imported, StoreError>
     requires active { IsActive (D.shown dir.old).local }
-    ensures worked { Worked D.observed (imports_at (building_spot draw)) (D.shown dir.old) (D.shown dir.new) }
+    ensures worked { OnlyAsks D.observed (imports_at (building_spot draw)) (D.shown dir.old) (D.shown dir.new) }
     ensures still { D.observed ≡ true → MovesAtEnd (building_spot draw) result (D.shown dir.old) (D.shown dir.new) }
     ensures lawful { IsErrOf result StoreError.Stray → D.observed ≡ true → IsConforming (D.shown dir.new).trace → ⊥ }
     ensures bundle { (B.shown bundle.old).faults ≤ (B.shown bundle.new).faults }
     ensures bundle_cause { IsErrOf result StoreError.BundleFault → Rose (B.shown bundle.old).faults (B.shown bundle.new).faults }
-    ensures refused { IfErr result (λ e. IsRefused D.observed (source_at B.observed (B.shown bundle.old).tree path.now) e (D.shown dir.old) (D.shown dir.new)) }
-    ensures turn { IfErr result (λ e. ComesInTurn D.observed (source_at B.observed (B.shown bundle.old).tree path.now) e (D.shown dir.old) (D.shown dir.new)) }
-    ensures another { IfErr result (λ e. D.observed ≡ true → From draw IsAlone false None (D.shown dir.old)
-        (λ intent hs. BusyElsewhere e (D.shown dir.old) (D.shown dir.new))) }
-    ensures there { IfOk result (λ done. OfBundle (source_at B.observed (B.shown bundle.old).tree path.now)
-        (λ image. (done.key ≡ key_of image) × (done.there ≡ true → D.observed ≡ true → WasThere (key_of image) (digest_of image) (D.shown dir.old) (D.shown dir.new)))) }
-    ensures imported { IfOk result (λ done. done.there ≡ false → D.observed ≡ true → IsConforming (D.shown dir.new).trace → From draw IsAlone false None (D.shown dir.old)
-        (λ intent hs. OfBundle (source_at B.observed (B.shown bundle.old).tree path.now) (λ image. (done.key ≡ key_of image)
+    ensures refused { IfErr result (λ e. IsImportRefused D.observed (bundle_source_at B.observed (B.shown bundle.old).tree path.now) e (D.shown dir.old) (D.shown dir.new)) }
+    ensures turn { IfErr result (λ e. RefusalComesInTurn D.observed (bundle_source_at B.observed (B.shown bundle.old).tree path.now) e (D.shown dir.old) (D.shown dir.new)) }
+    ensures by_other_process { IfErr result (λ e. D.observed ≡ true → WhereImporting draw IsAlone false None (D.shown dir.old)
+        (λ intent hs. ImportBusyElsewhere e (D.shown dir.old) (D.shown dir.new))) }
+    ensures there { IfOk result (λ done. OfBundle (bundle_source_at B.observed (B.shown bundle.old).tree path.now)
+        (λ image. (done.key ≡ key_of_image image) × (done.there ≡ true → D.observed ≡ true → WasThere (key_of_image image) (digest_of image) (D.shown dir.old) (D.shown dir.new)))) }
+    ensures imported { IfOk result (λ done. done.there ≡ false → D.observed ≡ true → IsConforming (D.shown dir.new).trace → WhereImporting draw IsAlone false None (D.shown dir.old)
+        (λ intent hs. OfBundle (bundle_source_at B.observed (B.shown bundle.old).tree path.now) (λ image. (done.key ≡ key_of_image image)
         × IsImported (D.shown dir.old).process (building_spot draw) (image_spot done.key) (IsOf image now) (D.shown dir.old).trace (D.shown dir.new).trace))) }
-    ensures leaves { D.observed ≡ true → From draw IsAlone false None (D.shown dir.old)
-        (λ intent hs. LeavesAtEnd (source_at B.observed (B.shown bundle.old).tree path.now) draw now intent hs result (D.shown dir.old) (D.shown dir.new)) }
+    ensures leaves { D.observed ≡ true → WhereImporting draw IsAlone false None (D.shown dir.old)
+        (λ intent hs. LeavesAtEnd (bundle_source_at B.observed (B.shown bundle.old).tree path.now) draw now intent hs result (D.shown dir.old) (D.shown dir.new)) }
 {
     match read_bundle(alloc, bundle, path) {
         Ok(image) => {

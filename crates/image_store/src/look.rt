@@ -4,10 +4,10 @@ ghost use Rattle.dir_rules.specs.declared.seen.Seen.{Seen};
 ghost use Rattle.dir_trait.specs.Local.{IsActive, IsUnopened};
 ghost use Rattle.dir_trait.specs.DirCalls.{ExtendsBy, HeldBetween};
 ghost use Rattle.dir_trait.specs.Knowledge.{Knows};
-ghost use Rattle.dir_files.specs.AreaLocks.{takes, and_lock, with_gate, is_free_of};
-ghost use Rattle.image_reading.specs.Places.{IsAbsent};
+ghost use Rattle.dir_files.specs.AreaLocks.{is_taking_area, and_area_lock, with_gate, is_free_of};
+ghost use Rattle.image_reading.specs.Places.{IsImageAbsent};
 ghost use Rattle.image_reading.specs.Looks.{OnlyReadsImage};
-ghost use Rattle.image_store.specs.Causes.{LockCause, LookCause, BusyElsewhere, WasThere};
+ghost use Rattle.image_store.specs.Causes.{LockCause, LookCause, ImportBusyElsewhere, WasThere};
 
 use crate::error::lock_refusal;
 use ac_types::StoreKey;
@@ -23,13 +23,13 @@ pub(crate) fn share<D: Dir>(alloc: Global, dir: &mut D, area: Area) -> Result<Ha
     requires active { IsActive (D.shown dir.old).local }
     ensures same { (D.shown dir.new).process ≡ (D.shown dir.old).process }
     ensures faults { (D.shown dir.old).faults ≤ (D.shown dir.new).faults }
-    ensures held { IfOk result (λ handle. (D.shown dir.new).local ≡ and_lock (D.shown dir.old).local handle area Mode.Shared) }
+    ensures held { IfOk result (λ handle. (D.shown dir.new).local ≡ and_area_lock (D.shown dir.old).local handle area Mode.Shared) }
     ensures refused { IfErr result (λ e. (D.shown dir.new).local ≡ (D.shown dir.old).local) }
     ensures unopened { IfOk result (λ handle. IsUnopened (D.shown dir.old).local handle) }
-    ensures extends { D.observed ≡ true → ExtendsBy (takes area Mode.Shared) (D.shown dir.old) (D.shown dir.new) }
+    ensures extends { D.observed ≡ true → ExtendsBy (is_taking_area area Mode.Shared) (D.shown dir.old) (D.shown dir.new) }
     ensures cause { IfErr result (λ e. LockCause D.observed area e (D.shown dir.old) (D.shown dir.new)) }
-    ensures another { IfErr result (λ e. D.observed ≡ true → (s : Seen) → Knows (D.shown dir.old) s → is_free_of area s ≡ true
-        → BusyElsewhere e (D.shown dir.old) (D.shown dir.new)) }
+    ensures by_other_process { IfErr result (λ e. D.observed ≡ true → (s : Seen) → Knows (D.shown dir.old) s → is_free_of area s ≡ true
+        → ImportBusyElsewhere e (D.shown dir.old) (D.shown dir.new)) }
     ensures taken { IfOk result (λ handle. D.observed ≡ true → (s : Seen) → Knows (D.shown dir.old) s → is_free_of area s ≡ true
         → Knows (D.shown dir.new) (with_gate s handle area (Some Mode.Shared))) }
     ensures left { IfErr result (λ e. D.observed ≡ true → (s : Seen) → Knows (D.shown dir.old) s → is_free_of area s ≡ true → Knows (D.shown dir.new) s) }
@@ -46,13 +46,13 @@ pub fn open_store<D: Dir>(alloc: Global, dir: &mut D) -> Result<Handle, StoreErr
     requires active { IsActive (D.shown dir.old).local }
     ensures same { (D.shown dir.new).process ≡ (D.shown dir.old).process }
     ensures faults { (D.shown dir.old).faults ≤ (D.shown dir.new).faults }
-    ensures held { IfOk result (λ handle. (D.shown dir.new).local ≡ and_lock (D.shown dir.old).local handle Area.Images Mode.Shared) }
+    ensures held { IfOk result (λ handle. (D.shown dir.new).local ≡ and_area_lock (D.shown dir.old).local handle Area.Images Mode.Shared) }
     ensures refused { IfErr result (λ e. (D.shown dir.new).local ≡ (D.shown dir.old).local) }
     ensures unopened { IfOk result (λ handle. IsUnopened (D.shown dir.old).local handle) }
-    ensures extends { D.observed ≡ true → ExtendsBy (takes Area.Images Mode.Shared) (D.shown dir.old) (D.shown dir.new) }
+    ensures extends { D.observed ≡ true → ExtendsBy (is_taking_area Area.Images Mode.Shared) (D.shown dir.old) (D.shown dir.new) }
     ensures cause { IfErr result (λ e. LockCause D.observed Area.Images e (D.shown dir.old) (D.shown dir.new)) }
-    ensures another { IfErr result (λ e. D.observed ≡ true → (s : Seen) → Knows (D.shown dir.old) s → is_free_of Area.Images s ≡ true
-        → BusyElsewhere e (D.shown dir.old) (D.shown dir.new)) }
+    ensures by_other_process { IfErr result (λ e. D.observed ≡ true → (s : Seen) → Knows (D.shown dir.old) s → is_free_of Area.Images s ≡ true
+        → ImportBusyElsewhere e (D.shown dir.old) (D.shown dir.new)) }
     ensures taken { IfOk result (λ handle. D.observed ≡ true → (s : Seen) → Knows (D.shown dir.old) s → is_free_of Area.Images s ≡ true
         → Knows (D.shown dir.new) (with_gate s handle Area.Images (Some Mode.Shared))) }
     ensures left { IfErr result (λ e. D.observed ≡ true → (s : Seen) → Knows (D.shown dir.old) s → is_free_of Area.Images s ≡ true → Knows (D.shown dir.new) s) }
@@ -81,7 +81,7 @@ pub(crate) fn is_there<D: Dir>(
 ) -> Result<bool, StoreError>
     requires active { IsActive (D.shown dir.old).local }
     ensures only { OnlyReadsImage D.observed key (D.shown dir.old) (D.shown dir.new) }
-    ensures absent { result ≡ Ok false → D.observed ≡ true → HeldBetween (D.shown dir.old) (D.shown dir.new) (IsAbsent key) }
+    ensures absent { result ≡ Ok false → D.observed ≡ true → HeldBetween (D.shown dir.old) (D.shown dir.new) (IsImageAbsent key) }
     ensures there { result ≡ Ok true → D.observed ≡ true → WasThere key digest.now (D.shown dir.old) (D.shown dir.new) }
     ensures cause { IfErr result (λ e. LookCause D.observed key digest.now e (D.shown dir.old) (D.shown dir.new)) }
 {

@@ -2,13 +2,13 @@
 ghost use Rattle.std.specs.Prelude.{◌≡◌, true, false, Some, Ok, IfOk, IfErr};
 ghost use Rattle.dir_trait.specs.Local.{IsActive};
 ghost use Rattle.dir_trait.specs.Knowledge.{Knows};
-ghost use Rattle.folder_building.specs.Work.{Worked};
+ghost use Rattle.dir_trait.specs.Effects.{OnlyAsks};
 ghost use Rattle.image_reading.specs.Places.{image_spot};
 ghost use Rattle.image_reading.specs.Looks.{OnlyReadsImage};
 ghost use Rattle.image_store.specs.Refusals.{move_answer};
 ghost use Rattle.image_store.specs.Requests.{building_spot, imports_at};
-ghost use Rattle.image_store.specs.Work.{at_work, holding, FromFilled, IsPlaced, Unbrought};
-ghost use Rattle.image_store.specs.Causes.{ChangeCause, WasTaken, WasThere, CompareCause, PlaceCause};
+ghost use Rattle.image_store.specs.Work.{seen_importing, holding, WhereImportFilled, IsImagePlaced, Unbrought};
+ghost use Rattle.image_store.specs.Causes.{ChangeCause, KeyWasTaken, WasThere, CompareCause, PlaceCause};
 ghost use Rattle.image_store.specs.Moves.{Moves};
 
 use crate::building::building_spot;
@@ -32,14 +32,14 @@ fn move_answer(error: DirError) -> Result<bool, StoreError>
 // Moves the folder into images, and answers whether another stood there: then it wasn't moved.
 fn bring<D: Dir>(alloc: Global, dir: &mut D, draw: PodId, key: StoreKey) -> Result<bool, StoreError>
     requires active { IsActive (D.shown dir.old).local }
-    ensures worked { Worked D.observed (imports_at (building_spot draw)) (D.shown dir.old) (D.shown dir.new) }
+    ensures worked { OnlyAsks D.observed (imports_at (building_spot draw)) (D.shown dir.old) (D.shown dir.new) }
     ensures still { D.observed ≡ true → Moves (building_spot draw) key result (D.shown dir.old) (D.shown dir.new) }
     ensures cause { IfErr result (λ e. ChangeCause D.observed e (D.shown dir.old) (D.shown dir.new)) }
-    ensures taken { result ≡ Ok true → D.observed ≡ true → WasTaken key (D.shown dir.old) (D.shown dir.new) }
-    ensures placed { result ≡ Ok false → D.observed ≡ true → FromFilled draw (D.shown dir.old)
-        (λ intent hs entries. IsPlaced draw (image_spot key) intent hs entries (D.shown dir.old) (D.shown dir.new)) }
-    ensures left { Unbrought result (D.observed ≡ true → FromFilled draw (D.shown dir.old)
-        (λ intent hs entries. Knows (D.shown dir.new) (at_work intent hs true (Some (holding (building_spot draw) entries))))) }
+    ensures taken { result ≡ Ok true → D.observed ≡ true → KeyWasTaken key (D.shown dir.old) (D.shown dir.new) }
+    ensures placed { result ≡ Ok false → D.observed ≡ true → WhereImportFilled draw (D.shown dir.old)
+        (λ intent hs entries. IsImagePlaced draw (image_spot key) intent hs entries (D.shown dir.old) (D.shown dir.new)) }
+    ensures left { Unbrought result (D.observed ≡ true → WhereImportFilled draw (D.shown dir.old)
+        (λ intent hs entries. Knows (D.shown dir.new) (seen_importing intent hs true (Some (holding (building_spot draw) entries))))) }
 {
     let from = building_spot(draw);
     let to = spot_of(alloc, key)?;
@@ -80,14 +80,14 @@ pub(crate) fn place<D: Dir>(
     digest: &[u8; 64],
 ) -> Result<bool, StoreError>
     requires active { IsActive (D.shown dir.old).local }
-    ensures worked { Worked D.observed (imports_at (building_spot draw)) (D.shown dir.old) (D.shown dir.new) }
+    ensures worked { OnlyAsks D.observed (imports_at (building_spot draw)) (D.shown dir.old) (D.shown dir.new) }
     ensures still { D.observed ≡ true → Moves (building_spot draw) key result (D.shown dir.old) (D.shown dir.new) }
     ensures cause { IfErr result (λ e. PlaceCause D.observed key digest.now e (D.shown dir.old) (D.shown dir.new)) }
     ensures there { result ≡ Ok true → D.observed ≡ true → WasThere key digest.now (D.shown dir.old) (D.shown dir.new) }
-    ensures placed { result ≡ Ok false → D.observed ≡ true → FromFilled draw (D.shown dir.old)
-        (λ intent hs entries. IsPlaced draw (image_spot key) intent hs entries (D.shown dir.old) (D.shown dir.new)) }
-    ensures left { Unbrought result (D.observed ≡ true → FromFilled draw (D.shown dir.old)
-        (λ intent hs entries. Knows (D.shown dir.new) (at_work intent hs true (Some (holding (building_spot draw) entries))))) }
+    ensures placed { result ≡ Ok false → D.observed ≡ true → WhereImportFilled draw (D.shown dir.old)
+        (λ intent hs entries. IsImagePlaced draw (image_spot key) intent hs entries (D.shown dir.old) (D.shown dir.new)) }
+    ensures left { Unbrought result (D.observed ≡ true → WhereImportFilled draw (D.shown dir.old)
+        (λ intent hs entries. Knows (D.shown dir.new) (seen_importing intent hs true (Some (holding (building_spot draw) entries))))) }
 {
     match bring(alloc, dir, draw, key) {
         Ok(false) => Ok(false),

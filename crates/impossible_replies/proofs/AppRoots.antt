@@ -3,13 +3,13 @@ use Rattle.std.proofs.Common.{◌≡◌, ℕ, Bool, true, false, not, ◌&&◌, 
 use Rattle.std.specs.List.{starts_with}
 use Rattle.std.proofs.lemmas.Bool.Decides.{Decides-eqb}
 use Rattle.std.proofs.lemmas.Slice.Eq.{starts_is}
+use Rattle.plain_laws.proofs.Booleans.{clash}
 use Rattle.dir_model.specs.declared.event.Event.{Event}
 use Rattle.dir_model.specs.Trees.{app_root, is_apps_own}
 use Rattle.dir_model.specs.Trace.{state_after}
 use Rattle.dir_model.proofs.Lists.{and_left}
 use Rattle.dir_laws.proofs.Apps.{no_app_owns}
 use Rattle.dir_rules.specs.Marks.{has_slash, begins, is_status_file}
-use Rattle.lifecycle.proofs.Handles.{clash}
 
 abbrev front : List ℕ
 front = codes "stage1/rootfs/opt/"

@@ -1,6 +1,8 @@
 -- A started app's folder stands in run or in a garbage place, or is gone: no maker's folder has one, and nothing stored.
 use Rattle.std.proofs.Common.{◌≡◌, ◌⊎◌, inl, inr, ℕ, Bool, true, false, ◌==◌, cond, Option, Some, None, option_map, option_to_list, unwrap_or, List, [], ◌∷◌, ◌++◌, slice_get, drop, length, append-nil, refl, sym, ap, subst, ◌∙◌}
 use Rattle.std.proofs.lemmas.Option.{slice_get-map}
+use Rattle.plain_laws.proofs.Booleans.{clash}
+use Rattle.plain_laws.proofs.Lists.{get_pushed}
 use Rattle.dir_model.specs.declared.area.Area.{Area}
 use Rattle.dir_model.specs.declared.area.Area.TheVariants as area
 use Rattle.dir_model.specs.declared.event.Event.{Event}
@@ -16,20 +18,18 @@ use Rattle.dir_model.specs.Trace.{state_after, namespace_replied, moved, removed
 use Rattle.dir_model.specs.Replies.{is_own_at, is_apps_request}
 use Rattle.dir_model.specs.Calls.{is_kill}
 use Rattle.dir_model.proofs.Chains.{state_after-push}
-use Rattle.dir_model.proofs.Lists.{and_right, any_last_not}
+use Rattle.dir_model.proofs.Lists.{and_right, any_last_not, same_number}
 use Rattle.dir_rules.specs.declared.seen.Making.{Making}
 use Rattle.dir_rules.specs.declared.seen.Seen.{Seen}
 use Rattle.dir_rules.specs.Seen.{makes_at, is_making_area}
 use Rattle.dir_rules.specs.Anomalies.{folder_of}
-use Rattle.dir_rules.specs.Rules.{allows, may_bring_between}
+use Rattle.dir_rules.specs.Rules.{allows, contents_allow_move}
 use Rattle.dir_rules.specs.Conforms.{seen_of}
 use Rattle.lifecycle.specs.Executions.{IsConforming}
-use Rattle.lifecycle.proofs.Handles.{clash, nat_same}
 use Rattle.folder_contents.proofs.Along.{along, happens}
 use Rattle.folder_contents.proofs.Places.{located}
 use Rattle.folder_contents.proofs.Spots.{one_location}
 use Rattle.folder_contents.proofs.Handed.{brought}
-use Rattle.folder_contents.proofs.StaysWhole.{get_pushed}
 use Rattle.folder_contents.proofs.Marked.{has_app, own_has_app}
 use Rattle.impossible_replies.specs.Replies.{is_of_making}
 
@@ -42,7 +42,7 @@ abbrev HasRun : Namespace → ℕ → Type 0
 HasRun n k = (y : Option Spot) × ((slice_get n.folders k ≡ Some y) × (has_run y ≡ true))
 
 -- from run a move leads on
-runs_on : (s : Seen) (from to : Spot) (a b : Area) → may_bring_between s from to a b ≡ true → is_run_or_later a ≡ true → is_run_or_later b ≡ true
+runs_on : (s : Seen) (from to : Spot) (a b : Area) → contents_allow_move s from to a b ≡ true → is_run_or_later a ≡ true → is_run_or_later b ≡ true
 runs_on s from to area.Run area.ExitedGarbage h r = refl
 runs_on s from to area.Run b h r = cc
 runs_on s from to area.ExitedGarbage b h r = cc
@@ -85,7 +85,7 @@ app_next s (MakeFileIn i) Done k h = runs (is_run_or_later i.spot.area) refl h
         has_app k (s.apps ++ record { folder = f; root = app_root (drop (length mark_prefix) i.path) } ∷ []) ≡ true →
         (has_app k s.apps ≡ true) ⊎ HasRun s.namespace k
     last f found run true e h =
-        let l = located s.namespace i.spot k (found ∙ ap Some (nat_same f k e)) in
+        let l = located s.namespace i.spot k (found ∙ ap Some (same_number f k e)) in
         inr (Some l.0, (l.1.0, subst (λ (z : Spot). is_run_or_later z.area ≡ true) (sym (one_location l.0 i.spot l.1.1)) run))
     last f found run false e h =
         inl (sym (any_last_not (λ a. a.folder == k) s.apps (record { folder = f; root = app_root (drop (length mark_prefix) i.path) }) e) ∙ h)

@@ -1,5 +1,8 @@
 -- What the proofs of calls rest on: how a call's own step isn't answered where the history afterwards conforms.
 use Rattle.std.proofs.Common.{◌≡◌, ◌⊎◌, inl, inr, ℕ, Bool, true, false, not, ◌&&◌, ◌||◌, ◌==◌, cond, bytes_eq, Some, List, [], ◌∷◌, ◌++◌, refl, sym, ap, subst, ◌∙◌}
+use Rattle.std.proofs.lemmas.Bool.{or_left, and_parts}
+use Rattle.plain_laws.proofs.Booleans.{clash}
+use Rattle.plain_laws.proofs.Texts.{same_text}
 use Rattle.dir_model.specs.declared.area.Area.{Area}
 use Rattle.dir_model.specs.declared.area.Area.TheVariants as area
 use Rattle.dir_model.specs.declared.event.Event.{Event}
@@ -20,16 +23,14 @@ use Rattle.dir_model.proofs.Lists.{and_left, and_right, and_both, and_false, or_
 use Rattle.dir_model.proofs.Spots.{spot_self}
 use Rattle.dir_rules.specs.declared.seen.Seen.{Seen}
 use Rattle.dir_rules.specs.Seen.{makes_at}
-use Rattle.dir_rules.specs.Standing.{is_in, is_garbage, is_own_held, holds_own, last_of}
+use Rattle.dir_rules.specs.Standing.{is_in, is_garbage, is_own_held, holds_own, last_move_of}
 use Rattle.dir_rules.specs.LockRules.{on_spot}
 use Rattle.dir_rules.specs.Rules.{runs}
 use Rattle.dir_rules.specs.Anomalies.{folder_of, is_its_folder, is_brought, is_opened_at, owns_at, is_removal, is_import_again, is_place_error, is_gone_error, loses_embryo, loses_own, meets_another, is_foreign_write}
 use Rattle.dir_rules.specs.Conforms.{seen_of}
 use Rattle.dir_rules.proofs.Tied.{meanwhile_unseen}
 use Rattle.lifecycle.specs.Executions.{IsConforming}
-use Rattle.lifecycle.proofs.Lists.{any_in, in_any, or_left}
-use Rattle.lifecycle.proofs.Handles.{both, clash}
-use Rattle.lifecycle.proofs.Places.{name_same}
+use Rattle.lifecycle.proofs.Lists.{any_in, in_any}
 use Rattle.folder_contents.proofs.Spots.{in_area}
 use Rattle.impossible_replies.proofs.Alongside.{Steps, steps}
 use Rattle.impossible_replies.proofs.Deletions.{all_told}
@@ -49,15 +50,15 @@ runs_its s spot run r =
     or_last (makes_at s.making spot) _ (or_left (not (is_garbage spot.area) && owns_at s.standing spot) _
     (and_both (not (is_garbage spot.area)) (owns_at s.standing spot) (ap (λ (a : Area). not (is_garbage a)) run) owns))
   where
-    x : (holds_own spot.name s.standing ≡ true) × (on_spot (λ here. is_in area.Run here.area) (last_of spot.name s.standing.moves) ≡ true)
-    x = both (holds_own spot.name s.standing) (on_spot (λ here. is_in area.Run here.area) (last_of spot.name s.standing.moves)) r
+    x : (holds_own spot.name s.standing ≡ true) × (on_spot (λ here. is_in area.Run here.area) (last_move_of spot.name s.standing.moves) ≡ true)
+    x = and_parts (holds_own spot.name s.standing) (on_spot (λ here. is_in area.Run here.area) (last_move_of spot.name s.standing.moves)) r
 
     brought : is_brought s.standing spot ≡ true
     brought =
         let z = last_run s spot.name x.1 in
         let same : z.0 ≡ spot = ap (λ (a : Area). at a z.0.name) (sym (in_area area.Run z.0.area z.1.1.0) ∙ sym run)
-        ∙ ap (λ (l : List ℕ). at spot.area l) (name_same z.0.name spot.name (and_right (is_stage z.0.area) (bytes_eq z.0.name spot.name) z.1.1.1.1)) in
-        and_both (is_in area.Prepare spot.area || is_in area.Run spot.area) (on_spot (spot_eq spot) (last_of spot.name s.standing.moves))
+        ∙ ap (λ (l : List ℕ). at spot.area l) (same_text z.0.name spot.name (and_right (is_stage z.0.area) (bytes_eq z.0.name spot.name) z.1.1.1.1)) in
+        and_both (is_in area.Prepare spot.area || is_in area.Run spot.area) (on_spot (spot_eq spot) (last_move_of spot.name s.standing.moves))
         (ap (λ (a : Area). is_in area.Prepare a || is_in area.Run a) run)
         (ap (on_spot (spot_eq spot)) z.1.0 ∙ (ap (spot_eq spot) same ∙ spot_self spot))
 

@@ -2,7 +2,7 @@
 use Rattle.std.proofs.Common.{◌≡◌, ◌⊎◌, inl, inr, ℕ, Bool, true, false, not, ◌&&◌, ◌||◌, ◌==◌, cond, Option, Some, None, List, [], ◌∷◌, refl, sym, ap, subst, ◌∙◌}
 use Rattle.std.specs.List.{AllByRecursion}
 use Rattle.dir_model.specs.declared.area.Area.{Area}
-use Rattle.dir_model.specs.declared.area.Area.TheVariants.{Prepare, Run, Incoming}
+use Rattle.dir_model.specs.declared.area.Area.TheVariants.{Run}
 use Rattle.dir_model.specs.declared.event.Event.{Event}
 use Rattle.dir_model.specs.declared.item.Inner.{Inner}
 use Rattle.dir_model.specs.declared.spot.Spot.{Spot}
@@ -21,11 +21,12 @@ use Rattle.dir_rules.specs.declared.seen.Seen.{Seen}
 use Rattle.dir_rules.specs.Seen.{makes_at, is_making_area, making_changed, spoilt, learned}
 use Rattle.dir_rules.specs.Anomalies.{folder_of, is_place_error, is_import_again, is_its_folder, loses_own}
 use Rattle.dir_rules.specs.Standing.{is_in}
-use Rattle.dir_rules.specs.LockRules.{may_ask}
-use Rattle.dir_rules.specs.Rules.{allows, may_change, makes_here, may_make_dir, may_make_file_in, may_append_in, may_sync_in, may_make_entry, may_sync_entry, of_making, has_file, spares}
-use Rattle.dir_rules.specs.Conforms.{seen_of, seen_after, seen_replied, saw, nothing_seen}
+use Rattle.dir_rules.specs.LockRules.{lock_rules_allow}
+use Rattle.dir_rules.specs.Rules.{allows, content_rules_allow, makes_here, may_make_dir, may_make_file_in, may_append_in, may_sync_in, may_make_entry, may_sync_entry, of_making, has_file_among, spares_deleted_pod}
+use Rattle.dir_rules.specs.Conforms.{seen_of, seen_after, seen_replied, seen_after_event, nothing_seen}
 use Rattle.dir_rules.proofs.Tied.{seen_after-append}
 use Rattle.lifecycle.specs.Executions.{IsConforming}
+use Rattle.folder_contents.proofs.Untouched.{here_site}
 use Rattle.impossible_replies.specs.Replies.{is_of_making}
 use Rattle.impossible_replies.proofs.Alongside.{steps}
 use Rattle.impossible_replies.proofs.MakersReplies.{none_lost}
@@ -118,7 +119,7 @@ module _ (me : ℕ) (spot : Spot) where
   kept : (s : Seen) (more : List Event) → AllByRecursion (λ e. (is_foreign me e || is_change e.request) ≡ true) more → makes_at s.making spot ≡ true →
       makes_at (seen_after me s more).making spot ≡ true
   kept s [] all makes = makes
-  kept s (e ∷ es) all makes = kept (saw me s e) es all.1 (by (is_foreign me e) all.0)
+  kept s (e ∷ es) all makes = kept (seen_after_event me s e) es all.1 (by (is_foreign me e) all.0)
     where
       by : (b : Bool) → (b || is_change e.request) ≡ true → makes_at (cond b s (seen_replied s e.request e.reply)).making spot ≡ true
       by true x = makes
@@ -168,35 +169,30 @@ is_building (AppendIn inner piece) = not (is_in Run inner.spot.area)
 is_building (SyncIn inner) = not (is_in Run inner.spot.area)
 is_building request = false
 
-makes_area : (s : Seen) (spot : Spot) (a : Area) → makes_here s spot a ≡ true → makes_at s.making spot ≡ true
-makes_area s spot Prepare here = and_left (makes_at s.making spot) _ here
-makes_area s spot Incoming here = and_left (makes_at s.making spot) _ here
-makes_area s spot a here = cc
-
 file_area : (s : Seen) (i : Inner) (a : Area) → not (is_in Run a) ≡ true → may_make_file_in s i a ≡ true → makes_at s.making i.spot ≡ true
 file_area s i Run off may = cc
-file_area s i a off may = makes_area s i.spot a (and_left (makes_here s i.spot a) (of_making (may_make_entry s true i) s.making) may)
+file_area s i a off may = here_site s i.spot a (and_left (makes_here s i.spot a) (of_making (may_make_entry s true i) s.making) may)
 
 append_area : (s : Seen) (i : Inner) (a : Area) → not (is_in Run a) ≡ true → may_append_in s i a ≡ true → makes_at s.making i.spot ≡ true
 append_area s i Run off may = cc
-append_area s i a off may = makes_area s i.spot a (and_left (makes_here s i.spot a) (of_making (λ m. has_file i.path m.entries) s.making) may)
+append_area s i a off may = here_site s i.spot a (and_left (makes_here s i.spot a) (of_making (λ m. has_file_among i.path m.entries) s.making) may)
 
 sync_area : (s : Seen) (i : Inner) (a : Area) → not (is_in Run a) ≡ true → may_sync_in s i a ≡ true → makes_at s.making i.spot ≡ true
 sync_area s i Run off may = cc
-sync_area s i a off may = makes_area s i.spot a (and_left (makes_here s i.spot a) (of_making (may_sync_entry i) s.making) may)
+sync_area s i a off may = here_site s i.spot a (and_left (makes_here s i.spot a) (of_making (may_sync_entry i) s.making) may)
 
 -- what the rules allow of these is about the folder that the process makes
 pub building_its : (s : Seen) (request : Request) → is_building request ≡ true → allows s request ≡ true → is_of_making s (folder_of request) ≡ true
 building_its s (MakeDirIn i) on may =
-    makes_area s i.spot i.spot.area (and_left (makes_here s i.spot i.spot.area) _ (and_left (may_make_dir s i) (spares s i)
-    (and_right (may_ask s.standing (MakeDirIn i)) (may_change s (MakeDirIn i)) may)))
+    here_site s i.spot i.spot.area (and_left (makes_here s i.spot i.spot.area) _ (and_left (may_make_dir s i) (spares_deleted_pod s i)
+    (and_right (lock_rules_allow s.standing (MakeDirIn i)) (content_rules_allow s (MakeDirIn i)) may)))
 building_its s (MakeFileIn i) on may =
-    file_area s i i.spot.area on (and_left (may_make_file_in s i i.spot.area) (spares s i) (and_right (may_ask s.standing (MakeFileIn i)) (may_change s (MakeFileIn i)) may))
+    file_area s i i.spot.area on (and_left (may_make_file_in s i i.spot.area) (spares_deleted_pod s i) (and_right (lock_rules_allow s.standing (MakeFileIn i)) (content_rules_allow s (MakeFileIn i)) may))
 building_its s (AppendIn i piece) on may =
-    append_area s i i.spot.area on (and_left (may_append_in s i i.spot.area) (spares s i)
-    (and_right (may_ask s.standing (AppendIn i piece)) (may_change s (AppendIn i piece)) may))
+    append_area s i i.spot.area on (and_left (may_append_in s i i.spot.area) (spares_deleted_pod s i)
+    (and_right (lock_rules_allow s.standing (AppendIn i piece)) (content_rules_allow s (AppendIn i piece)) may))
 building_its s (SyncIn i) on may =
-    sync_area s i i.spot.area on (and_left (may_sync_in s i i.spot.area) (spares s i) (and_right (may_ask s.standing (SyncIn i)) (may_change s (SyncIn i)) may))
+    sync_area s i i.spot.area on (and_left (may_sync_in s i i.spot.area) (spares_deleted_pod s i) (and_right (lock_rules_allow s.standing (SyncIn i)) (content_rules_allow s (SyncIn i)) may))
 building_its s request on may = cc
 
 on_change : (request : Request) → is_building request ≡ true → (is_kill request ≡ false) × (is_begin request ≡ false)

@@ -4,6 +4,8 @@ use Rattle.std.specs.List.{list_any}
 use Rattle.std.proofs.lemmas.Bool.Decides.{nat_tests}
 use Rattle.std.proofs.lemmas.Grind.{common_steps}
 use Rattle.std.proofs.lemmas.Slice.Eq.{bytes_eq-Decides}
+use Rattle.std.proofs.lemmas.Bool.{and_parts}
+use Rattle.plain_laws.proofs.Booleans.{clash}
 use Rattle.dir_model.specs.declared.area.Area.{Area}
 use Rattle.dir_model.specs.declared.area.Area.TheVariants as area
 use Rattle.dir_model.specs.declared.event.Event.{Event}
@@ -29,11 +31,10 @@ use Rattle.dir_rules.specs.Anomalies.{most_path, loses_directory, is_foreign_wri
 use Rattle.dir_rules.specs.Conforms.{seen_of}
 use Rattle.dir_rules.specs.LockRules.{may_remove, is_removal_held, is_removal_target}
 use Rattle.dir_rules.specs.Marks.{path_in}
-use Rattle.dir_rules.specs.Rules.{deletes, is_deleting, is_file_item, shows}
+use Rattle.dir_rules.specs.Rules.{deletes, is_deleting, is_file_item, is_item_shown}
 use Rattle.dir_rules.specs.Seen.{is_item_at}
 use Rattle.dir_rules.specs.Standing.{is_in, is_own_held, is_garbage, area_of}
 use Rattle.lifecycle.specs.Executions.{IsConforming}
-use Rattle.lifecycle.proofs.Handles.{both, clash}
 use Rattle.lifecycle.proofs.Lists.{any_in, in_any}
 use Rattle.folder_contents.proofs.Spots.{one_location}
 use Rattle.impossible_replies.proofs.Alongside.{Steps, steps}
@@ -44,7 +45,7 @@ use Rattle.impossible_replies.proofs.Removers.{under_lock}
 
 -- a directory that a listing had shown is missing
 pub listing_at_app : (h : List Event) (p : ℕ) (inner : Inner) (left : ℕ) → IsConforming (h ++ event p (ListIn inner) (Refused Missing left) ∷ []) →
-    shows (λ k. not (is_file_item k)) inner (seen_of p h).items ≡ true → is_foreign_write (state_after h) (seen_of p h) (ListIn inner) (Refused Missing left) ≡ true
+    is_item_shown (λ k. not (is_file_item k)) inner (seen_of p h).items ≡ true → is_foreign_write (state_after h) (seen_of p h) (ListIn inner) (Refused Missing left) ≡ true
 listing_at_app h p inner left c shown = by (is_apps_request (state_after h) (ListIn inner)) refl
   where
     x : Steps h p (ListIn inner) (Refused Missing left)
@@ -66,7 +67,7 @@ listing_at_app h p inner left c shown = by (is_apps_request (state_after h) (Lis
     -- the lock that a removal in a garbage place needs is the pod's own
     owned : (t : Target) (a : Area) → a ≡ inner.spot.area → is_run_or_later a ≡ true → is_removal_target inner.spot t ≡ true → (is_own_of inner.spot.name t ≡ true) × (is_garbage (area_of t) ≡ true)
     owned (Own here) a same on h =
-        let y = both (is_garbage inner.spot.area) (spot_eq here inner.spot) h in
+        let y = and_parts (is_garbage inner.spot.area) (spot_eq here inner.spot) h in
         let is : here ≡ inner.spot = one_location here inner.spot y.1 in (
           and_both (is_stage here.area) (bytes_eq here.name inner.spot.name) (ap (λ (s : Spot). is_stage s.area) is ∙ staged inner.spot.area y.0) ((bytes_eq-Decides here.name inner.spot.name).1 (ap (λ (s : Spot). s.name) is)),
           ap (λ (s : Spot). is_garbage s.area) is ∙ y.0,
@@ -88,14 +89,14 @@ listing_at_app h p inner left c shown = by (is_apps_request (state_after h) (Lis
     deleting : is_run_or_later inner.spot.area ≡ true → deletes (seen_of p h) inner.spot.name ≡ true
     deleting on =
         let e = any_in (is_removal_held inner.spot) (seen_of p h).standing.holdings lock in
-        let y = both (is_exclusive e.0.lock) (is_removal_target inner.spot e.0.target) e.1.1 in
+        let y = and_parts (is_exclusive e.0.lock) (is_removal_target inner.spot e.0.target) e.1.1 in
         let o = owned e.0.target inner.spot.area refl on y.1 in
         in_any (is_deleting inner.spot.name) e.0 (seen_of p h).standing.holdings e.1.0
         (and_both (is_own_held inner.spot.name e.0) (is_garbage (area_of e.0.target)) (and_both (is_own_of inner.spot.name e.0.target) (is_exclusive e.0.lock) o.0 y.0) o.1)
 
     by : (b : Bool) → is_apps_request (state_after h) (ListIn inner) ≡ b → is_foreign_write (state_after h) (seen_of p h) (ListIn inner) (Refused Missing left) ≡ true
     by false plain = absurd (directory_found h p (all_told h x.conforming p x.living) x.conforming inner left plain x.is shown)
-    by true app = foreign (and_both (deletes (seen_of p h) inner.spot.name) (shows (λ k. not (is_file_item k)) inner (seen_of p h).items) (deleting (later app)) shown)
+    by true app = foreign (and_both (deletes (seen_of p h) inner.spot.name) (is_item_shown (λ k. not (is_file_item k)) inner (seen_of p h).items) (deleting (later app)) shown)
       where
         foreign : loses_directory (seen_of p h) (ListIn inner) (Refused Missing left) ≡ true → is_foreign_write (state_after h) (seen_of p h) (ListIn inner) (Refused Missing left) ≡ true
         foreign l = ap (λ (b : Bool). (true && false) || (b || false)) l

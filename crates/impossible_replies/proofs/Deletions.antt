@@ -1,7 +1,12 @@
 -- While a process may remove in a folder, what it has listed there is what stands there: through each step.
-use Rattle.std.proofs.Common.{◌≡◌, ◌⊎◌, inl, inr, ℕ, zero, suc, ◌+◌, Bool, true, false, not, ◌&&◌, ◌||◌, ◌==◌, cond, bytes_eq, Option, Some, None, is_some, unwrap_or, option_to_list, List, [], ◌∷◌, ◌++◌, length, drop, map, filter, append-nil, refl, sym, ap, subst, ◌∙◌}
+use Rattle.std.proofs.Common.{◌≡◌, ◌⊎◌, inl, inr, ℕ, zero, suc, ◌+◌, Bool, true, false, not, ◌&&◌, ◌||◌, ◌==◌, cond, bytes_eq, Option, Some, None, is_some, option_to_list, List, [], ◌∷◌, ◌++◌, length, drop, map, filter, append-nil, refl, sym, ap, subst, ◌∙◌}
 use Rattle.std.specs.List.{list_any, list_all}
 use Rattle.std.proofs.Math.Path.{ap₂}
+use Rattle.std.proofs.lemmas.Bool.{or_left, and_parts}
+use Rattle.plain_laws.proofs.Booleans.{clash}
+use Rattle.plain_laws.proofs.Texts.{same_text, not_empty}
+use Rattle.plain_laws.proofs.Lists.{any_left}
+use Rattle.plain_laws.proofs.Numbers.{one_number}
 use Rattle.dir_model.specs.declared.item.Inner.{Inner}
 use Rattle.dir_model.specs.declared.item.Item.{Item}
 use Rattle.dir_model.specs.declared.item.ItemKind.{ItemKind}
@@ -23,30 +28,32 @@ use Rattle.dir_model.specs.declared.request.Reply.{Reply}
 use Rattle.dir_model.specs.declared.request.Reply.TheVariants.{Done, Begun, Opened, Names, Items, Read, Refused}
 use Rattle.dir_model.specs.Paths.{is_empty, behind, is_directly_in, lies_below}
 use Rattle.dir_model.specs.Trees.{is_dir, is_entry, is_dir_entry, is_file_entry, has_dir, has_file, has_children, has_parent, is_parent_entry, kind_of, items_in, is_apps_own, is_within, without_path}
-use Rattle.dir_model.specs.Listings.{is_listing_request, is_listing, is_of, is_named, has_named, has_item, is_item, kind_number, is_inner, noted, noted_by, noted_all, begun, begun_at, without_listing, listing_of, shows_items, shows_inside, item_names, ascend}
+use Rattle.dir_model.specs.Listings.{is_listing_request, is_listing, is_listing_of, is_named, has_named, has_item, is_item, kind_number, is_inner, listing_noted, noted_by, noted_all, listing_begun, begun_at, without_listing, listing_of, shows_items, shows_inside, item_names, ascend}
 use Rattle.dir_model.specs.State.{DirState, folder_at, spot_eq, lives, has_begun}
 use Rattle.dir_model.specs.Trace.{state_next, state_after, listings_replied, listings_ended, removed_in, app_started}
 use Rattle.dir_model.specs.Replies.{is_reply, is_any_reply, is_apps_request, is_own_at, refused_in, file_refusal, dir_refusal}
 use Rattle.dir_model.specs.Calls.{is_begin, is_kill, is_foreign, event}
-use Rattle.dir_model.proofs.Lists.{and_left, and_right, and_both, not_true, or_last, any_filter, same_self}
+use Rattle.dir_model.proofs.Lists.{and_left, and_right, and_both, not_true, or_last, any_filter, same_self, same_number}
 use Rattle.dir_model.proofs.Spots.{spot_self}
 use Rattle.dir_rules.specs.declared.seen.Entry.{Entry}
 use Rattle.dir_rules.specs.declared.seen.Seen.{Seen}
 use Rattle.dir_rules.specs.declared.seen.ShownItem.{ShownItem}
 use Rattle.dir_rules.specs.Marks.{parent, path_in}
-use Rattle.dir_rules.specs.Seen.{learned, inner_eq, is_item_at, stands_in, shown_in, with_items}
+use Rattle.dir_rules.specs.Seen.{learned, inner_eq, is_item_at, is_item_in, shown_in, with_items}
 use Rattle.dir_rules.specs.Standing.{gives_up}
 use Rattle.dir_rules.specs.LockRules.{may_remove, is_removal_held}
 use Rattle.dir_rules.specs.Rules as rules
-use Rattle.dir_rules.specs.Rules.{allows, may_change, is_file_item}
+use Rattle.dir_rules.specs.Rules.{allows, content_rules_allow, is_file_item}
 use Rattle.dir_rules.specs.Conforms.{seen_of, seen_replied, nothing_seen}
 use Rattle.lifecycle.specs.Executions.{IsConforming}
-use Rattle.lifecycle.proofs.Lists.{In, in_map, map_in, in_filter, filter_in, any_in, in_any, find_in, or_left}
-use Rattle.lifecycle.proofs.Handles.{both, clash, nat_same, none_refused}
-use Rattle.lifecycle.proofs.Places.{name_same, same_name}
+use Rattle.lifecycle.proofs.Lists.{In, in_map, map_in, in_filter, filter_in, any_in, in_any, find_in}
+use Rattle.lifecycle.proofs.Handles.{none_refused}
+use Rattle.lifecycle.proofs.Places.{same_name}
+use Rattle.lifecycle.proofs.Linked.{in_both, in_second}
 use Rattle.folder_contents.specs.Entries.{entries_in}
 use Rattle.dir_rules.proofs.Unborn.{unborn_saw_nothing}
 use Rattle.dir_model.proofs.Chains.{state_after-push}
+use Rattle.dir_laws.proofs.Paths.{below_from}
 use Rattle.folder_contents.proofs.Along.{Happens, happens, whose, foreign_same, own_next, along}
 use Rattle.folder_contents.proofs.Knowledge.{lived}
 use Rattle.folder_contents.proofs.Known.{alive_at}
@@ -54,40 +61,27 @@ use Rattle.folder_contents.proofs.Spots.{one_location}
 use Rattle.folder_contents.proofs.Names.{dir_of}
 use Rattle.impossible_replies.proofs.Turns.{lists_at_once}
 use Rattle.impossible_replies.proofs.Alongside.{Steps, steps}
-use Rattle.impossible_replies.proofs.Parents.{below_from, longer, path_again}
+use Rattle.impossible_replies.proofs.Parents.{path_again}
 use Rattle.impossible_replies.proofs.AppRoots.{root_unowned}
-use Rattle.impossible_replies.proofs.Lengths.{in_two}
 use Rattle.impossible_replies.proofs.LongItems.{of_all, shows_by, shows_so}
 use Rattle.impossible_replies.proofs.Shapes.{Shape, parts_of, direct_parent, within_below, below_directly, shaped}
 use Rattle.impossible_replies.proofs.Removers.{removing_place, one_remover, removes_at, stands_on, holds_on, UnderLock, under_lock}
 use Rattle.impossible_replies.proofs.Told.{entry_in, in_entry, InsideTold, begun_told, noted_told, told_on, stands_as, ItemStands, item_at, ShowsAll, DirTold, MissingTold, OpenTold, Told, listing_from}
 
--- what is a started app's own stays so, and so is all below it
-any_more : {X : Type 0} (t : X → Bool) (xs ys : List X) → list_any t xs ≡ true → list_any t (xs ++ ys) ≡ true
-any_more t [] ys h = cc
-any_more t (x ∷ xs) ys h = by (t x) refl h (any_more t xs ys)
-  where
-    by : (b : Bool) → t x ≡ b → (b || list_any t xs) ≡ true → (list_any t xs ≡ true → list_any t (xs ++ ys) ≡ true) → (t x || list_any t (xs ++ ys)) ≡ true
-    by true e h go = or_left (t x) (list_any t (xs ++ ys)) e
-    by false e h go = or_last (t x) (list_any t (xs ++ ys)) (go h)
-
 pub own_on : (st : DirState) (e : Event) (f : ℕ) (path : List ℕ) → is_apps_own st.apps f path ≡ true → is_apps_own (state_next st e).apps f path ≡ true
-own_on st e f path h = any_more (λ a. (a.folder == f) && is_within a.root path) st.apps (option_to_list (app_started st.namespace e.request e.reply)) h
+own_on st e f path h = any_left (λ a. (a.folder == f) && is_within a.root path) st.apps (option_to_list (app_started st.namespace e.request e.reply)) h
 
 pub own_below : (apps : List StartedApp) (f : ℕ) (p x : List ℕ) → lies_below x p ≡ true → is_apps_own apps f p ≡ true → is_apps_own apps f x ≡ true
 own_below apps f p x below h =
     let a = any_in (λ a. (a.folder == f) && is_within a.root p) apps h in
-    let b = both (a.0.folder == f) (is_within a.0.root p) a.1.1 in
+    let b = and_parts (a.0.folder == f) (is_within a.0.root p) a.1.1 in
     in_any (λ a. (a.folder == f) && is_within a.root x) a.0 apps a.1.0 (and_both (a.0.folder == f) (is_within a.0.root x) b.0 (within_below a.0.root p x below b.1))
-
-pub one_number : (f g : ℕ) → Some f ≡ Some g → f ≡ g
-one_number f g e = ap (λ o. unwrap_or o f) e
 
 -- an item at a location and path
 pub at_parts : (i : Inner) (z : ShownItem) → is_item_at i z ≡ true → (z.inner.spot ≡ i.spot) × (z.inner.path ≡ i.path)
 at_parts i z h =
-    let x = both (spot_eq z.inner.spot i.spot) (bytes_eq z.inner.path i.path) h in
-    (one_location z.inner.spot i.spot x.0, name_same z.inner.path i.path x.1)
+    let x = and_parts (spot_eq z.inner.spot i.spot) (bytes_eq z.inner.path i.path) h in
+    (one_location z.inner.spot i.spot x.0, same_text z.inner.path i.path x.1)
 
 -- a step that leaves the folder there, and what it holds, leaves what is known of it
 abbrev Stills : DirState → DirState → Seen → Type 0
@@ -135,7 +129,7 @@ module _ (st : DirState) (e : Event) where
       let y = still here.spot f may x.there in
       told_on st next here f through ever y.0 y.1 x
 
-pub noted_open : (st : DirState) → Shape st.entries → (s : Seen) (l : Listed) → OpenTold st s l → OpenTold st s (noted st l)
+pub noted_open : (st : DirState) → Shape st.entries → (s : Seen) (l : Listed) → OpenTold st s l → OpenTold st s (listing_noted st l)
 noted_open st shape s (listed.Area a through ever) t = tt
 noted_open st shape s (listed.Missing here) t = t
 noted_open st shape s (listed.Inside here f through ever) t = λ may. noted_told st shape here f through ever (t may)
@@ -143,9 +137,9 @@ noted_open st shape s (listed.Inside here f through ever) t = λ may. noted_told
 -- who asks for a removal there may remove there
 remover : (g : Seen) (here : Spot) (request : Request) → removes_at here request ≡ true → allows g request ≡ true →
     (may_remove g.standing here ≡ true) × ((is_kill request ≡ false) × (is_begin request ≡ false))
-remover g here (RemoveFileIn i) at may = (subst (λ (z : Spot). may_remove g.standing z ≡ true) (sym (one_location here i.spot at)) (and_left (may_remove g.standing i.spot) (may_change g (RemoveFileIn i)) may), (refl, refl))
-remover g here (RemoveDirIn i) at may = (subst (λ (z : Spot). may_remove g.standing z ≡ true) (sym (one_location here i.spot at)) (and_left (may_remove g.standing i.spot) (may_change g (RemoveDirIn i)) may), (refl, refl))
-remover g here (RemoveFolder gone) at may = (subst (λ (z : Spot). may_remove g.standing z ≡ true) (sym (one_location here gone at)) (and_left (may_remove g.standing gone) (may_change g (RemoveFolder gone)) may), (refl, refl))
+remover g here (RemoveFileIn i) at may = (subst (λ (z : Spot). may_remove g.standing z ≡ true) (sym (one_location here i.spot at)) (and_left (may_remove g.standing i.spot) (content_rules_allow g (RemoveFileIn i)) may), (refl, refl))
+remover g here (RemoveDirIn i) at may = (subst (λ (z : Spot). may_remove g.standing z ≡ true) (sym (one_location here i.spot at)) (and_left (may_remove g.standing i.spot) (content_rules_allow g (RemoveDirIn i)) may), (refl, refl))
+remover g here (RemoveFolder gone) at may = (subst (λ (z : Spot). may_remove g.standing z ≡ true) (sym (one_location here gone at)) (and_left (may_remove g.standing gone) (content_rules_allow g (RemoveFolder gone)) may), (refl, refl))
 remover g here request at may = cc
 
 no_kill_removal : (here : Spot) (request : Request) → is_kill request ≡ true → removes_at here request ≡ false
@@ -156,7 +150,7 @@ abbrev process_of : Option OpenListing → ℕ
 process_of None = 0
 process_of (Some l) = l.process
 
-begun_by : (st : DirState) (q : ℕ) (request : Request) (l : OpenListing) → begun st q request ≡ Some l → (l.process ≡ q) × (is_kill request ≡ false)
+pub begun_by : (st : DirState) (q : ℕ) (request : Request) (l : OpenListing) → listing_begun st q request ≡ Some l → (l.process ≡ q) × (is_kill request ≡ false)
 begun_by st q (ListArea a) l is = (ap (λ (o : Option OpenListing). process_of o) (sym is), refl)
 begun_by st q (ListIn inner) l is = (ap (λ (o : Option OpenListing). process_of o) (sym is), refl)
 begun_by st q request l is = cc
@@ -200,11 +194,11 @@ module _ (h : List Event) (e : Event) (c : IsConforming (h ++ e ∷ [])) (p : �
   }
     where
       by : (l : OpenListing) → l.process ≡ p → (In l st.listings ⊎ ((l0 : OpenListing) × (In l0 st.listings × (l ≡ noted_by st l0)))) ⊎
-          ((e.reply ≡ Begun) × (begun st e.process e.request ≡ Some l)) → OpenTold (state_next st e) s l.listed
+          ((e.reply ≡ Begun) × (listing_begun st e.process e.request ≡ Some l)) → OpenTold (state_next st e) s l.listed
       by l is (inl (inl i)) = open_on st e s still l.listed (told.opened l i is)
       by l is (inl (inr (l0, (i, same)))) =
           subst (λ (z : OpenListing). OpenTold (state_next st e) s z.listed) (sym same)
-          (open_on st e s still (noted st l0.listed) (noted_open st (shaped h x.conforming) s l0.listed
+          (open_on st e s still (listing_noted st l0.listed) (noted_open st (shaped h x.conforming) s l0.listed
           (told.opened l0 i (ap (λ (z : OpenListing). z.process) (sym same) ∙ is))))
       by l is (inr (begins, opens)) =
           let b = begun_by st e.process e.request l opens in
@@ -213,10 +207,6 @@ module _ (h : List Event) (e : Event) (c : IsConforming (h ++ e ∷ [])) (p : �
 
 abbrev inner_at : Spot → List ℕ → Inner
 inner_at spot path = record { spot = spot; path = path }
-
-in_last : {X : Type 0} (x : X) (xs ys : List X) → In x ys → In x (xs ++ ys)
-in_last x [] ys i = i
-in_last x (z ∷ xs) ys i = inr (in_last x xs ys i)
 
 -- its own step
 abbrev none_left : List ℕ
@@ -279,22 +269,22 @@ standing_entry : (k : ItemKind) (path : List ℕ) (es : List Entry) → stands_a
     (y : Entry) × (In y es × ((y.path ≡ path) × (((is_file_item k && not (rules.is_dir y.node)) || (not (is_file_item k) && rules.is_dir y.node)) ≡ true)))
 standing_entry k path es h = by (is_file_item k) refl h
   where
-    by : (b : Bool) → is_file_item k ≡ b → cond b (rules.has_file path es) (rules.has_dir path es) ≡ true →
+    by : (b : Bool) → is_file_item k ≡ b → cond b (rules.has_file_among path es) (rules.has_dir_among path es) ≡ true →
         (y : Entry) × (In y es × ((y.path ≡ path) × (((b && not (rules.is_dir y.node)) || (not b && rules.is_dir y.node)) ≡ true)))
     by true e h =
         let y = any_in (λ e. not (rules.is_dir e.node) && bytes_eq e.path path) es h in
-        let z = both (not (rules.is_dir y.0.node)) (bytes_eq y.0.path path) y.1.1 in
-        (y.0, (y.1.0, (name_same y.0.path path z.1, or_left (not (rules.is_dir y.0.node)) false z.0)))
+        let z = and_parts (not (rules.is_dir y.0.node)) (bytes_eq y.0.path path) y.1.1 in
+        (y.0, (y.1.0, (same_text y.0.path path z.1, or_left (not (rules.is_dir y.0.node)) false z.0)))
     by false e h =
         let y = any_in (λ e. rules.is_dir e.node && bytes_eq e.path path) es h in
-        let z = both (rules.is_dir y.0.node) (bytes_eq y.0.path path) y.1.1 in
-        (y.0, (y.1.0, (name_same y.0.path path z.1, z.0)))
+        let z = and_parts (rules.is_dir y.0.node) (bytes_eq y.0.path path) y.1.1 in
+        (y.0, (y.1.0, (same_text y.0.path path z.1, z.0)))
 
 entry_stands : (k : ItemKind) (path : List ℕ) (es : List Entry) (y : Entry) → In y es → y.path ≡ path →
     ((is_file_item k && not (rules.is_dir y.node)) || (not (is_file_item k) && rules.is_dir y.node)) ≡ true → stands_as k path es ≡ true
 entry_stands k path es y i same kind = by (is_file_item k) kind
   where
-    by : (b : Bool) → ((b && not (rules.is_dir y.node)) || (not b && rules.is_dir y.node)) ≡ true → cond b (rules.has_file path es) (rules.has_dir path es) ≡ true
+    by : (b : Bool) → ((b && not (rules.is_dir y.node)) || (not b && rules.is_dir y.node)) ≡ true → cond b (rules.has_file_among path es) (rules.has_dir_among path es) ≡ true
     by true h = in_any (λ e. not (rules.is_dir e.node) && bytes_eq e.path path) y es i
         (and_both (not (rules.is_dir y.node)) (bytes_eq y.path path) (left (not (rules.is_dir y.node)) h) (same_name y.path path same))
       where
@@ -445,7 +435,7 @@ module _ (h : List Event) (p : ℕ) (told : Told (state_after h) p (seen_of p h)
             below lies false plain =
                 let w = in_entry t.folder y st1.entries k in
                 absurd (r.bare t.folder at plain
-                (below_directly st1.entries shape1 t.folder j.path w.0 w.1.0 (nat_same w.0.folder t.folder w.1.1.0) (some (is_empty j.path) refl)
+                (below_directly st1.entries shape1 t.folder j.path w.0 w.1.0 (same_number w.0.folder t.folder w.1.1.0) (some (is_empty j.path) refl)
                 (ap (λ (z : Entry). lies_below z.path j.path) (sym w.1.1.1) ∙ lies)))
               where
                 some : (b : Bool) → is_empty j.path ≡ b → is_empty j.path ≡ false
@@ -571,7 +561,7 @@ module _ (h : List Event) (p : ℕ) (told : Told (state_after h) p (seen_of p h)
     }
       where
         parts : (list_all (has_named new) through ≡ true) × (list_all (has_item (through ++ ever)) new ≡ true)
-        parts = both (list_all (has_named new) through) (list_all (has_item (through ++ ever)) new)
+        parts = and_parts (list_all (has_named new) through) (list_all (has_item (through ++ ever)) new)
             (and_right (ascend (item_names new)) (list_all (has_named new) through && list_all (has_item (through ++ ever)) new) shows)
 
         path : here.path ≡ inner.path
@@ -581,9 +571,9 @@ module _ (h : List Event) (p : ℕ) (told : Told (state_after h) p (seen_of p h)
             (((is_file_item item.kind && not (rules.is_dir y.node)) || (not (is_file_item item.kind) && rules.is_dir y.node)) ≡ true)))
         only item i =
             let z = any_in (is_item item) (through ++ ever) (of_all (has_item (through ++ ever)) item new i parts.1) in
-            let w = both (bytes_eq z.0.name item.name) (kind_number z.0.kind == kind_number item.kind) z.1.1 in
-            let y = t.noted z.0 (in_two z.0 through ever z.1.0) in
-            let name : z.0.name ≡ item.name = name_same z.0.name item.name w.0 in (
+            let w = and_parts (bytes_eq z.0.name item.name) (kind_number z.0.kind == kind_number item.kind) z.1.1 in
+            let y = t.noted z.0 (in_both z.0 through ever z.1.0) in
+            let name : z.0.name ≡ item.name = same_text z.0.name item.name w.0 in (
               y.entry,
               (
                 y.there,
@@ -601,7 +591,7 @@ module _ (h : List Event) (p : ℕ) (told : Told (state_after h) p (seen_of p h)
             let here_direct : is_directly_in here.path y.path ≡ true = subst (λ (d : List ℕ). is_directly_in d y.path ≡ true) (sym path) direct in
             let z = any_in (is_named (behind here.path y.path)) through (t.all y i here_direct) in
             let w = any_in (is_named z.0.name) new (of_all (has_named new) z.0 through z.1.0 parts.0) in
-            let name : w.0.name ≡ behind here.path y.path = name_same w.0.name z.0.name w.1.1 ∙ name_same z.0.name (behind here.path y.path) z.1.1 in (
+            let name : w.0.name ≡ behind here.path y.path = same_text w.0.name z.0.name w.1.1 ∙ same_text z.0.name (behind here.path y.path) z.1.1 in (
               w.0,
               (
                 w.1.0,
@@ -619,9 +609,9 @@ module _ (h : List Event) (p : ℕ) (told : Told (state_after h) p (seen_of p h)
 
         inside : (l : Listed) → OpenTold st1 s1 l → shows_by inner new l ≡ true → Answer
         inside (listed.Inside here f through ever) t shows =
-            let y = both (is_inner here inner) (shows_items through ever new) shows in
-            let z = both (spot_eq here.spot inner.spot) (bytes_eq here.path inner.path) y.0 in
-            let same : here ≡ inner = ap₂ (λ (a : Spot) (b : List ℕ). inner_at a b) (one_location here.spot inner.spot z.0) (name_same here.path inner.path z.1) in
+            let y = and_parts (is_inner here inner) (shows_items through ever new) shows in
+            let z = and_parts (spot_eq here.spot inner.spot) (bytes_eq here.path inner.path) y.0 in
+            let same : here ≡ inner = ap₂ (λ (a : Spot) (b : List ℕ). inner_at a b) (one_location here.spot inner.spot z.0) (same_text here.path inner.path z.1) in
             plain_answer here f through ever same y.1 (t (subst (λ (w : Inner). may_remove s1.standing w.spot ≡ true) (sym same) may))
         inside (listed.Area a through ever) t shows = cc
         inside (listed.Missing here) t shows = cc
@@ -629,11 +619,11 @@ module _ (h : List Event) (p : ℕ) (told : Told (state_after h) p (seen_of p h)
         opened : (o : Option OpenListing) → listing_of st1 p ≡ o → shows_inside inner new o ≡ true → Answer
         opened None e shows = cc
         opened (Some l) e shows =
-            let f = find_in (is_of p) l (noted_all st1 st1.listings) e in
+            let f = find_in (is_listing_of p) l (noted_all st1 st1.listings) e in
             let g = in_map (noted_by st1) st1.listings l f.0 in
             inside l.listed
             (subst (λ (z : OpenListing). OpenTold st1 s1 z.listed) (sym g.1.1)
-            (noted_open st1 shape1 s1 g.0.listed (told.opened g.0 g.1.0 (ap (λ (z : OpenListing). z.process) (sym g.1.1) ∙ nat_same l.process p f.1))))
+            (noted_open st1 shape1 s1 g.0.listed (told.opened g.0 g.1.0 (ap (λ (z : OpenListing). z.process) (sym g.1.1) ∙ same_number l.process p f.1))))
             (sym (shows_so inner new l) ∙ shows)
 
         by : (b : Bool) → is_apps_request st1 (ListIn inner) ≡ b → Answer
@@ -654,7 +644,7 @@ module _ (h : List Event) (p : ℕ) (told : Told (state_after h) p (seen_of p h)
       where
         by : (d : List ℕ) → is_apps_own st1.apps f d ≡ true → is_apps_own st1.apps f (path_in d name) ≡ true
         by [] own = clash (is_apps_own st1.apps f []) own (root_unowned h f)
-        by (b ∷ d) own = own_below st1.apps f (b ∷ d) ((b ∷ d) ++ 47 ∷ name) (below_from (b ∷ d) name (longer b d)) own
+        by (b ∷ d) own = own_below st1.apps f (b ∷ d) ((b ∷ d) ++ 47 ∷ name) (below_from (b ∷ d) name (not_empty b d)) own
 
     list_still : (here : Spot) (f : ℕ) → folder_at st1.namespace here ≡ Some f →
         (folder_at (state_next st1 (event p (ListIn inner) (Items new))).namespace here ≡ Some f) ×
@@ -687,7 +677,7 @@ module _ (h : List Event) (p : ℕ) (told : Told (state_after h) p (seen_of p h)
         by (inr (only, all)) = inr (λ y i direct.
             let item = all y i direct in
             in_any (item_at inner.spot y.path) (shown_in inner item.0) listed_items
-            (in_last (shown_in inner item.0) (filter (λ i. not (stands_in inner i)) s1.items) (map (shown_in inner) new) (map_in (shown_in inner) item.0 new item.1.0))
+            (in_second (shown_in inner item.0) (filter (λ i. not (is_item_in inner i)) s1.items) (map (shown_in inner) new) (map_in (shown_in inner) item.0 new item.1.0))
             (and_both (spot_eq inner.spot inner.spot) (bytes_eq (path_in inner.path item.0.name) y.path) (spot_self inner.spot)
             (same_name (path_in inner.path item.0.name) y.path item.1.1)))
 
@@ -698,38 +688,38 @@ module _ (h : List Event) (p : ℕ) (told : Told (state_after h) p (seen_of p h)
       told = by t.folder t.told;
     }
       where
-        stays : (y : Entry) → is_directly_in other.path y.path ≡ true → (w : ShownItem) → item_at other.spot y.path w ≡ true → not (stands_in inner w) ≡ true
-        stays y direct w hit = on (stands_in inner w) refl
+        stays : (y : Entry) → is_directly_in other.path y.path ≡ true → (w : ShownItem) → item_at other.spot y.path w ≡ true → not (is_item_in inner w) ≡ true
+        stays y direct w hit = on (is_item_in inner w) refl
           where
-            on : (b : Bool) → stands_in inner w ≡ b → not b ≡ true
+            on : (b : Bool) → is_item_in inner w ≡ b → not b ≡ true
             on false e = refl
             on true e =
                 let a = at_parts (record { spot = other.spot; path = y.path }) w hit in
-                let b = both (spot_eq w.inner.spot inner.spot) (bytes_eq (parent w.inner.path) inner.path) e in
+                let b = and_parts (spot_eq w.inner.spot inner.spot) (bytes_eq (parent w.inner.path) inner.path) e in
                 clash (inner_eq other inner)
                 (and_both (spot_eq other.spot inner.spot) (bytes_eq other.path inner.path) (subst (λ (z : Spot). spot_eq z inner.spot ≡ true) a.0 b.0)
                 (same_name other.path inner.path (sym (direct_parent other.path y.path direct)
-                ∙ (ap parent (sym a.1) ∙ name_same (parent w.inner.path) inner.path b.1)))) apart
+                ∙ (ap parent (sym a.1) ∙ same_text (parent w.inner.path) inner.path b.1)))) apart
 
         by : (f : ℕ) → (is_apps_own st1.apps f other.path ≡ true) ⊎ ShowsAll st1 f s1.items other →
             (is_apps_own st1.apps f other.path ≡ true) ⊎ ShowsAll st1 f listed_items other
         by f (inl own) = inl own
         by f (inr all) = inr (λ y i direct.
-            any_more (item_at other.spot y.path) (filter (λ i. not (stands_in inner i)) s1.items) (map (shown_in inner) new)
-            (any_filter (item_at other.spot y.path) (λ i. not (stands_in inner i)) (stays y direct) s1.items (all y i direct)))
+            any_left (item_at other.spot y.path) (filter (λ i. not (is_item_in inner i)) s1.items) (map (shown_in inner) new)
+            (any_filter (item_at other.spot y.path) (λ i. not (is_item_in inner i)) (stays y direct) s1.items (all y i direct)))
 
     pub listing_told : ToldAfter (ListIn inner) (Items new)
     listing_told = (
-      λ i j. item_by i (in_two i (filter (λ i. not (stands_in inner i)) s1.items) (map (shown_in inner) new)
+      λ i j. item_by i (in_both i (filter (λ i. not (is_item_in inner i)) s1.items) (map (shown_in inner) new)
           (subst (λ (b : Bool). In i (cond b (with_items inner new s1.items) s1.items)) may j)),
       λ other j.
           subst (λ (b : Bool). DirTold listed_after (cond b (with_items inner new s1.items) s1.items) other) (sym may)
           (dir_by other (subst (λ (b : Bool). In other (cond b (inner ∷ s1.listed) s1.listed)) may j)),
     )
       where
-        item_by : (i : ShownItem) → In i (filter (λ i. not (stands_in inner i)) s1.items) ⊎ In i (map (shown_in inner) new) → ItemStands listed_after i
+        item_by : (i : ShownItem) → In i (filter (λ i. not (is_item_in inner i)) s1.items) ⊎ In i (map (shown_in inner) new) → ItemStands listed_after i
         item_by i (inl j) =
-            let t = told.items i (in_filter (λ i. not (stands_in inner i)) i s1.items j).0 in
+            let t = told.items i (in_filter (λ i. not (is_item_in inner i)) i s1.items j).0 in
             item_on st1 (event p (ListIn inner) (Items new)) i t (list_still i.inner.spot t.folder t.there)
         item_by i (inr j) =
             let y = in_map (shown_in inner) new i j in
@@ -747,8 +737,8 @@ module _ (h : List Event) (p : ℕ) (told : Told (state_after h) p (seen_of p h)
             at : (b : Bool) → inner_eq other inner ≡ b → DirTold listed_after listed_items other
             at false e = next_dir other (old_dir other j e)
             at true e =
-                let z = both (spot_eq other.spot inner.spot) (bytes_eq other.path inner.path) e in
-                let same : other ≡ inner = ap₂ (λ (a : Spot) (b : List ℕ). inner_at a b) (one_location other.spot inner.spot z.0) (name_same other.path inner.path z.1) in
+                let z = and_parts (spot_eq other.spot inner.spot) (bytes_eq other.path inner.path) e in
+                let same : other ≡ inner = ap₂ (λ (a : Spot) (b : List ℕ). inner_at a b) (one_location other.spot inner.spot z.0) (same_text other.path inner.path z.1) in
                 subst (λ (z : Inner). DirTold listed_after listed_items z) (sym same) (next_dir inner new_dir)
 
   -- any step of its own
@@ -765,7 +755,7 @@ module _ (h : List Event) (p : ℕ) (told : Told (state_after h) p (seen_of p h)
       list_any t st1.entries ≡ true → ⊥
   no_entry f path empty t at h =
       let y = any_in t st1.entries h in
-      no_root st1.entries shape1 y.0 y.1.0 (ap is_empty (name_same y.0.path path (at y.0 y.1.1)) ∙ empty)
+      no_root st1.entries shape1 y.0 y.1.0 (ap is_empty (same_text y.0.path path (at y.0 y.1.1)) ∙ empty)
 
   file_gone : (j : Inner) (x : Steps h p (RemoveFileIn j) Done) (f : ℕ) → folder_at st1.namespace j.spot ≡ Some f → is_apps_own st1.apps f j.path ≡ false →
       has_file st1.entries f j.path ≡ true
@@ -861,11 +851,11 @@ module _ (h : List Event) (p : ℕ) (told : Told (state_after h) p (seen_of p h)
     where
       over : (request : Request) (l : OpenListing) → is_listing_request request ≡ true → In l (listings_ended st1 p request) → l.process ≡ p → ⊥
       over request l on i same = clash (l.process == p) (ap (λ q. q == p) same ∙ same_self p)
-          (not_true (l.process == p) (in_filter (λ z. not (is_of p z)) l st1.listings (subst (λ (b : Bool). In l (cond b (without_listing p st1.listings) st1.listings)) on i)).1)
+          (not_true (l.process == p) (in_filter (λ z. not (is_listing_of p z)) l st1.listings (subst (λ (b : Bool). In l (cond b (without_listing p st1.listings) st1.listings)) on i)).1)
   ends request (Items items) l on lists is i same = clash (l.process == p) (ap (λ q. q == p) same ∙ same_self p)
-      (not_true (l.process == p) (in_filter (λ z. not (is_of p z)) l st1.listings (subst (λ (b : Bool). In l (cond b (without_listing p st1.listings) st1.listings)) on i)).1)
+      (not_true (l.process == p) (in_filter (λ z. not (is_listing_of p z)) l st1.listings (subst (λ (b : Bool). In l (cond b (without_listing p st1.listings) st1.listings)) on i)).1)
   ends request (Refused error left) l on lists is i same = clash (l.process == p) (ap (λ q. q == p) same ∙ same_self p)
-      (not_true (l.process == p) (in_filter (λ z. not (is_of p z)) l st1.listings (subst (λ (b : Bool). In l (cond b (without_listing p st1.listings) st1.listings)) on i)).1)
+      (not_true (l.process == p) (in_filter (λ z. not (is_listing_of p z)) l st1.listings (subst (λ (b : Bool). In l (cond b (without_listing p st1.listings) st1.listings)) on i)).1)
   ends request Begun l on lists is i same = by (is_apps_request st1 request) is
     where
       by : (b : Bool) → cond b (is_listing_request request && not (is_listing st1 p)) (is_listing_request request && not (is_listing st1 p)) ≡ true → ⊥
@@ -931,10 +921,10 @@ module _ (h : List Event) (p : ℕ) (told : Told (state_after h) p (seen_of p h)
             ),
           )
           on (inr there) =
-              let dirs : rules.has_dir inner.path (entries_in f st1.entries) ≡ true =
-              subst (λ (q : List ℕ). rules.has_dir q (entries_in f st1.entries) ≡ true) same.1
-              (subst (λ (g : ℕ). rules.has_dir z.inner.path (entries_in g st1.entries) ≡ true) number
-              (sym (ap (λ b. cond b (rules.has_file z.inner.path (entries_in t.folder st1.entries)) (rules.has_dir z.inner.path (entries_in t.folder st1.entries))) dir) ∙ there)) in
+              let dirs : rules.has_dir_among inner.path (entries_in f st1.entries) ≡ true =
+              subst (λ (q : List ℕ). rules.has_dir_among q (entries_in f st1.entries) ≡ true) same.1
+              (subst (λ (g : ℕ). rules.has_dir_among z.inner.path (entries_in g st1.entries) ≡ true) number
+              (sym (ap (λ b. cond b (rules.has_file_among z.inner.path (entries_in t.folder st1.entries)) (rules.has_dir_among z.inner.path (entries_in t.folder st1.entries))) dir) ∙ there)) in
               clash (has_dir st1.entries f inner.path)
               (or_last (is_empty inner.path) (list_any (is_dir_entry f inner.path) st1.entries) (dir_of f inner.path st1.entries ∙ dirs)) off
 
@@ -945,7 +935,7 @@ module _ (h : List Event) (p : ℕ) (told : Told (state_after h) p (seen_of p h)
           (ap (entries_in f) (append-nil st1.entries)) (begun_told st1 shape1 inner f e)
       by false d = λ may. lost d
 
-  open_new : (request : Request) (l : OpenListing) → begun st1 p request ≡ Some l →
+  open_new : (request : Request) (l : OpenListing) → listing_begun st1 p request ≡ Some l →
       OpenTold (state_next st1 (event p request Begun)) (seen_replied s1 request Begun) l.listed
   open_new (ListArea a) l is = subst (λ (o : Option OpenListing). listed_by (ListArea a) o) is tt
   open_new (ListIn inner) l is = subst (λ (o : Option OpenListing). listed_by (ListIn inner) o) is (open_inside inner (folder_at st1.namespace inner.spot) refl)
@@ -957,10 +947,10 @@ module _ (h : List Event) (p : ℕ) (told : Told (state_after h) p (seen_of p h)
   open_by request reply x once l i same = by (is_listing st1 p) refl
     where
       listing : (l : OpenListing) → In l st1.listings → l.process ≡ p → is_listing st1 p ≡ true
-      listing l i same = in_any (is_of p) l st1.listings i (ap (λ q. q == p) same ∙ same_self p)
+      listing l i same = in_any (is_listing_of p) l st1.listings i (ap (λ q. q == p) same ∙ same_self p)
 
       from : is_listing st1 p ≡ false → (In l st1.listings ⊎ ((l0 : OpenListing) × (In l0 st1.listings × (l ≡ noted_by st1 l0)))) ⊎
-          ((reply ≡ Begun) × (begun st1 p request ≡ Some l)) → OpenTold (state_next st1 (event p request reply)) (seen_replied s1 request reply) l.listed
+          ((reply ≡ Begun) × (listing_begun st1 p request ≡ Some l)) → OpenTold (state_next st1 (event p request reply)) (seen_replied s1 request reply) l.listed
       from off (inl (inl j)) = clash (is_listing st1 p) (listing l j same) off
       from off (inl (inr (l0, (j, e)))) = clash (is_listing st1 p) (listing l0 j (ap (λ (z : OpenListing). z.process) (sym e) ∙ same)) off
       from off (inr (is, opens)) = subst (λ (r : Reply). OpenTold (state_next st1 (event p request r)) (seen_replied s1 request r) l.listed) (sym is) (open_new request l opens)

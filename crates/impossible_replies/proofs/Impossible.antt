@@ -1,5 +1,6 @@
 -- No impossible reply comes, and a started app's writes show at and below its root alone.
 use Rattle.std.proofs.Common.{◌≡◌, ◌⊎◌, inl, inr, ℕ, Bool, true, false, not, ◌&&◌, ◌||◌, cond, Some, None, List, [], ◌∷◌, ◌++◌, refl, sym, ap, subst, ◌∙◌}
+use Rattle.plain_laws.proofs.Booleans.{clash}
 use Rattle.dir_model.specs.declared.area.Area.{Area}
 use Rattle.dir_model.specs.declared.area.Area.TheVariants as area
 use Rattle.dir_model.specs.declared.spot.Spot.{Spot}
@@ -19,13 +20,12 @@ use Rattle.dir_model.specs.Calls.{is_begin, is_kill}
 use Rattle.dir_model.proofs.Lists.{and_left, and_right, and_false as and_none, or_last}
 use Rattle.dir_rules.specs.declared.seen.Seen.{Seen}
 use Rattle.dir_rules.specs.Seen.{makes_at}
-use Rattle.dir_rules.specs.Standing.{is_in, is_garbage, intends, began_as, is_maker, is_remover, closes_gate}
-use Rattle.dir_rules.specs.LockRules.{may_move_between}
-use Rattle.dir_rules.specs.Rules.{allows, may_bring_between, has_done, is_whole_pod, is_all_done, of_making, shows, is_file_item}
+use Rattle.dir_rules.specs.Standing.{is_in, is_garbage, intends, began_as, is_maker, is_remover, excludes_area}
+use Rattle.dir_rules.specs.LockRules.{locks_allow_move}
+use Rattle.dir_rules.specs.Rules.{allows, contents_allow_move, has_done, is_whole_pod, is_all_done, of_making, is_item_shown, is_file_item}
 use Rattle.dir_rules.specs.Anomalies.{folder_of, is_its_own, is_its_folder, owns_at, knows_folder, is_store, is_import_again, is_place_error, is_gone_error, is_removal, meets_app, loses_embryo, loses_own, loses_directory, meets_another, shows_long, is_foreign_write, is_impossible_reply}
 use Rattle.dir_rules.specs.Conforms.{seen_of}
 use Rattle.lifecycle.specs.Executions.{IsConforming}
-use Rattle.lifecycle.proofs.Handles.{clash}
 use Rattle.folder_contents.proofs.Along.{conforming_to}
 use Rattle.folder_contents.proofs.Handed.{brought, asked}
 use Rattle.folder_contents.proofs.Guards.{kinds_apart, no_remover}
@@ -79,7 +79,7 @@ module _ (h : List Event) (p : ℕ) (conforming : IsConforming h) (known : Known
           kinds (inr k) = clash (is_in area.Prepare from.area) k.0 (ap (is_in area.Prepare) e ∙ d)
 
       deleted : from.area ≡ area.Incoming → knows_folder s from ≡ true
-      deleted e = pick (makes_at s.making from) (is_garbage from.area) (owns_at s.standing from) (knows_folder s from) (is_store from.area) (closes_gate from.area s.standing)
+      deleted e = pick (makes_at s.making from) (is_garbage from.area) (owns_at s.standing from) (knows_folder s from) (is_store from.area) (excludes_area from.area s.standing)
           stranger (owned (owns_at s.standing from) refl) its
         where
           pick : (m g o k t c : Bool) → m ≡ false → o ≡ false → (m || ((not g && o) || (k && ((g && o) || (t && c))))) ≡ true → k ≡ true
@@ -115,7 +115,7 @@ module _ (h : List Event) (p : ℕ) (conforming : IsConforming h) (known : Known
       put_away e f Failed g = clash (is_place_error error) place (ap is_place_error (sym g))
       put_away e f NoMemory g = clash (is_place_error error) place (ap is_place_error (sym g))
 
-      by : (a b : Area) → from.area ≡ a → to.area ≡ b → may_bring_between s from to a b ≡ true → (is_stage a ≡ true → may_move_between s.standing from.name a b ≡ true) → ⊥
+      by : (a b : Area) → from.area ≡ a → to.area ≡ b → contents_allow_move s from to a b ≡ true → (is_stage a ≡ true → locks_allow_move s.standing from.name a b ≡ true) → ⊥
       by area.Embryo b e f bring ask = elsewhere area.Embryo b e refl refl refl refl
       by area.Prepare area.Prepared e f bring ask = clash (makes_at s.making from) (and_left (makes_at s.making from) (of_making is_whole_pod s.making) bring) stranger
       by area.Prepare area.Run e f bring ask = clash (makes_at s.making from) (and_left (makes_at s.making from) (of_making is_whole_pod s.making) bring) stranger
@@ -288,7 +288,7 @@ foreign_app h p request reply x knows foreign = by (is_apps_request (state_after
     lost : (request : Request) (reply : Reply) → is_apps_request (state_after h) request ≡ false → is_reply (state_after h) p request reply ≡ true →
         loses_directory (seen_of p h) request reply ≡ true → ⊥
     lost (ListIn inner) (Refused Missing left) plain is l =
-        directory_found h p knows x.conforming inner left plain is (and_right _ (shows (λ k. not (is_file_item k)) inner (seen_of p h).items) l)
+        directory_found h p knows x.conforming inner left plain is (and_right _ (is_item_shown (λ k. not (is_file_item k)) inner (seen_of p h).items) l)
     lost (ListIn inner) (Refused Exists left) plain is l = cc
     lost (ListIn inner) (Refused NotEmpty left) plain is l = cc
     lost (ListIn inner) (Refused Locked left) plain is l = cc

@@ -2,6 +2,9 @@
 use Rattle.std.proofs.Common.{◌≡◌, ◌⊎◌, inl, inr, ℕ, Bool, true, false, not, ◌&&◌, ◌||◌, ◌==◌, cond, bytes_eq, Option, Some, None, is_some, List, [], ◌∷◌, ◌++◌, map, filter, refl, sym, ap, subst, ◌∙◌}
 use Rattle.std.specs.List.{list_any, list_all}
 use Rattle.std.proofs.Math.Path.{ap₂}
+use Rattle.std.proofs.lemmas.Bool.{and_parts}
+use Rattle.plain_laws.proofs.Booleans.{clash}
+use Rattle.plain_laws.proofs.Texts.{same_text}
 use Rattle.dir_model.specs.declared.area.Area.{Area}
 use Rattle.dir_model.specs.declared.area.Area.TheVariants as area
 use Rattle.dir_model.specs.declared.intent.Intent.{Intent}
@@ -21,33 +24,33 @@ use Rattle.dir_model.specs.Areas.{rank, is_stage}
 use Rattle.dir_model.specs.Locks.{is_exclusive}
 use Rattle.dir_model.specs.Trees.{name_in, names_in, items_in, has_dir}
 use Rattle.dir_model.specs.Listings as listings
-use Rattle.dir_model.specs.Listings.{is_listing_request, is_listing, is_of, noted, noted_by, noted_all, begun, begun_at, listing_of, shows_names, shows_area, ascend}
+use Rattle.dir_model.specs.Listings.{is_listing_request, is_listing, is_listing_of, listing_noted, noted_by, noted_all, listing_begun, begun_at, listing_of, shows_names, shows_area, ascend}
 use Rattle.dir_model.specs.State.{DirState, folder_at, stands, spot_eq, is_at, lives, has_begun}
 use Rattle.dir_model.specs.Trace.{state_next, state_after, listings_replied}
 use Rattle.dir_model.specs.Replies.{is_reply}
 use Rattle.dir_model.specs.Calls.{is_begin, is_kill, is_foreign, event}
 use Rattle.dir_model.proofs.Chains.{state_after-push}
-use Rattle.dir_model.proofs.Lists.{and_left, and_right, not_true, or_last, same_self}
+use Rattle.dir_model.proofs.Lists.{and_left, and_right, not_true, or_last, same_self, same_number}
 use Rattle.dir_model.proofs.Spots.{spot_self}
 use Rattle.dir_rules.specs.declared.seen.Seen.{Seen}
 use Rattle.dir_rules.specs.declared.seen.ShownArea.{ShownArea}
 use Rattle.dir_rules.specs.declared.standing.Held.{Held}
 use Rattle.dir_rules.specs.declared.standing.Standing.{Standing}
 use Rattle.dir_rules.specs.Seen.{learned, moved_away, with_names}
-use Rattle.dir_rules.specs.Standing.{is_in, is_gate_of, is_gate_exclusive, closes_gate, holds_gate, has_name, find_held, is_number, gives_up, recover, uncover, standing_replied}
+use Rattle.dir_rules.specs.Standing.{is_in, is_gate_of, is_gate_exclusive, excludes_area, shares_area, is_name_among, find_held, is_handle_held, gives_up, uncovered_by_close, uncover, standing_replied}
 use Rattle.dir_rules.specs.LockRules.{may_lock_by, may_remove}
-use Rattle.dir_rules.specs.Rules.{allows, may_change, may_bring_between, has_done, is_all_done}
+use Rattle.dir_rules.specs.Rules.{allows, content_rules_allow, contents_allow_move, has_done, is_all_done}
 use Rattle.dir_rules.specs.Conforms.{nothing_seen, seen_of, seen_replied}
 use Rattle.dir_rules.proofs.Unborn.{unborn_saw_nothing}
 use Rattle.lifecycle.specs.Executions.{IsConforming}
 use Rattle.lifecycle.proofs.Lists.{In, any_in, in_any, in_map, in_filter, find_in}
-use Rattle.lifecycle.proofs.Handles.{both, clash, lock_free, nat_same}
-use Rattle.lifecycle.proofs.Linked.{Bare, looked_holdings}
+use Rattle.lifecycle.proofs.Handles.{lock_free}
+use Rattle.lifecycle.proofs.Linked.{Bare, in_both}
 use Rattle.lifecycle.proofs.Locks.{lock_of, kept_lock}
 use Rattle.lifecycle.proofs.Closes.{any_mapped, kept_any}
 use Rattle.lifecycle.proofs.Invariant.{some_exclusive}
-use Rattle.lifecycle.proofs.Places.{name_same, same_name, none_at}
-use Rattle.folder_contents.specs.UnderGate.{takes}
+use Rattle.lifecycle.proofs.Places.{same_name, none_at}
+use Rattle.folder_contents.specs.UnderGate.{is_taken_from}
 use Rattle.folder_contents.proofs.Along.{Happens, happens, whose, foreign_same, own_next, along, sound_at, linked_at}
 use Rattle.folder_contents.proofs.Gates.{never_both, one_closer}
 use Rattle.folder_contents.proofs.Handed.{brought}
@@ -57,16 +60,16 @@ use Rattle.folder_contents.proofs.Places.{untaken}
 use Rattle.folder_contents.proofs.Spots.{one_location, in_area}
 use Rattle.impossible_replies.proofs.Turns.{lists_at_once}
 use Rattle.impossible_replies.proofs.Alongside.{Steps, steps, each_seen}
-use Rattle.impossible_replies.proofs.Lengths.{in_two}
 use Rattle.impossible_replies.proofs.LongItems.{in_filter_map, of_all}
 use Rattle.impossible_replies.proofs.Origins.{at}
 use Rattle.impossible_replies.proofs.Removers.{is_removing, removing_place, under_lock}
 use Rattle.impossible_replies.proofs.Told.{Told, listing_from}
 use Rattle.impossible_replies.proofs.Deletions.{ends, all_told}
 use Rattle.dir_rules.specs.Anomalies.{knows_folder}
+use Rattle.dir_rules.proofs.Standings.{looked_holdings}
 
 abbrev Closes : Seen → Bool
-Closes s = closes_gate area.Incoming s.standing
+Closes s = excludes_area area.Incoming s.standing
 
 abbrev Stood : DirState → List ℕ → Type 0
 Stood st u = stands st.namespace (at area.Incoming u) ≡ true
@@ -79,7 +82,7 @@ NamesStand st (listed.Inside here f through ever) = Unit {0}
 -- what is known of incoming under its lock
 pub record Known (st : DirState) (p : ℕ) (s : Seen) : Type 0 where
   pub areas : (a : ShownArea) → In a s.areas → is_in area.Incoming a.area ≡ true →
-      (Closes s ≡ true) × ((u : List ℕ) → has_name u a.names ≡ true → Stood st u)
+      (Closes s ≡ true) × ((u : List ℕ) → is_name_among u a.names ≡ true → Stood st u)
   pub opened : (l : OpenListing) → In l st.listings → l.process ≡ p → Closes s ≡ true → NamesStand st l.listed
 
 -- the lock is had on, unless a handle is given up
@@ -93,17 +96,17 @@ module _ (h : List Event) (p : ℕ) where
   abbrev k : Standing
   k = (seen_of p h).standing
 
-  closed_on : (request : Request) (reply : Reply) → Steps h p request reply → closes_gate area.Incoming k ≡ true →
+  closed_on : (request : Request) (reply : Reply) → Steps h p request reply → excludes_area area.Incoming k ≡ true →
       ((handle : Handle) → request ≡ Close handle → gives_up (is_gate_exclusive area.Incoming) handle k.holdings ≡ false) → (request ≡ Finish → ⊥) →
-      closes_gate area.Incoming (standing_replied k request reply) ≡ true
+      excludes_area area.Incoming (standing_replied k request reply) ≡ true
   closed_on request (Refused e left) x had shut ends = had
   closed_on (Open s which.Own) (Opened g) x had shut ends = had
   closed_on (Open s which.Claim) (Opened g) x had shut ends = had
-  closed_on (OpenArea a) (Opened g) x had shut ends = or_last (is_in area.Incoming a && false) (closes_gate area.Incoming k) had
+  closed_on (OpenArea a) (Opened g) x had shut ends = or_last (is_in area.Incoming a && false) (excludes_area area.Incoming k) had
   closed_on request (Opened g) x had shut ends = had
   closed_on (MakeFolder s) Done x had shut ends = by (is_stage s.area)
     where
-      by : (b : Bool) → closes_gate area.Incoming (cond b (record k { made = true; gated = holds_gate area.Embryo k }) k) ≡ true
+      by : (b : Bool) → excludes_area area.Incoming (cond b (record k { made = true; embryo_under_lock = shares_area area.Embryo k }) k) ≡ true
       by true = had
       by false = had
   closed_on (MoveFolder from to) Done x had shut ends = any_mapped (is_gate_exclusive area.Incoming) (uncover from) k.holdings (λ y. refl) ∙ had
@@ -117,7 +120,7 @@ module _ (h : List Event) (p : ℕ) where
       (lock_of p (state_after h).namespace k handle Exclusive (sound_at h x.conforming) (linked_at p h x.conforming x.living)
       (lock_free (state_after h) p handle Exclusive x.is) (and_left (may_lock_by k (find_held handle k) Exclusive) _ x.may)) closes_some had
   closed_on (Close handle) Done x had shut ends =
-      any_mapped (is_gate_exclusive area.Incoming) (recover handle k.holdings) (filter (λ y. not (is_number handle y)) k.holdings) (λ y. refl)
+      any_mapped (is_gate_exclusive area.Incoming) (uncovered_by_close handle k.holdings) (filter (λ y. not (is_handle_held handle y)) k.holdings) (λ y. refl)
       ∙ kept_any (is_gate_exclusive area.Incoming) handle k.holdings had (shut handle refl)
   closed_on Finish Done x had shut ends = absurd (ends refl)
   closed_on request Done x had shut ends = had
@@ -133,10 +136,10 @@ removed_never g u gone may = by (spot_eq gone (at area.Incoming u)) refl
     by : (b : Bool) → spot_eq gone (at area.Incoming u) ≡ b → b ≡ false
     by false e = refl
     by true e = absurd (never (ap (λ (z : Spot). is_removing z.area) (sym (one_location gone (at area.Incoming u) e))
-        ∙ removing_place g.standing gone (and_left (may_remove g.standing gone) (may_change g (RemoveFolder gone)) may)))
+        ∙ removing_place g.standing gone (and_left (may_remove g.standing gone) (content_rules_allow g (RemoveFolder gone)) may)))
 
 stays : (st : DirState) (q : ℕ) (request : Request) (reply : Reply) (u : List ℕ) → is_reply st q request reply ≡ true → Stood st u →
-    takes (at area.Incoming u) request reply ≡ false → Stood (state_next st (event q request reply)) u
+    is_taken_from (at area.Incoming u) request reply ≡ false → Stood (state_next st (event q request reply)) u
 stays st q request reply u is there off = ap (λ (o : Option ℕ). is_some o) (untaken st q request reply (at area.Incoming u) is there off) ∙ there
 
 abbrev text_of : Option (List ℕ) → List ℕ
@@ -162,14 +165,14 @@ name_stands st a u incoming i =
         (none_at st.namespace (at area.Incoming u) e (Some here) i)
     by false e None i is = cc
 
-noted_stand : (st : DirState) (l : Listed) → NamesStand st l → NamesStand st (noted st l)
+noted_stand : (st : DirState) (l : Listed) → NamesStand st l → NamesStand st (listing_noted st l)
 noted_stand st (listed.Missing here) t = tt
 noted_stand st (listed.Inside here f through ever) t = tt
 noted_stand st (listed.Area a through ever) t = λ incoming u i. by incoming u i
   where
     by : is_in area.Incoming a ≡ true → (u : List ℕ) → In u (filter (listings.has_name (names_in a st.namespace.folders)) through) ⊎ In u (ever ++ names_in a st.namespace.folders) → Stood st u
     by incoming u (inl i) = t incoming u (inl (in_filter (listings.has_name (names_in a st.namespace.folders)) u through i).0)
-    by incoming u (inr i) = at_last (in_two u ever (names_in a st.namespace.folders) i)
+    by incoming u (inr i) = at_last (in_both u ever (names_in a st.namespace.folders) i)
       where
         at_last : In u ever ⊎ In u (names_in a st.namespace.folders) → Stood st u
         at_last (inl j) = t incoming u (inr j)
@@ -184,7 +187,7 @@ abbrev stand_of : DirState → Option OpenListing → Type 0
 stand_of st None = Unit {0}
 stand_of st (Some l) = NamesStand st l.listed
 
-begun_stand : (st : DirState) (q : ℕ) (request : Request) (l : OpenListing) → begun st q request ≡ Some l → NamesStand st l.listed
+begun_stand : (st : DirState) (q : ℕ) (request : Request) (l : OpenListing) → listing_begun st q request ≡ Some l → NamesStand st l.listed
 begun_stand st q (ListArea a) l is = subst (λ (o : Option OpenListing). stand_of st o) is (λ incoming u i. by incoming u i)
   where
     by : is_in area.Incoming a ≡ true → (u : List ℕ) → In u (names_in a st.namespace.folders) ⊎ In u [] → Stood st u
@@ -208,7 +211,7 @@ module _ (h : List Event) (e : Event) (c : IsConforming (h ++ e ∷ [])) (p : �
   x = happens h e c
 
   untaken_by : (closed : Closes (seen_of p h) ≡ true) (u : List ℕ) (request : Request) (reply : Reply) → e.request ≡ request →
-      takes (at area.Incoming u) request reply ≡ false
+      is_taken_from (at area.Incoming u) request reply ≡ false
   untaken_by closed u (MoveFolder from to) Done is = by (spot_eq from (at area.Incoming u)) refl
     where
       g : Seen
@@ -226,7 +229,7 @@ module _ (h : List Event) (e : Event) (c : IsConforming (h ++ e ∷ [])) (p : �
       living_q : lives (state_after h).namespace e.process ≡ true
       living_q = alive_at h e x on
 
-      moves : (b : Area) → may_bring_between g from to area.Incoming b ≡ true → ⊥
+      moves : (b : Area) → contents_allow_move g from to area.Incoming b ≡ true → ⊥
       moves area.Images bring = never_both (state_after h).namespace (sound_at h x.conforming) area.Incoming p e.process (seen_of p h).standing g.standing
           (linked_at p h x.conforming living) (linked_at e.process h x.conforming living_q) closed
           ((apt h x.conforming e.process).gate living_q (and_right (has_done is_all_done g from) g.stored bring))
@@ -238,7 +241,7 @@ module _ (h : List Event) (e : Event) (c : IsConforming (h ++ e ∷ [])) (p : �
 
       by : (b : Bool) → spot_eq from (at area.Incoming u) ≡ b → b ≡ false
       by false f = refl
-      by true f = absurd (moves to.area (subst (λ (a : Area). may_bring_between g from to a to.area ≡ true)
+      by true f = absurd (moves to.area (subst (λ (a : Area). contents_allow_move g from to a to.area ≡ true)
           (ap (λ (z : Spot). z.area) (one_location from (at area.Incoming u) f)) (brought g from to may)))
   untaken_by closed u (RemoveFolder gone) Done is =
       removed_never (seen_of e.process h) u gone (subst (λ (r : Request). allows (seen_of e.process h) r ≡ true) is (x.may (ap is_kill is)))
@@ -259,10 +262,10 @@ module _ (h : List Event) (e : Event) (c : IsConforming (h ++ e ∷ [])) (p : �
     where
       by : (l : OpenListing) → Closes (seen_of p h) ≡ true → l.process ≡ p →
           (In l (state_after h).listings ⊎ ((l0 : OpenListing) × (In l0 (state_after h).listings × (l ≡ noted_by (state_after h) l0)))) ⊎
-          ((e.reply ≡ Begun) × (begun (state_after h) e.process e.request ≡ Some l)) → NamesStand (state_next (state_after h) e) l.listed
+          ((e.reply ≡ Begun) × (listing_begun (state_after h) e.process e.request ≡ Some l)) → NamesStand (state_next (state_after h) e) l.listed
       by l closed same (inl (inl i)) = stand_on (state_after h) (state_next (state_after h) e) (on_foreign closed) l.listed (known.opened l i same closed)
       by l closed same (inl (inr (l0, (i, is)))) = subst (λ (z : OpenListing). NamesStand (state_next (state_after h) e) z.listed) (sym is)
-          (stand_on (state_after h) (state_next (state_after h) e) (on_foreign closed) (noted (state_after h) l0.listed)
+          (stand_on (state_after h) (state_next (state_after h) e) (on_foreign closed) (listing_noted (state_after h) l0.listed)
           (noted_stand (state_after h) l0.listed (known.opened l0 i (ap (λ (z : OpenListing). z.process) (sym is) ∙ same) closed)))
       by l closed same (inr (begins, opens)) =
           stand_on (state_after h) (state_next (state_after h) e) (on_foreign closed) l.listed (begun_stand (state_after h) e.process e.request l opens)
@@ -293,11 +296,11 @@ module _ (h : List Event) (p : ℕ) (conforming : IsConforming h) (told : Told (
   abbrev AreasAfter : Request → Reply → Type 0
   AreasAfter request reply =
       (a : ShownArea) → In a (learned s request reply).areas → is_in area.Incoming a.area ≡ true →
-      (closes_gate area.Incoming (standing_replied s.standing request reply) ≡ true) × ((u : List ℕ) → has_name u a.names ≡ true → Stood (Next request reply) u)
+      (excludes_area area.Incoming (standing_replied s.standing request reply) ≡ true) × ((u : List ℕ) → is_name_among u a.names ≡ true → Stood (Next request reply) u)
 
   -- areas that are the same, where the step takes nothing
   same_areas : (request : Request) (reply : Reply) → Steps h p request reply → ((handle : Handle) → request ≡ Close handle → ⊥) → (request ≡ Finish → ⊥) →
-      ((u : List ℕ) → takes (at area.Incoming u) request reply ≡ false) → (learned s request reply).areas ≡ s.areas → AreasAfter request reply
+      ((u : List ℕ) → is_taken_from (at area.Incoming u) request reply ≡ false) → (learned s request reply).areas ≡ s.areas → AreasAfter request reply
   same_areas request reply x shut finish off same a i incoming =
       let y = known.areas a (subst (λ (l : List ShownArea). In a l) same i) incoming in (
         closed_on h p request reply x y.0 (λ handle is. absurd (shut handle is)) finish,
@@ -306,14 +309,14 @@ module _ (h : List Event) (p : ℕ) (conforming : IsConforming h) (told : Told (
 
   -- a reply that tells nothing of what is held
   quiet : (request : Request) (reply : Reply) → Steps h p request reply → standing_replied s.standing request reply ≡ s.standing →
-      ((u : List ℕ) → takes (at area.Incoming u) request reply ≡ false) → (learned s request reply).areas ≡ s.areas → AreasAfter request reply
+      ((u : List ℕ) → is_taken_from (at area.Incoming u) request reply ≡ false) → (learned s request reply).areas ≡ s.areas → AreasAfter request reply
   quiet request reply x same_standing off same a i incoming =
       let y = known.areas a (subst (λ (l : List ShownArea). In a l) same i) incoming in (
-        ap (λ (k : Standing). closes_gate area.Incoming k) same_standing ∙ y.0,
+        ap (λ (k : Standing). excludes_area area.Incoming k) same_standing ∙ y.0,
         λ u n. stays st p request reply u x.is (y.1 u n) (off u),
       )
 
-  untaken_reply : (u : List ℕ) (request : Request) (reply : Reply) → (reply ≡ Done → ⊥) → takes (at area.Incoming u) request reply ≡ false
+  untaken_reply : (u : List ℕ) (request : Request) (reply : Reply) → (reply ≡ Done → ⊥) → is_taken_from (at area.Incoming u) request reply ≡ false
   untaken_reply u (MoveFolder from to) Done not = absurd (not refl)
   untaken_reply u (RemoveFolder gone) Done not = absurd (not refl)
   untaken_reply u (MoveFolder from to) reply not = refl
@@ -322,14 +325,14 @@ module _ (h : List Event) (p : ℕ) (conforming : IsConforming h) (told : Told (
 
   -- areas from which a folder's name is taken
   away_areas : (request : Request) (from : Spot) → Steps h p request Done → ((handle : Handle) → request ≡ Close handle → ⊥) → (request ≡ Finish → ⊥) →
-      ((u : List ℕ) → (spot_eq from (at area.Incoming u) ≡ false) → takes (at area.Incoming u) request Done ≡ false) →
+      ((u : List ℕ) → (spot_eq from (at area.Incoming u) ≡ false) → is_taken_from (at area.Incoming u) request Done ≡ false) →
       (learned s request Done).areas ≡ map (moved_away from) s.areas → AreasAfter request Done
   away_areas request from x shut finish off same a i incoming =
       let m = in_map (moved_away from) s.areas a (subst (λ (l : List ShownArea). In a l) same i) in
       by m.0 m.1.0 m.1.1 (is_in from.area m.0.area) refl
     where
       by : (b : ShownArea) → In b s.areas → a ≡ moved_away from b → (c : Bool) → is_in from.area b.area ≡ c →
-          (closes_gate area.Incoming (standing_replied s.standing request Done) ≡ true) × ((u : List ℕ) → has_name u a.names ≡ true → Stood (Next request Done) u)
+          (excludes_area area.Incoming (standing_replied s.standing request Done) ≡ true) × ((u : List ℕ) → is_name_among u a.names ≡ true → Stood (Next request Done) u)
       by b j e c f =
           let place : a.area ≡ b.area = ap (λ (z : ShownArea). z.area) e ∙ unmoved c f in
           let y = known.areas b j (ap (is_in area.Incoming) (sym place) ∙ incoming) in (
@@ -348,12 +351,12 @@ module _ (h : List Event) (p : ℕ) (conforming : IsConforming h) (told : Told (
           in_place = ap (is_in area.Incoming) (sym (ap (λ (z : ShownArea). z.area) e ∙ unmoved (is_in from.area b.area) refl)) ∙ incoming
 
           -- the name that is left isn't the folder's that goes
-          names : (c : Bool) → is_in from.area b.area ≡ c → (u : List ℕ) → has_name u a.names ≡ true → (has_name u b.names ≡ true → Stood st u) → Stood (Next request Done) u
+          names : (c : Bool) → is_in from.area b.area ≡ c → (u : List ℕ) → is_name_among u a.names ≡ true → (is_name_among u b.names ≡ true → Stood st u) → Stood (Next request Done) u
           names c f u n was =
-              stays st p request Done u x.is (was (more (is_in from.area b.area) (ap (λ (z : ShownArea). has_name u z.names) (sym e) ∙ n)))
+              stays st p request Done u x.is (was (more (is_in from.area b.area) (ap (λ (z : ShownArea). is_name_among u z.names) (sym e) ∙ n)))
               (off u (apart (spot_eq from (at area.Incoming u)) refl))
             where
-              more : (d : Bool) → has_name u (cond d (record b { names = filter (λ n. not (bytes_eq n from.name)) b.names }) b).names ≡ true → has_name u b.names ≡ true
+              more : (d : Bool) → is_name_among u (cond d (record b { names = filter (λ n. not (bytes_eq n from.name)) b.names }) b).names ≡ true → is_name_among u b.names ≡ true
               more false n = n
               more true n =
                   let z = any_in (λ name. bytes_eq name u) (filter (λ n. not (bytes_eq n from.name)) b.names) n in
@@ -365,52 +368,52 @@ module _ (h : List Event) (p : ℕ) (conforming : IsConforming h) (told : Told (
                   let same_spot : from ≡ at area.Incoming u = one_location from (at area.Incoming u) g in
                   let here : is_in from.area b.area ≡ true = ap (λ (z : Spot). is_in z.area b.area) same_spot ∙ in_place in
                   let z = any_in (λ name. bytes_eq name u) (filter (λ n. not (bytes_eq n from.name)) b.names)
-                  (ap (λ d. has_name u (cond d (record b { names = filter (λ n. not (bytes_eq n from.name)) b.names }) b).names) (sym here)
-                  ∙ (ap (λ (z : ShownArea). has_name u z.names) (sym e) ∙ n)) in
+                  (ap (λ d. is_name_among u (cond d (record b { names = filter (λ n. not (bytes_eq n from.name)) b.names }) b).names) (sym here)
+                  ∙ (ap (λ (z : ShownArea). is_name_among u z.names) (sym e) ∙ n)) in
                   let w = in_filter (λ n. not (bytes_eq n from.name)) z.0 b.names z.1.0 in
                   clash (bytes_eq z.0 from.name)
-                  (same_name z.0 from.name (name_same z.0 u z.1.1 ∙ ap (λ (q : Spot). q.name) (sym same_spot))) (not_true (bytes_eq z.0 from.name) w.1)
+                  (same_name z.0 from.name (same_text z.0 u z.1.1 ∙ ap (λ (q : Spot). q.name) (sym same_spot))) (not_true (bytes_eq z.0 from.name) w.1)
 
   -- an area was listed
   listed_area : (b : Area) (new : List (List ℕ)) → Steps h p (ListArea b) (Names new) → AreasAfter (ListArea b) (Names new)
-  listed_area b new x a i incoming = by (closes_gate b s.standing) refl i
+  listed_area b new x a i incoming = by (excludes_area b s.standing) refl i
     where
       next_stood : (u : List ℕ) → Stood st u → Stood (Next (ListArea b) (Names new)) u
       next_stood u there = there
 
-      found : (l : Listed) → NamesStand st l → is_in area.Incoming b ≡ true → area_by b new l ≡ true → (u : List ℕ) → has_name u new ≡ true → Stood st u
+      found : (l : Listed) → NamesStand st l → is_in area.Incoming b ≡ true → area_by b new l ≡ true → (u : List ℕ) → is_name_among u new ≡ true → Stood st u
       found (listed.Area c through ever) t place shows u n =
-          let y = both (rank c == rank b) (shows_names through ever new) shows in
+          let y = and_parts (rank c == rank b) (shows_names through ever new) shows in
           let all = and_right (list_all (listings.has_name new) through) (list_all (listings.has_name (through ++ ever)) new)
           (and_right (ascend new) (list_all (listings.has_name new) through && list_all (listings.has_name (through ++ ever)) new) y.1) in
           let z = any_in (λ name. bytes_eq name u) new n in
           let w = any_in (λ name. bytes_eq name z.0) (through ++ ever) (of_all (listings.has_name (through ++ ever)) z.0 new z.1.0 all) in
-          let name : w.0 ≡ u = name_same w.0 z.0 w.1.1 ∙ name_same z.0 u z.1.1 in
+          let name : w.0 ≡ u = same_text w.0 z.0 w.1.1 ∙ same_text z.0 u z.1.1 in
           subst (λ (q : List ℕ). Stood st q) name
-          (t (subst (λ (d : Area). is_in area.Incoming d ≡ true) (sym (in_area c b y.0)) place) w.0 (in_two w.0 through ever w.1.0))
+          (t (subst (λ (d : Area). is_in area.Incoming d ≡ true) (sym (in_area c b y.0)) place) w.0 (in_both w.0 through ever w.1.0))
       found (listed.Missing here) t place shows u n = cc
       found (listed.Inside here f through ever) t place shows u n = cc
 
       open_one : (o : Option OpenListing) → listing_of st p ≡ o → shows_area b new o ≡ true → is_in area.Incoming b ≡ true → Closes s ≡ true →
-          (u : List ℕ) → has_name u new ≡ true → Stood st u
+          (u : List ℕ) → is_name_among u new ≡ true → Stood st u
       open_one None e shows place closed u n = cc
       open_one (Some l) e shows place closed u n =
-          let f = find_in (is_of p) l (noted_all st st.listings) e in
+          let f = find_in (is_listing_of p) l (noted_all st st.listings) e in
           let g = in_map (noted_by st) st.listings l f.0 in
           found l.listed
           (subst (λ (z : OpenListing). NamesStand st z.listed) (sym g.1.1)
-          (noted_stand st g.0.listed (known.opened g.0 g.1.0 (ap (λ (z : OpenListing). z.process) (sym g.1.1) ∙ nat_same l.process p f.1) closed)))
+          (noted_stand st g.0.listed (known.opened g.0 g.1.0 (ap (λ (z : OpenListing). z.process) (sym g.1.1) ∙ same_number l.process p f.1) closed)))
           place (sym (area_so b new l) ∙ shows) u n
 
-      new_one : a ≡ record { area = b; names = new } → closes_gate b s.standing ≡ true →
-          (closes_gate area.Incoming s.standing ≡ true) × ((u : List ℕ) → has_name u a.names ≡ true → Stood st u)
+      new_one : a ≡ record { area = b; names = new } → excludes_area b s.standing ≡ true →
+          (excludes_area area.Incoming s.standing ≡ true) × ((u : List ℕ) → is_name_among u a.names ≡ true → Stood st u)
       new_one e closed =
           let place : is_in area.Incoming b ≡ true = ap (λ (z : ShownArea). is_in area.Incoming z.area) (sym e) ∙ incoming in
-          let had : closes_gate area.Incoming s.standing ≡ true = subst (λ (d : Area). closes_gate d s.standing ≡ true) (sym (in_area area.Incoming b place)) closed in
-          (had, λ u n. open_one (listing_of st p) refl x.is place had u (ap (λ (z : ShownArea). has_name u z.names) (sym e) ∙ n))
+          let had : excludes_area area.Incoming s.standing ≡ true = subst (λ (d : Area). excludes_area d s.standing ≡ true) (sym (in_area area.Incoming b place)) closed in
+          (had, λ u n. open_one (listing_of st p) refl x.is place had u (ap (λ (z : ShownArea). is_name_among u z.names) (sym e) ∙ n))
 
-      by : (c : Bool) → closes_gate b s.standing ≡ c → In a (cond c (with_names b new s.areas) s.areas) →
-          (closes_gate area.Incoming s.standing ≡ true) × ((u : List ℕ) → has_name u a.names ≡ true → Stood st u)
+      by : (c : Bool) → excludes_area b s.standing ≡ c → In a (cond c (with_names b new s.areas) s.areas) →
+          (excludes_area area.Incoming s.standing ≡ true) × ((u : List ℕ) → is_name_among u a.names ≡ true → Stood st u)
       by true closed (inl e) = new_one e closed
       by true closed (inr j) = known.areas a (in_filter (λ z. not (is_in b z.area)) a s.areas j).0 incoming
       by false closed j = known.areas a j incoming
@@ -471,10 +474,10 @@ module _ (h : List Event) (p : ℕ) (conforming : IsConforming h) (told : Told (
   own_open request reply x once l i same = by (is_listing st p) refl
     where
       listing : (l : OpenListing) → In l st.listings → l.process ≡ p → is_listing st p ≡ true
-      listing l i same = in_any (is_of p) l st.listings i (ap (λ q. q == p) same ∙ same_self p)
+      listing l i same = in_any (is_listing_of p) l st.listings i (ap (λ q. q == p) same ∙ same_self p)
 
       from : is_listing st p ≡ false → (In l st.listings ⊎ ((l0 : OpenListing) × (In l0 st.listings × (l ≡ noted_by st l0)))) ⊎
-          ((reply ≡ Begun) × (begun st p request ≡ Some l)) → NamesStand (Next request reply) l.listed
+          ((reply ≡ Begun) × (listing_begun st p request ≡ Some l)) → NamesStand (Next request reply) l.listed
       from off (inl (inl j)) = clash (is_listing st p) (listing l j same) off
       from off (inl (inr (l0, (j, e)))) = clash (is_listing st p) (listing l0 j (ap (λ (z : OpenListing). z.process) (sym e) ∙ same)) off
       from off (inr (is, opens)) = subst (λ (r : Reply). NamesStand (Next request r) l.listed) (sym is)
@@ -578,13 +581,13 @@ away trace conforming = each_seen Away (λ here i. absurd i) begins (λ h p requ
 pub deleted_stands : (h : List Event) → IsConforming h → (p : ℕ) → Known (state_after h) p (seen_of p h) → (from : Spot) → from.area ≡ area.Incoming →
     knows_folder (seen_of p h) from ≡ true → stands (state_after h).namespace from ≡ true
 deleted_stands h conforming p known from incoming knows =
-    by (list_any (λ inner. spot_eq inner.spot from) s.listed) (list_any (λ a. is_in from.area a.area && has_name from.name a.names) s.areas)
+    by (list_any (λ inner. spot_eq inner.spot from) s.listed) (list_any (λ a. is_in from.area a.area && is_name_among from.name a.names) s.areas)
     (list_any (λ here. spot_eq here from) s.put_away) refl refl refl knows
   where
     s : Seen
     s = seen_of p h
 
-    by : (a b c : Bool) → list_any (λ inner. spot_eq inner.spot from) s.listed ≡ a → list_any (λ a. is_in from.area a.area && has_name from.name a.names) s.areas ≡ b →
+    by : (a b c : Bool) → list_any (λ inner. spot_eq inner.spot from) s.listed ≡ a → list_any (λ a. is_in from.area a.area && is_name_among from.name a.names) s.areas ≡ b →
         list_any (λ here. spot_eq here from) s.put_away ≡ c → (a || (b || c)) ≡ true → stands (state_after h).namespace from ≡ true
     by true b c e f g k =
         let x = any_in (λ inner. spot_eq inner.spot from) s.listed e in
@@ -592,8 +595,8 @@ deleted_stands h conforming p known from incoming knows =
         (subst (λ (a : Area). is_removing a ≡ true) (ap (λ (z : Spot). z.area) (one_location x.0.spot from x.1.1) ∙ incoming)
         (removing_place s.standing x.0.spot ((under_lock h conforming p).listed x.0 x.1.0))) refl
     by false true c e f g k =
-        let x = any_in (λ a. is_in from.area a.area && has_name from.name a.names) s.areas f in
-        let y = both (is_in from.area x.0.area) (has_name from.name x.0.names) x.1.1 in
+        let x = any_in (λ a. is_in from.area a.area && is_name_among from.name a.names) s.areas f in
+        let y = and_parts (is_in from.area x.0.area) (is_name_among from.name x.0.names) x.1.1 in
         subst (λ (z : Spot). stands (state_after h).namespace z ≡ true) (ap (λ (a : Area). at a from.name) (sym incoming))
         ((known.areas x.0 x.1.0 (subst (λ (a : Area). is_in a x.0.area ≡ true) incoming y.0)).1 from.name y.1)
     by false false true e f g k =

@@ -1,6 +1,10 @@
 -- Under the lock that a removal needs, a folder that stood there stands there still, and is found, until its holder removes it.
 use Rattle.std.proofs.Common.{◌≡◌, ◌⊎◌, inl, inr, ℕ, Bool, true, false, not, ◌&&◌, ◌||◌, ◌==◌, cond, bytes_eq, Option, Some, None, List, [], ◌∷◌, ◌++◌, map, filter, append-nil, append_assoc, refl, sym, ap, subst, ◌∙◌}
 use Rattle.std.specs.List.{list_any, AllByRecursion}
+use Rattle.std.proofs.lemmas.Bool.{and_parts}
+use Rattle.plain_laws.proofs.Lists.{any_filtered}
+use Rattle.plain_laws.proofs.Booleans.{clash}
+use Rattle.plain_laws.proofs.Texts.{same_text}
 use Rattle.dir_model.specs.declared.event.Event.{Event}
 use Rattle.dir_model.specs.declared.item.Inner.{Inner}
 use Rattle.dir_model.specs.declared.spot.Handle.{Handle}
@@ -15,27 +19,25 @@ use Rattle.dir_model.specs.declared.request.Request.TheVariants.{Begin, Open, Tr
 use Rattle.dir_model.specs.declared.request.Reply.{Reply}
 use Rattle.dir_model.specs.declared.request.Reply.TheVariants.{Done, Begun, Opened, Refused}
 use Rattle.dir_model.specs.Calls.{is_begin, is_kill, is_foreign}
-use Rattle.dir_model.specs.Listings.{is_of, is_inner, noted, noted_by, noted_all, begun_at, begun, listing_of, shows_missing}
+use Rattle.dir_model.specs.Listings.{is_listing_of, is_inner, listing_noted, noted_by, noted_all, begun_at, listing_begun, listing_of, shows_missing}
 use Rattle.dir_model.specs.Replies.{is_reply, is_any_reply, is_own_at}
 use Rattle.dir_model.specs.State.{Namespace, DirState, lives, folder_at, spot_eq, empty_state}
 use Rattle.dir_model.specs.Trees.{has_dir, items_in}
 use Rattle.dir_model.specs.Trace.{namespace_replied, state_next, states_next, state_after}
 use Rattle.dir_model.proofs.Chains.{states_next-append, state_after-push}
-use Rattle.dir_model.proofs.Lists.{and_left, and_right, same_self}
+use Rattle.dir_model.proofs.Lists.{and_left, and_right, same_self, same_number}
 use Rattle.dir_rules.specs.declared.seen.Seen.{Seen}
 use Rattle.dir_rules.specs.declared.standing.Held.{Held}
 use Rattle.dir_rules.specs.declared.standing.Standing.{Standing}
-use Rattle.dir_rules.specs.Conforms.{seen_of, seen_after, seen_replied, saw, nothing_seen}
-use Rattle.dir_rules.specs.LockRules.{may_ask, may_remove, is_removal_held}
-use Rattle.dir_rules.specs.Rules.{allows, may_change, root_of}
-use Rattle.dir_rules.specs.Standing.{standing_replied, looked_by, find_held, held_in, is_number, recover}
+use Rattle.dir_rules.specs.Conforms.{seen_of, seen_after, seen_replied, seen_after_event, nothing_seen}
+use Rattle.dir_rules.specs.LockRules.{lock_rules_allow, may_remove, is_removal_held}
+use Rattle.dir_rules.specs.Rules.{allows, content_rules_allow, root_of}
+use Rattle.dir_rules.specs.Standing.{standing_replied, looked_by, find_held, held_with_mode, is_handle_held, uncovered_by_close}
 use Rattle.dir_rules.proofs.Tied.{seen_after-append, lived_before}
 use Rattle.lifecycle.specs.Executions.{IsConforming}
-use Rattle.lifecycle.proofs.Closes.{any_mapped, any_filtered}
+use Rattle.lifecycle.proofs.Closes.{any_mapped}
 use Rattle.lifecycle.proofs.Lists.{In, any_in, in_any, in_map, find_in}
-use Rattle.lifecycle.proofs.Handles.{both, clash, nat_same}
-use Rattle.lifecycle.proofs.Places.{name_same}
-use Rattle.folder_contents.specs.UnderGate.{takes}
+use Rattle.folder_contents.specs.UnderGate.{is_taken_from}
 use Rattle.folder_contents.proofs.Along.{happens}
 use Rattle.lifecycle.proofs.Draws.{conforming_left}
 use Rattle.folder_contents.proofs.Places.{untaken, stands_there}
@@ -65,8 +67,8 @@ any_before t f xs was h =
     let x = in_map f xs y.0 y.1.0 in
     in_any t x.0 xs x.1.0 (was x.0 (subst (λ z. t z ≡ true) x.1.1 y.1.1))
 
-exclusive_before : (spot : Spot) (handle : Handle) (x : Held) → is_removal_held spot (held_in handle Shared x) ≡ true → is_removal_held spot x ≡ true
-exclusive_before spot handle x h = by (is_number handle x) h
+exclusive_before : (spot : Spot) (handle : Handle) (x : Held) → is_removal_held spot (held_with_mode handle Shared x) ≡ true → is_removal_held spot x ≡ true
+exclusive_before spot handle x h = by (is_handle_held handle x) h
   where
     by : (b : Bool) → is_removal_held spot (cond b (record x { lock = Some Shared }) x) ≡ true → is_removal_held spot x ≡ true
     by true h = cc
@@ -80,11 +82,11 @@ looked_same spot (Some h) k = refl
 lock_was : (spot : Spot) (k : Standing) (request : Request) (reply : Reply) → leaves_folders request reply ≡ true → may_remove (standing_replied k request reply) spot ≡ true → may_remove k spot ≡ true
 lock_was spot k (Open at which) (Opened handle) on had = had
 lock_was spot k (Close handle) Done on had =
-    any_filtered (is_removal_held spot) (λ y. not (is_number handle y)) k.holdings
-    (sym (any_mapped (is_removal_held spot) (recover handle k.holdings) (filter (λ y. not (is_number handle y)) k.holdings) (λ y. refl)) ∙ had)
+    any_filtered (is_removal_held spot) (λ y. not (is_handle_held handle y)) k.holdings
+    (sym (any_mapped (is_removal_held spot) (uncovered_by_close handle k.holdings) (filter (λ y. not (is_handle_held handle y)) k.holdings) (λ y. refl)) ∙ had)
 lock_was spot k (TryLock handle Shared) Done on had =
-    any_before (is_removal_held spot) (held_in handle Shared) k.holdings (exclusive_before spot handle)
-    (sym (looked_same spot (find_held handle k) (record k { holdings = map (held_in handle Shared) k.holdings })) ∙ had)
+    any_before (is_removal_held spot) (held_with_mode handle Shared) k.holdings (exclusive_before spot handle)
+    (sym (looked_same spot (find_held handle k) (record k { holdings = map (held_with_mode handle Shared) k.holdings })) ∙ had)
 lock_was spot k (Open at which) Done on had = had
 lock_was spot k (ListIn inner) Done on had = had
 lock_was spot k (RemoveFileIn i) Done on had = had
@@ -160,12 +162,12 @@ folder_was spot n q request reply on = cc
 
 -- who removes something there has the lock
 removing_lock : (spot : Spot) (g : Seen) (request : Request) → removes_at spot request ≡ true → allows g request ≡ true → may_remove g.standing spot ≡ true
-removing_lock spot g (RemoveFileIn i) at may = subst (λ (z : Spot). may_remove g.standing z ≡ true) (sym (one_location spot i.spot at)) (and_left (may_ask g.standing (RemoveFileIn i)) (may_change g (RemoveFileIn i)) may)
-removing_lock spot g (RemoveDirIn i) at may = subst (λ (z : Spot). may_remove g.standing z ≡ true) (sym (one_location spot i.spot at)) (and_left (may_ask g.standing (RemoveDirIn i)) (may_change g (RemoveDirIn i)) may)
-removing_lock spot g (RemoveFolder gone) at may = subst (λ (z : Spot). may_remove g.standing z ≡ true) (sym (one_location spot gone at)) (and_left (may_ask g.standing (RemoveFolder gone)) (may_change g (RemoveFolder gone)) may)
+removing_lock spot g (RemoveFileIn i) at may = subst (λ (z : Spot). may_remove g.standing z ≡ true) (sym (one_location spot i.spot at)) (and_left (lock_rules_allow g.standing (RemoveFileIn i)) (content_rules_allow g (RemoveFileIn i)) may)
+removing_lock spot g (RemoveDirIn i) at may = subst (λ (z : Spot). may_remove g.standing z ≡ true) (sym (one_location spot i.spot at)) (and_left (lock_rules_allow g.standing (RemoveDirIn i)) (content_rules_allow g (RemoveDirIn i)) may)
+removing_lock spot g (RemoveFolder gone) at may = subst (λ (z : Spot). may_remove g.standing z ≡ true) (sym (one_location spot gone at)) (and_left (lock_rules_allow g.standing (RemoveFolder gone)) (content_rules_allow g (RemoveFolder gone)) may)
 removing_lock spot g request at may = cc
 
-idle_takes : (spot : Spot) (request : Request) (reply : Reply) → (is_begin request || is_kill request) ≡ true → takes spot request reply ≡ false
+idle_takes : (spot : Spot) (request : Request) (reply : Reply) → (is_begin request || is_kill request) ≡ true → is_taken_from spot request reply ≡ false
 idle_takes spot (Begin intent) reply on = refl
 idle_takes spot Kill reply on = refl
 idle_takes spot request reply on = cc
@@ -173,7 +175,7 @@ idle_takes spot request reply on = cc
 pub some_same : {X : Type 0} {x y : X} → Some x ≡ Some y → x ≡ y
 some_same e = cc
 
-pub noted_missing : (st : DirState) (inner : Inner) (l : Listed) → missing_by inner (noted st l) ≡ missing_by inner l
+pub noted_missing : (st : DirState) (inner : Inner) (l : Listed) → missing_by inner (listing_noted st l) ≡ missing_by inner l
 noted_missing st inner (listed.Area a through ever) = refl
 noted_missing st inner (listed.Missing here) = refl
 noted_missing st inner (listed.Inside here f through ever) = refl
@@ -189,9 +191,9 @@ module _ (p : ℕ) (spot : Spot) (on : is_removing spot.area ≡ true) where
 
   lock_at : (s : Seen) (es : List Event) → AllByRecursion IsQuiet es → may_remove (seen_after p s es).standing spot ≡ true → may_remove s.standing spot ≡ true
   lock_at s [] quiet had = had
-  lock_at s (e ∷ es) quiet had = by (is_foreign p e) refl quiet.0 (lock_at (saw p s e) es quiet.1 had)
+  lock_at s (e ∷ es) quiet had = by (is_foreign p e) refl quiet.0 (lock_at (seen_after_event p s e) es quiet.1 had)
     where
-      by : (b : Bool) → is_foreign p e ≡ b → (b || leaves_folders e.request e.reply) ≡ true → may_remove (saw p s e).standing spot ≡ true → may_remove s.standing spot ≡ true
+      by : (b : Bool) → is_foreign p e ≡ b → (b || leaves_folders e.request e.reply) ≡ true → may_remove (seen_after_event p s e).standing spot ≡ true → may_remove s.standing spot ≡ true
       by true f q now = subst (λ (x : Seen). may_remove x.standing spot ≡ true) (ap (λ b. cond b s (seen_replied s e.request e.reply)) f) now
       by false f q now = lock_was spot s.standing e.request e.reply q (subst (λ (x : Seen). may_remove x.standing spot ≡ true) (ap (λ b. cond b s (seen_replied s e.request e.reply)) f) now)
 
@@ -248,9 +250,9 @@ module _ (p : ℕ) (spot : Spot) (on : is_removing spot.area ≡ true) where
       by : (b : Bool) → is_inner inner (root_of spot) ≡ b → missing_by (root_of spot) (begun_at st inner (folder_at st.namespace inner.spot)) ≡ false
       by false off = away (folder_at st.namespace inner.spot) off
       by true is =
-          let y = both (spot_eq inner.spot spot) (bytes_eq inner.path []) is in
+          let y = and_parts (spot_eq inner.spot spot) (bytes_eq inner.path []) is in
           let here : inner.spot ≡ spot = one_location inner.spot spot y.0 in
-          let path : inner.path ≡ [] = name_same inner.path [] y.1 in
+          let path : inner.path ≡ [] = same_text inner.path [] y.1 in
           let there : folder_at st.namespace inner.spot ≡ Some f = ap (λ (z : Spot). folder_at st.namespace z) here ∙ at in
           ap (λ (o : Option ℕ). missing_by (root_of spot) (begun_at st inner o)) there
           ∙ ap (λ (l : List ℕ). missing_by (root_of spot) (cond (has_dir st.entries f l) (listed.Inside inner f (items_in f inner.path st.entries) []) (listed.Missing inner))) path
@@ -261,12 +263,12 @@ module _ (p : ℕ) (spot : Spot) (on : is_removing spot.area ≡ true) where
       st : DirState
       st = state_after h
 
-      begins : (request : Request) → begun st e.process request ≡ Some l → missing_by (root_of spot) l.listed ≡ false
+      begins : (request : Request) → listing_begun st e.process request ≡ Some l → missing_by (root_of spot) l.listed ≡ false
       begins (ListIn inner) b = subst (λ (z : OpenListing). missing_by (root_of spot) z.listed ≡ false) (some_same b) (begins_found st f k.at inner)
       begins (ListArea a) b = subst (λ (z : OpenListing). missing_by (root_of spot) z.listed ≡ false) (some_same b) refl
       begins request b = cc
 
-      by : (In l st.listings ⊎ ((l0 : OpenListing) × (In l0 st.listings × (l ≡ noted_by st l0)))) ⊎ ((e.reply ≡ Begun) × (begun st e.process e.request ≡ Some l)) → missing_by (root_of spot) l.listed ≡ false
+      by : (In l st.listings ⊎ ((l0 : OpenListing) × (In l0 st.listings × (l ≡ noted_by st l0)))) ⊎ ((e.reply ≡ Begun) × (listing_begun st e.process e.request ≡ Some l)) → missing_by (root_of spot) l.listed ≡ false
       by (inl (inl j)) = k.found l j mine
       by (inl (inr x)) =
           ap (λ (z : OpenListing). missing_by (root_of spot) z.listed) x.1.1 ∙ (noted_missing st (root_of spot) x.0.listed
@@ -308,8 +310,8 @@ module _ (p : ℕ) (spot : Spot) (on : is_removing spot.area ≡ true) where
       by : (o : Option OpenListing) → listing_of st p ≡ o → shows_missing (root_of spot) o ≡ true → ⊥
       by None e m = cc
       by (Some l) e m =
-          let x = find_in (is_of p) l (noted_all st st.listings) e in
+          let x = find_in (is_listing_of p) l (noted_all st st.listings) e in
           let g = in_map (noted_by st) st.listings l x.0 in
           clash (missing_by (root_of spot) l.listed) (sym (missing_so (root_of spot) l) ∙ m)
           (ap (λ (z : OpenListing). missing_by (root_of spot) z.listed) g.1.1 ∙ (noted_missing st (root_of spot) g.0.listed
-          ∙ k.found g.0 g.1.0 (ap (λ (q : OpenListing). q.process) (sym g.1.1) ∙ nat_same l.process p x.1)))
+          ∙ k.found g.0 g.1.0 (ap (λ (q : OpenListing). q.process) (sym g.1.1) ∙ same_number l.process p x.1)))

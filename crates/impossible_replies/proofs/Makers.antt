@@ -1,6 +1,9 @@
 -- A maker's changes, syncs and moves of its folder are answered as its own.
 use Rattle.std.proofs.Common.{◌≡◌, ◌⊎◌, inl, inr, ℕ, Bool, true, false, not, ◌&&◌, ◌||◌, ◌==◌, cond, bytes_eq, nat_le, Option, Some, None, List, [], ◌∷◌, length, refl, sym, ap, subst, ◌∙◌}
 use Rattle.std.specs.List.{list_any}
+use Rattle.std.proofs.lemmas.Bool.{or_left, and_parts}
+use Rattle.plain_laws.proofs.Booleans.{clash}
+use Rattle.plain_laws.proofs.Texts.{same_text}
 use Rattle.dir_model.specs.declared.area.Area.{Area}
 use Rattle.dir_model.specs.declared.area.Area.TheVariants as area
 use Rattle.dir_model.specs.declared.intent.Kind.{Kind}
@@ -30,15 +33,13 @@ use Rattle.dir_rules.specs.declared.seen.Making.{Making}
 use Rattle.dir_rules.specs.declared.seen.Seen.{Seen}
 use Rattle.dir_rules.specs.Marks.{parent}
 use Rattle.dir_rules.specs.Seen.{makes_at, is_making_area}
-use Rattle.dir_rules.specs.Standing.{is_in, began_as, is_maker, is_remover, is_gc, is_prepare, is_run, draws, holds_own, closes_gate}
-use Rattle.dir_rules.specs.LockRules.{may_ask, may_move_between, may_hold_gate, may_remove}
-use Rattle.dir_rules.specs.Rules.{allows, may_change, may_bring_between, makes_here, may_make_dir, may_make_file_in, may_append_in, may_sync_in, may_make_entry, may_sync_entry, spares, of_making, is_new_path, is_in_directory, in_order, has_path, has_file, has_dir, is_dir, has_done, is_all_done, is_import}
+use Rattle.dir_rules.specs.Standing.{is_in, began_as, is_maker, is_remover, is_gc, is_prepare, is_run, draws, holds_own, excludes_area}
+use Rattle.dir_rules.specs.LockRules.{lock_rules_allow, locks_allow_move, may_exclude_area, may_remove}
+use Rattle.dir_rules.specs.Rules.{allows, content_rules_allow, contents_allow_move, makes_here, may_make_dir, may_make_file_in, may_append_in, may_sync_in, may_make_entry, may_sync_entry, spares_deleted_pod, of_making, is_new_path, is_in_directory, is_in_order, has_path_among, has_file_among, has_dir_among, is_dir, has_done, is_all_done, is_import}
 use Rattle.dir_rules.specs.Anomalies.{folder_of, is_its_folder, is_import_again, is_place_error, loses_own, meets_another}
 use Rattle.dir_rules.specs.Conforms.{seen_of}
 use Rattle.lifecycle.specs.Executions.{IsConforming}
-use Rattle.lifecycle.proofs.Lists.{In, any_in, in_any, or_left}
-use Rattle.lifecycle.proofs.Handles.{both, clash}
-use Rattle.lifecycle.proofs.Places.{name_same}
+use Rattle.lifecycle.proofs.Lists.{In, any_in, in_any}
 use Rattle.folder_contents.specs.Entries.{entries_in, SameNames}
 use Rattle.folder_contents.specs.Makers.{guards, StandsAsKnown}
 use Rattle.folder_contents.proofs.Names.{file_of, dir_of}
@@ -61,29 +62,29 @@ no_gc kind.Prepare h j = cc
 no_gc kind.Run h j = cc
 no_gc k h j = cc
 
-no_closer : (k : Kind) → is_import k ≡ true → may_hold_gate k area.Incoming ≡ true → ⊥
+no_closer : (k : Kind) → is_import k ≡ true → may_exclude_area k area.Incoming ≡ true → ⊥
 no_closer kind.ImageImport h j = cc
 no_closer k h j = cc
 
 -- what the names in a folder say of what stands there
-has_path_node : (path : List ℕ) (es : List Entry) → has_path path es ≡ true → (has_file path es ≡ true) ⊎ (has_dir path es ≡ true)
+has_path_node : (path : List ℕ) (es : List Entry) → has_path_among path es ≡ true → (has_file_among path es ≡ true) ⊎ (has_dir_among path es ≡ true)
 has_path_node path es h =
     let e = any_in (λ e. bytes_eq e.path path) es h in
     by e.0 e.1.0 e.1.1
   where
-    by : (e : Entry) → In e es → bytes_eq e.path path ≡ true → (has_file path es ≡ true) ⊎ (has_dir path es ≡ true)
+    by : (e : Entry) → In e es → bytes_eq e.path path ≡ true → (has_file_among path es ≡ true) ⊎ (has_dir_among path es ≡ true)
     by e i same = at e.node refl
       where
-        at : (n : TreeNode) → e.node ≡ n → (has_file path es ≡ true) ⊎ (has_dir path es ≡ true)
+        at : (n : TreeNode) → e.node ≡ n → (has_file_among path es ≡ true) ⊎ (has_dir_among path es ≡ true)
         at Dir f = inr (in_any (λ e. is_dir e.node && bytes_eq e.path path) e es i (and_both (is_dir e.node) (bytes_eq e.path path) (ap is_dir f) same))
         at (Piece b) f = inl (in_any (λ e. not (is_dir e.node) && bytes_eq e.path path) e es i
             (and_both (not (is_dir e.node)) (bytes_eq e.path path) (ap (λ (n : TreeNode). not (is_dir n)) f) same))
 
-pub pathless_file : (path : List ℕ) (es : List Entry) → has_path path es ≡ false → has_file path es ≡ false
+pub pathless_file : (path : List ℕ) (es : List Entry) → has_path_among path es ≡ false → has_file_among path es ≡ false
 pathless_file path es h = any_fewer (λ e. not (is_dir e.node) && bytes_eq e.path path) (λ e. bytes_eq e.path path)
     (λ e t. and_right (not (is_dir e.node)) (bytes_eq e.path path) t) es h
 
-pub pathless_dir : (path : List ℕ) (es : List Entry) → has_path path es ≡ false → has_dir path es ≡ false
+pub pathless_dir : (path : List ℕ) (es : List Entry) → has_path_among path es ≡ false → has_dir_among path es ≡ false
 pathless_dir path es h = any_fewer (λ e. is_dir e.node && bytes_eq e.path path) (λ e. bytes_eq e.path path)
     (λ e t. and_right (is_dir e.node) (bytes_eq e.path path) t) es h
 
@@ -92,29 +93,29 @@ is_none [] h = refl
 is_none (x ∷ xs) h = cc
 
 module _ (es : List TreeEntry) (k : ℕ) (known : List Entry) (names : SameNames (entries_in k es) known) where
-  file_same : (path : List ℕ) → trees.has_file es k path ≡ has_file path known
+  file_same : (path : List ℕ) → trees.has_file es k path ≡ has_file_among path known
   file_same path = file_of k path es ∙ (names path).0
 
-  dir_same : (path : List ℕ) → list_any (is_dir_entry k path) es ≡ has_dir path known
+  dir_same : (path : List ℕ) → list_any (is_dir_entry k path) es ≡ has_dir_among path known
   dir_same path = dir_of k path es ∙ (names path).1
 
   parent_stands : (path : List ℕ) → is_path path ≡ true → is_empty path ≡ false → is_in_directory path known ≡ true → has_parent es k path ≡ true
   parent_stands path is full inside = by (is_empty (parent path)) refl inside
     where
-      by : (b : Bool) → is_empty (parent path) ≡ b → (b || has_dir (parent path) known) ≡ true → has_parent es k path ≡ true
+      by : (b : Bool) → is_empty (parent path) ≡ b → (b || has_dir_among (parent path) known) ≡ true → has_parent es k path ≡ true
       by true e h = or_left (is_directly_in [] path) (list_any (is_parent_entry k path) es)
           (subst (λ (d : List ℕ). is_directly_in d path ≡ true) (is_none (parent path) e) (directly path is full))
       by false e h =
           let x = any_in (is_dir_entry k (parent path)) es (dir_same (parent path) ∙ h) in
-          let y = both ((x.0.folder == k) && bytes_eq x.0.path (parent path)) (trees.is_dir x.0.node) x.1.1 in
-          let z = both (x.0.folder == k) (bytes_eq x.0.path (parent path)) y.0 in
+          let y = and_parts ((x.0.folder == k) && bytes_eq x.0.path (parent path)) (trees.is_dir x.0.node) x.1.1 in
+          let z = and_parts (x.0.folder == k) (bytes_eq x.0.path (parent path)) y.0 in
           or_last (is_directly_in [] path) (list_any (is_parent_entry k path) es)
           (in_any (is_parent_entry k path) x.0 es x.1.0
           (and_both (x.0.folder == k) (trees.is_dir x.0.node && is_directly_in x.0.path path) z.0
           (and_both (trees.is_dir x.0.node) (is_directly_in x.0.path path) y.1
-          (subst (λ (d : List ℕ). is_directly_in d path ≡ true) (sym (name_same x.0.path (parent path) z.1)) (directly path is full)))))
+          (subst (λ (d : List ℕ). is_directly_in d path ≡ true) (sym (same_text x.0.path (parent path) z.1)) (directly path is full)))))
 
-  pub made_free : (path : List ℕ) → is_path path ≡ true → is_empty path ≡ false → has_dir path known ≡ false → has_file path known ≡ false →
+  pub made_free : (path : List ℕ) → is_path path ≡ true → is_empty path ≡ false → has_dir_among path known ≡ false → has_file_among path known ≡ false →
       is_in_directory path known ≡ true → make_refusal path es k ≡ None
   made_free path is full no_dir no_file inside =
       by (is_empty path) (list_any (is_dir_entry k path) es) (trees.has_file es k path) (has_parent es k path) full
@@ -129,35 +130,35 @@ module _ (es : List TreeEntry) (k : ℕ) (known : List Entry) (names : SameNames
 
   pub makes : (path : List ℕ) → is_path path ≡ true → is_new_path path known ≡ true → make_refusal path es k ≡ None
   makes path is new =
-      let a = both (nat_le (length path) 8192) (not (is_empty path) && (not (has_path path known) && is_in_directory path known)) new in
-      let b = both (not (is_empty path)) (not (has_path path known) && is_in_directory path known) a.1 in
-      let c = both (not (has_path path known)) (is_in_directory path known) b.1 in
+      let a = and_parts (nat_le (length path) 8192) (not (is_empty path) && (not (has_path_among path known) && is_in_directory path known)) new in
+      let b = and_parts (not (is_empty path)) (not (has_path_among path known) && is_in_directory path known) a.1 in
+      let c = and_parts (not (has_path_among path known)) (is_in_directory path known) b.1 in
       let full = not_true (is_empty path) b.0 in
-      let free = not_true (has_path path known) c.0 in
+      let free = not_true (has_path_among path known) c.0 in
       made_free path is full (pathless_dir path known free) (pathless_file path known free) c.1
 
-  pub appends : (path : List ℕ) → has_file path known ≡ true → file_refusal path es k ≡ None
+  pub appends : (path : List ℕ) → has_file_among path known ≡ true → file_refusal path es k ≡ None
   appends path there = ap (λ b. cond b None (Some Missing)) (file_same path ∙ there)
 
-  pub syncs : (path : List ℕ) → (is_empty path || has_path path known) ≡ true → sync_refusal path es k ≡ None
+  pub syncs : (path : List ℕ) → (is_empty path || has_path_among path known) ≡ true → sync_refusal path es k ≡ None
   syncs path may = by (is_empty path) refl may
     where
       yes_any : has_any es k path ≡ true → sync_refusal path es k ≡ None
       yes_any h = ap (λ b. cond b None (Some Missing)) h
 
-      node : (has_file path known ≡ true) ⊎ (has_dir path known ≡ true) → has_any es k path ≡ true
+      node : (has_file_among path known ≡ true) ⊎ (has_dir_among path known ≡ true) → has_any es k path ≡ true
       node (inl f) = or_last (trees.has_dir es k path) (trees.has_file es k path) (file_same path ∙ f)
       node (inr d) = or_left (trees.has_dir es k path) (trees.has_file es k path)
           (or_last (is_empty path) (list_any (is_dir_entry k path) es) (dir_same path ∙ d))
 
-      by : (b : Bool) → is_empty path ≡ b → (b || has_path path known) ≡ true → sync_refusal path es k ≡ None
+      by : (b : Bool) → is_empty path ≡ b → (b || has_path_among path known) ≡ true → sync_refusal path es k ≡ None
       by true e h = yes_any (or_left (trees.has_dir es k path) (trees.has_file es k path) (or_left (is_empty path) (list_any (is_dir_entry k path) es) e))
       by false e h = yes_any (node (has_path_node path known h))
 
 -- where it makes, it has the folder's lock
 pub here_guarded : (g : Seen) (spot : Spot) (a : Area) → makes_here g spot a ≡ true → (makes_at g.making spot ≡ true) × (guards g spot.name a ≡ true)
-here_guarded g spot area.Prepare h = both (makes_at g.making spot) (holds_own spot.name g.standing) h
-here_guarded g spot area.Incoming h = both (makes_at g.making spot) g.stored h
+here_guarded g spot area.Prepare h = and_parts (makes_at g.making spot) (holds_own spot.name g.standing) h
+here_guarded g spot area.Incoming h = and_parts (makes_at g.making spot) g.stored h
 here_guarded g spot a h = cc
 
 module _ (h : List Event) (p : ℕ) (conforming : IsConforming h) (living : lives (state_after h).namespace p ≡ true) (m : Making)
@@ -170,7 +171,7 @@ module _ (h : List Event) (p : ℕ) (conforming : IsConforming h) (living : live
 
   at_making : (spot : Spot) → makes_at s.making spot ≡ true → (m.spot ≡ spot) × (is_making_area spot.area ≡ true)
   at_making spot its =
-      let x = both (spot_eq m.spot spot) (is_making_area spot.area) (sym (ap (λ (o : Option Making). makes_at o spot) knew) ∙ its) in
+      let x = and_parts (spot_eq m.spot spot) (is_making_area spot.area) (sym (ap (λ (o : Option Making). makes_at o spot) knew) ∙ its) in
       (one_location m.spot spot x.0, x.1)
 
   fit : FitsIn s.standing m.spot.name m.spot.area
@@ -201,20 +202,20 @@ module _ (h : List Event) (p : ℕ) (conforming : IsConforming h) (living : live
 
   pub made_dir : (i : Inner) → is_path i.path ≡ true → allows s (MakeDirIn i) ≡ true → refusal st p (MakeDirIn i) ≡ None
   made_dir i is may =
-      let x = both (may_make_dir s i) (spares s i) (and_right (may_ask s.standing (MakeDirIn i)) (may_change s (MakeDirIn i)) may) in
-      let y = both (makes_here s i.spot i.spot.area) (of_making (may_make_entry s false i) s.making) x.0 in
+      let x = and_parts (may_make_dir s i) (spares_deleted_pod s i) (and_right (lock_rules_allow s.standing (MakeDirIn i)) (content_rules_allow s (MakeDirIn i)) may) in
+      let y = and_parts (makes_here s i.spot i.spot.area) (of_making (may_make_entry s false i) s.making) x.0 in
       fine i y.0 (make_refusal i.path) (λ k names. makes st.entries k m.entries names i.path is
-      (and_left (is_new_path i.path m.entries) (in_order s i.spot.area false i.path m.entries) (of_known (may_make_entry s false i) y.1)))
+      (and_left (is_new_path i.path m.entries) (is_in_order s i.spot.area false i.path m.entries) (of_known (may_make_entry s false i) y.1)))
 
   pub made_file : (i : Inner) → is_path i.path ≡ true → makes_at s.making i.spot ≡ true → allows s (MakeFileIn i) ≡ true → refusal st p (MakeFileIn i) ≡ None
   made_file i is its may = by i.spot.area refl (at_making i.spot its).1
-      (and_left (may_make_file_in s i i.spot.area) (spares s i) (and_right (may_ask s.standing (MakeFileIn i)) (may_change s (MakeFileIn i)) may))
+      (and_left (may_make_file_in s i i.spot.area) (spares_deleted_pod s i) (and_right (lock_rules_allow s.standing (MakeFileIn i)) (content_rules_allow s (MakeFileIn i)) may))
     where
       on : (a : Area) → i.spot.area ≡ a → (makes_here s i.spot a && of_making (may_make_entry s true i) s.making) ≡ true → refusal st p (MakeFileIn i) ≡ None
       on a e h =
-          let y = both (makes_here s i.spot a) (of_making (may_make_entry s true i) s.making) h in
+          let y = and_parts (makes_here s i.spot a) (of_making (may_make_entry s true i) s.making) h in
           fine i (subst (λ (b : Area). makes_here s i.spot b ≡ true) (sym e) y.0) (make_refusal i.path) (λ k names. makes st.entries k m.entries names i.path is
-          (and_left (is_new_path i.path m.entries) (in_order s i.spot.area true i.path m.entries) (of_known (may_make_entry s true i) y.1)))
+          (and_left (is_new_path i.path m.entries) (is_in_order s i.spot.area true i.path m.entries) (of_known (may_make_entry s true i) y.1)))
 
       by : (a : Area) → i.spot.area ≡ a → is_making_area a ≡ true → may_make_file_in s i a ≡ true → refusal st p (MakeFileIn i) ≡ None
       by area.Embryo e making h = on area.Embryo e h
@@ -224,13 +225,13 @@ module _ (h : List Event) (p : ℕ) (conforming : IsConforming h) (living : live
 
   pub appended : (i : Inner) (piece : List ℕ) → makes_at s.making i.spot ≡ true → allows s (AppendIn i piece) ≡ true → refusal st p (AppendIn i piece) ≡ None
   appended i piece its may = by i.spot.area refl (at_making i.spot its).1
-      (and_left (may_append_in s i i.spot.area) (spares s i) (and_right (may_ask s.standing (AppendIn i piece)) (may_change s (AppendIn i piece)) may))
+      (and_left (may_append_in s i i.spot.area) (spares_deleted_pod s i) (and_right (lock_rules_allow s.standing (AppendIn i piece)) (content_rules_allow s (AppendIn i piece)) may))
     where
-      on : (a : Area) → i.spot.area ≡ a → (makes_here s i.spot a && of_making (λ x. has_file i.path x.entries) s.making) ≡ true → refusal st p (AppendIn i piece) ≡ None
+      on : (a : Area) → i.spot.area ≡ a → (makes_here s i.spot a && of_making (λ x. has_file_among i.path x.entries) s.making) ≡ true → refusal st p (AppendIn i piece) ≡ None
       on a e h =
-          let y = both (makes_here s i.spot a) (of_making (λ x. has_file i.path x.entries) s.making) h in
+          let y = and_parts (makes_here s i.spot a) (of_making (λ x. has_file_among i.path x.entries) s.making) h in
           fine i (subst (λ (b : Area). makes_here s i.spot b ≡ true) (sym e) y.0) (file_refusal i.path) (λ k names. appends st.entries k m.entries names i.path
-          (of_known (λ x. has_file i.path x.entries) y.1))
+          (of_known (λ x. has_file_among i.path x.entries) y.1))
 
       by : (a : Area) → i.spot.area ≡ a → is_making_area a ≡ true → may_append_in s i a ≡ true → refusal st p (AppendIn i piece) ≡ None
       by area.Embryo e making h = on area.Embryo e h
@@ -246,13 +247,13 @@ module _ (h : List Event) (p : ℕ) (conforming : IsConforming h) (living : live
       let w = stands_at i.spot x.0 x.1 in (
         w.folder,
         file_same st.entries w.folder m.entries w.names i.path ∙ by i.spot.area (at_making i.spot x.0).1
-            (and_left (may_append_in s i i.spot.area) (spares s i) (and_right (may_ask s.standing (AppendIn i piece)) (may_change s (AppendIn i piece)) may)),
+            (and_left (may_append_in s i i.spot.area) (spares_deleted_pod s i) (and_right (lock_rules_allow s.standing (AppendIn i piece)) (content_rules_allow s (AppendIn i piece)) may)),
       )
     where
-      on : (a : Area) → (makes_here s i.spot a && of_making (λ x. has_file i.path x.entries) s.making) ≡ true → has_file i.path m.entries ≡ true
-      on a h = of_known (λ x. has_file i.path x.entries) (and_right (makes_here s i.spot a) (of_making (λ x. has_file i.path x.entries) s.making) h)
+      on : (a : Area) → (makes_here s i.spot a && of_making (λ x. has_file_among i.path x.entries) s.making) ≡ true → has_file_among i.path m.entries ≡ true
+      on a h = of_known (λ x. has_file_among i.path x.entries) (and_right (makes_here s i.spot a) (of_making (λ x. has_file_among i.path x.entries) s.making) h)
 
-      by : (a : Area) → is_making_area a ≡ true → may_append_in s i a ≡ true → has_file i.path m.entries ≡ true
+      by : (a : Area) → is_making_area a ≡ true → may_append_in s i a ≡ true → has_file_among i.path m.entries ≡ true
       by area.Embryo making h = on area.Embryo h
       by area.Prepare making h = on area.Prepare h
       by area.Incoming making h = on area.Incoming h
@@ -260,11 +261,11 @@ module _ (h : List Event) (p : ℕ) (conforming : IsConforming h) (living : live
 
   synced : (i : Inner) → makes_at s.making i.spot ≡ true → allows s (SyncIn i) ≡ true → refusal st p (SyncIn i) ≡ None
   synced i its may = by i.spot.area refl (at_making i.spot its).1
-      (and_left (may_sync_in s i i.spot.area) (spares s i) (and_right (may_ask s.standing (SyncIn i)) (may_change s (SyncIn i)) may))
+      (and_left (may_sync_in s i i.spot.area) (spares_deleted_pod s i) (and_right (lock_rules_allow s.standing (SyncIn i)) (content_rules_allow s (SyncIn i)) may))
     where
       on : (a : Area) → i.spot.area ≡ a → (makes_here s i.spot a && of_making (may_sync_entry i) s.making) ≡ true → refusal st p (SyncIn i) ≡ None
       on a e h =
-          let y = both (makes_here s i.spot a) (of_making (may_sync_entry i) s.making) h in
+          let y = and_parts (makes_here s i.spot a) (of_making (may_sync_entry i) s.making) h in
           fine i (subst (λ (b : Area). makes_here s i.spot b ≡ true) (sym e) y.0) (sync_refusal i.path) (λ k names. syncs st.entries k m.entries names i.path
           (of_known (may_sync_entry i) y.1))
 
@@ -276,18 +277,18 @@ module _ (h : List Event) (p : ℕ) (conforming : IsConforming h) (living : live
 
   -- a move of what it makes is under its lock
   mover_guards : (from to : Spot) (a b : Area) → from.area ≡ a → FitsIn s.standing from.name a → is_making_area a ≡ true →
-      may_bring_between s from to a b ≡ true → (is_stage a ≡ true → may_move_between s.standing from.name a b ≡ true) → guards s from.name a ≡ true
+      contents_allow_move s from to a b ≡ true → (is_stage a ≡ true → locks_allow_move s.standing from.name a b ≡ true) → guards s from.name a ≡ true
   mover_guards from to area.Embryo area.Prepare is f making bring ask =
-      and_left s.standing.gated (draws from.name s.standing) (and_left (s.standing.gated && draws from.name s.standing) (holds_own from.name s.standing) (ask refl))
+      and_left s.standing.embryo_under_lock (draws from.name s.standing) (and_left (s.standing.embryo_under_lock && draws from.name s.standing) (holds_own from.name s.standing) (ask refl))
   mover_guards from to area.Embryo area.Garbage is f making bring ask =
-      kinds_apart is_maker is_gc no_gc s.standing.intent f.1 (and_left (began_as is_gc s.standing) (closes_gate area.Embryo s.standing) (ask refl))
+      kinds_apart is_maker is_gc no_gc s.standing.intent f.1 (and_left (began_as is_gc s.standing) (excludes_area area.Embryo s.standing) (ask refl))
   mover_guards from to area.Prepare area.Prepared is f making bring ask = and_right (began_as is_prepare s.standing) (holds_own from.name s.standing) (ask refl)
   mover_guards from to area.Prepare area.Run is f making bring ask = and_right (began_as is_run s.standing) (holds_own from.name s.standing) (ask refl)
   mover_guards from to area.Prepare area.Garbage is f making bring ask =
       kinds_apart is_maker is_remover no_remover s.standing.intent f.0.1 (and_left (began_as is_remover s.standing) _ (ask refl))
   mover_guards from to area.Incoming area.Images is f making bring ask = and_right (has_done is_all_done s from) s.stored bring
   mover_guards from to area.Incoming area.Removed is f making bring ask =
-      kinds_apart is_import (λ k. may_hold_gate k area.Incoming) no_closer s.standing.intent f.1 (closes_fit h conforming p area.Incoming bring)
+      kinds_apart is_import (λ k. may_exclude_area k area.Incoming) no_closer s.standing.intent f.1 (closes_fit h conforming p area.Incoming bring)
   mover_guards from to area.Embryo b is f making bring ask = cc
   mover_guards from to area.Prepare b is f making bring ask = cc
   mover_guards from to area.Incoming b is f making bring ask = cc
@@ -307,7 +308,7 @@ module _ (h : List Event) (p : ℕ) (conforming : IsConforming h) (living : live
       staged : is_stage from.area ≡ true → ⊥
       staged e = clash (is_stage from.area || is_in area.Removed to.area) (or_left (is_stage from.area) (is_in area.Removed to.area) e) none
 
-      by : (a b : Area) → from.area ≡ a → to.area ≡ b → is_making_area a ≡ true → may_bring_between s from to a b ≡ true → ⊥
+      by : (a b : Area) → from.area ≡ a → to.area ≡ b → is_making_area a ≡ true → contents_allow_move s from to a b ≡ true → ⊥
       by area.Embryo b e f making bring = staged (ap is_stage e)
       by area.Prepare b e f making bring = staged (ap is_stage e)
       by area.Incoming area.Images e f making bring = clash (is_in area.Images to.area) (ap (is_in area.Images) f) again
@@ -348,11 +349,11 @@ module _ (h : List Event) (p : ℕ) (conforming : IsConforming h) (living : live
   no_loss (SyncIn i) error left its plain formed may is place again =
       unrefused error (refusal st p (SyncIn i)) (told st p (SyncIn i) error left plain refl (place_told error place) is) (synced i its may)
   no_loss (RemoveFileIn i) error left its plain formed may is place again =
-      kept i.spot its (and_left (may_remove s.standing i.spot) (may_change s (RemoveFileIn i)) may)
+      kept i.spot its (and_left (may_remove s.standing i.spot) (content_rules_allow s (RemoveFileIn i)) may)
   no_loss (RemoveDirIn i) error left its plain formed may is place again =
-      kept i.spot its (and_left (may_remove s.standing i.spot) (may_change s (RemoveDirIn i)) may)
+      kept i.spot its (and_left (may_remove s.standing i.spot) (content_rules_allow s (RemoveDirIn i)) may)
   no_loss (RemoveFolder spot) error left its plain formed may is place again =
-      kept spot its (and_left (may_remove s.standing spot) (may_change s (RemoveFolder spot)) may)
+      kept spot its (and_left (may_remove s.standing spot) (content_rules_allow s (RemoveFolder spot)) may)
   no_loss request error left its plain formed may is place again = cc
 
 pub its_own : (h : List Event) (p : ℕ) → IsConforming h → lives (state_after h).namespace p ≡ true → (request : Request) (reply : Reply) →

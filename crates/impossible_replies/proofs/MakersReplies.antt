@@ -1,5 +1,6 @@
 -- What no maker is answered.
 use Rattle.std.proofs.Common.{◌≡◌, ℕ, Bool, true, false, ◌||◌, List, [], ◌∷◌, ◌++◌, refl}
+use Rattle.std.proofs.lemmas.Bool.{or_left}
 use Rattle.dir_model.specs.declared.event.Event.{Event}
 use Rattle.dir_model.specs.declared.spot.Which.TheVariants as which
 use Rattle.dir_model.specs.declared.request.DirError.TheVariants.{Missing, Exists, NotEmpty, Locked, Failed, NoMemory}
@@ -16,12 +17,11 @@ use Rattle.dir_model.proofs.Chains.{run_from-right}
 use Rattle.dir_model.proofs.Lists.{and_left, or_last}
 use Rattle.dir_rules.specs.LockRules.{may_lock_by}
 use Rattle.dir_rules.specs.Standing.{find_held}
-use Rattle.dir_rules.specs.Rules.{may_change}
+use Rattle.dir_rules.specs.Rules.{content_rules_allow}
 use Rattle.dir_rules.specs.Anomalies.{folder_of, is_own_embryo, is_own_embryo_held, loses_embryo, meets_another, loses_own}
 use Rattle.dir_rules.specs.Conforms.{seen_of}
 use Rattle.lifecycle.specs.Executions.{IsConforming}
 use Rattle.lifecycle.proofs.Handles.{is_due}
-use Rattle.lifecycle.proofs.Lists.{or_left}
 use Rattle.folder_contents.proofs.Along.{conforming_to}
 use Rattle.impossible_replies.specs.Replies.{MakersReply, is_of_making}
 use Rattle.impossible_replies.proofs.Alongside.{Steps, steps}
@@ -43,7 +43,7 @@ embryo_kept h p (TryLock handle mode) (Refused Locked left) x = by (is_own_embry
     by : (b : Bool) → is_own_embryo_held (seen_of p h).standing (find_held handle (seen_of p h).standing) ≡ b → b ≡ false
     by false e = refl
     by true e = absurd (locks_own h p x.conforming x.living handle mode left e
-        (and_left (may_lock_by (seen_of p h).standing (find_held handle (seen_of p h).standing) mode) (may_change (seen_of p h) (TryLock handle mode)) x.may) x.is)
+        (and_left (may_lock_by (seen_of p h).standing (find_held handle (seen_of p h).standing) mode) (content_rules_allow (seen_of p h) (TryLock handle mode)) x.may) x.is)
 embryo_kept h p (Open spot which.Own) (Refused Missing left) x = by (is_own_embryo (seen_of p h).standing spot) refl
   where
     by : (b : Bool) → is_own_embryo (seen_of p h).standing spot ≡ b → b ≡ false

@@ -1,6 +1,8 @@
 -- While a process runs a pod, there stands what it noted, and nothing else that is named as a note.
 use Rattle.std.proofs.Common.{◌≡◌, ◌⊎◌, inl, inr, ◌≤◌, ℕ, Bool, true, false, not, ◌&&◌, ◌||◌, ◌==◌, cond, bytes_eq, Option, Some, is_some, List, [], ◌∷◌, ◌++◌, refl, sym, ap, subst, ◌∙◌}
 use Rattle.std.specs.List.{list_any}
+use Rattle.plain_laws.proofs.Booleans.{clash}
+use Rattle.plain_laws.proofs.Texts.{same_text}
 use Rattle.dir_model.specs.declared.area.Area.{Area}
 use Rattle.dir_model.specs.declared.area.Area.TheVariants as area
 use Rattle.dir_model.specs.declared.event.Event.{Event}
@@ -25,21 +27,21 @@ use Rattle.dir_rules.specs.declared.seen.Seen.{Seen}
 use Rattle.dir_rules.specs.declared.standing.Standing.{Standing}
 use Rattle.dir_rules.specs.Marks.{is_status_file}
 use Rattle.dir_rules.specs.Seen.{inner_eq, learned}
-use Rattle.dir_rules.specs.Standing.{is_in, is_of, holds_own, last_of, standing_replied}
-use Rattle.dir_rules.specs.LockRules.{on_spot, may_ask}
-use Rattle.dir_rules.specs.Rules.{allows, may_append_in, may_change, has_file, has_note, is_dir, runs, spares}
+use Rattle.dir_rules.specs.Standing.{is_in, is_spot_of_pod, holds_own, last_move_of, standing_replied}
+use Rattle.dir_rules.specs.LockRules.{on_spot, lock_rules_allow}
+use Rattle.dir_rules.specs.Rules.{allows, may_append_in, content_rules_allow, has_file_among, has_note, is_dir, runs, spares_deleted_pod}
 use Rattle.dir_rules.specs.Conforms.{seen_of, seen_replied}
 use Rattle.dir_rules.proofs.Unborn.{unborn_saw_nothing}
-use Rattle.lifecycle.specs.PodMachine.{pod_state, age}
+use Rattle.lifecycle.specs.PodMachine.{pod_state, pod_progress}
 use Rattle.lifecycle.specs.Executions.{IsConforming}
 use Rattle.lifecycle.proofs.Lists.{In}
-use Rattle.lifecycle.proofs.Handles.{clash, none_refused, refused_if}
+use Rattle.lifecycle.proofs.Handles.{none_refused, refused_if}
 use Rattle.lifecycle.proofs.Owners.{is_move_of}
-use Rattle.lifecycle.proofs.Places.{name_same, same_name}
+use Rattle.lifecycle.proofs.Places.{same_name}
 use Rattle.lifecycle.proofs.Step.{stands_from}
 use Rattle.folder_contents.specs.Entries.{entries_in}
 use Rattle.folder_contents.specs.Handing.{then_moved}
-use Rattle.folder_contents.specs.UnderGate.{takes}
+use Rattle.folder_contents.specs.UnderGate.{is_taken_from}
 use Rattle.folder_contents.proofs.Along.{Happens, along, happens, whose, stranger, foreign_same, own_next}
 use Rattle.folder_contents.proofs.Entries.{placed_here}
 use Rattle.folder_contents.proofs.Knowledge.{lived}
@@ -58,8 +60,8 @@ abbrev pub note : List ℕ → List ℕ → Inner
 note u path = record { spot = at area.Run u; path = path }
 
 pub record Noted (es : List Entry) (notes : List Inner) (u : List ℕ) : Type 0 where
-  pub files : (path : List ℕ) → is_noted path ≡ true → has_file path es ≡ true → list_any (inner_eq (note u path)) notes ≡ true
-  pub stands : (inner : Inner) → In inner notes → inner.spot ≡ at area.Run u → has_file inner.path es ≡ true
+  pub files : (path : List ℕ) → is_noted path ≡ true → has_file_among path es ≡ true → list_any (inner_eq (note u path)) notes ≡ true
+  pub stands : (inner : Inner) → In inner notes → inner.spot ≡ at area.Run u → has_file_among inner.path es ≡ true
 
 -- nothing arrives where a folder stands
 not_met : (st : DirState) (q : ℕ) (request : Request) (reply : Reply) (x : Spot) → is_reply st q request reply ≡ true → arrives x request reply ≡ true →
@@ -73,7 +75,7 @@ there_before : (st : DirState) (q : ℕ) (request : Request) (reply : Reply) (x 
     folder_at st.namespace x ≡ Some j → folder_at (namespace_replied st.namespace q request reply) x ≡ Some k → folder_at st.namespace x ≡ Some k
 there_before st q request reply x j k is before after = by (came st q request reply x (stands_there (namespace_replied st.namespace q request reply) x k after))
   where
-    by : (arrives x request reply ≡ true) ⊎ ((stands st.namespace x ≡ true) × (takes x request reply ≡ false)) → folder_at st.namespace x ≡ Some k
+    by : (arrives x request reply ≡ true) ⊎ ((stands st.namespace x ≡ true) × (is_taken_from x request reply ≡ false)) → folder_at st.namespace x ≡ Some k
     by (inl on) = clash (stands st.namespace x) (stands_there st.namespace x j before) (not_met st q request reply x is on)
     by (inr (stood, off)) = sym (untaken st q request reply x is stood off) ∙ after
 
@@ -83,29 +85,29 @@ module _ (st : DirState) (q : ℕ) (g : Seen) (request : Request) (reply : Reply
   after = entries_in k (state_next st (event q request reply)).entries
 
   -- a file that stands goes on standing
-  file_stays : (path : List ℕ) → has_file path (entries_in k st.entries) ≡ true → has_file path after ≡ true
+  file_stays : (path : List ℕ) → has_file_among path (entries_in k st.entries) ≡ true → has_file_among path after ≡ true
   file_stays path there = on (run_change st q g request reply k (at area.Run u) refl before may)
     where
-      on : (after ≡ entries_in k st.entries) ⊎ Written st q request reply k (at area.Run u) → has_file path after ≡ true
-      on (inl same) = subst (λ (es : List Entry). has_file path es ≡ true) (sym same) there
-      on (inr w) = subst (λ (es : List Entry). has_file path es ≡ true) (sym w.grown)
+      on : (after ≡ entries_in k st.entries) ⊎ Written st q request reply k (at area.Run u) → has_file_among path after ≡ true
+      on (inl same) = subst (λ (es : List Entry). has_file_among path es ≡ true) (sym same) there
+      on (inr w) = subst (λ (es : List Entry). has_file_among path es ≡ true) (sym w.grown)
           (any_push (λ e. not (is_dir e.node) && bytes_eq e.path path) (entries_in k st.entries) (record { path = w.inner.path; node = Piece w.bytes }) there)
 
   -- it stood before, or is written now
-  file_before : (path : List ℕ) → has_file path after ≡ true →
-      (has_file path (entries_in k st.entries) ≡ true) ⊎ ((w : Written st q request reply k (at area.Run u)) × (w.inner.path ≡ path))
+  file_before : (path : List ℕ) → has_file_among path after ≡ true →
+      (has_file_among path (entries_in k st.entries) ≡ true) ⊎ ((w : Written st q request reply k (at area.Run u)) × (w.inner.path ≡ path))
   file_before path there = on (run_change st q g request reply k (at area.Run u) refl before may)
     where
       on : (after ≡ entries_in k st.entries) ⊎ Written st q request reply k (at area.Run u) →
-          (has_file path (entries_in k st.entries) ≡ true) ⊎ ((w : Written st q request reply k (at area.Run u)) × (w.inner.path ≡ path))
-      on (inl same) = inl (subst (λ (es : List Entry). has_file path es ≡ true) same there)
+          (has_file_among path (entries_in k st.entries) ≡ true) ⊎ ((w : Written st q request reply k (at area.Run u)) × (w.inner.path ≡ path))
+      on (inl same) = inl (subst (λ (es : List Entry). has_file_among path es ≡ true) same there)
       on (inr w) = by (bytes_eq w.inner.path path) refl
         where
           by : (b : Bool) → bytes_eq w.inner.path path ≡ b →
-              (has_file path (entries_in k st.entries) ≡ true) ⊎ ((w : Written st q request reply k (at area.Run u)) × (w.inner.path ≡ path))
-          by true e = inr (w, name_same w.inner.path path e)
+              (has_file_among path (entries_in k st.entries) ≡ true) ⊎ ((w : Written st q request reply k (at area.Run u)) × (w.inner.path ≡ path))
+          by true e = inr (w, same_text w.inner.path path e)
           by false e = inl (sym (any_last_not (λ e. not (is_dir e.node) && bytes_eq e.path path) (entries_in k st.entries)
-              (record { path = w.inner.path; node = Piece w.bytes }) e) ∙ subst (λ (es : List Entry). has_file path es ≡ true) w.grown there)
+              (record { path = w.inner.path; node = Piece w.bytes }) e) ∙ subst (λ (es : List Entry). has_file_among path es ≡ true) w.grown there)
 
 -- what was noted is kept in mind
 more_notes : (t : Inner → Bool) (s : Seen) (request : Request) (reply : Reply) → list_any t s.notes ≡ true → list_any t (learned s request reply).notes ≡ true
@@ -174,36 +176,36 @@ noted_own p u h request reply x was off r k found = record {
         let had : has_note s inner ≡ true =
         and_right (is_status_file inner.path) (has_note s inner) (and_right (runs s inner.spot.name) (is_status_file inner.path && has_note s inner)
         (subst (λ (a : Area). may_append_in s inner a ≡ true) (ap (λ (z : Spot). z.area) (sym place))
-        (and_left (may_append_in s inner inner.spot.area) (spares s inner) (and_right (may_ask s.standing (AppendIn inner piece)) (may_change s (AppendIn inner piece)) may)))) in
+        (and_left (may_append_in s inner inner.spot.area) (spares_deleted_pod s inner) (and_right (lock_rules_allow s.standing (AppendIn inner piece)) (content_rules_allow s (AppendIn inner piece)) may)))) in
         more_notes (inner_eq (note u path)) s request reply
         (subst (λ (l : List ℕ). has_note s (record { spot = at area.Run u; path = l }) ≡ true) same
         (subst (λ (z : Spot). has_note s (record { spot = z; path = inner.path }) ≡ true) (sym place) had))
 
-    by : (path : List ℕ) → is_noted path ≡ true → (has_file path (entries_in k st.entries) ≡ true) ⊎ ((w : Written st p request reply k (at area.Run u)) × (w.inner.path ≡ path)) →
+    by : (path : List ℕ) → is_noted path ≡ true → (has_file_among path (entries_in k st.entries) ≡ true) ⊎ ((w : Written st p request reply k (at area.Run u)) × (w.inner.path ≡ path)) →
         list_any (inner_eq (note u path)) (learned s request reply).notes ≡ true
     by path named (inl old) = more_notes (inner_eq (note u path)) s request reply (noted.files path named old)
     by path named (inr (w, same)) = written path w.inner w.at same w.asked w.made
 
     standing : (inner : Inner) → inner.spot ≡ at area.Run u →
         In inner s.notes ⊎ ((request ≡ MakeFileIn inner) × ((reply ≡ Done) × (is_in inner.spot.area area.Run ≡ true))) →
-        has_file inner.path (entries_in k (state_next st (event p request reply)).entries) ≡ true
+        has_file_among inner.path (entries_in k (state_next st (event p request reply)).entries) ≡ true
     standing inner same (inl j) = file_stays st p s request reply u k before (λ alive. x.may) inner.path (noted.stands inner j same)
     standing inner same (inr (asked, (done, run))) =
-        subst (λ (q : Request). has_file inner.path (entries_in k (state_next st (event p q reply)).entries) ≡ true) (sym asked)
-        (subst (λ (y : Reply). has_file inner.path (entries_in k (state_next st (event p (MakeFileIn inner) y)).entries) ≡ true) (sym done)
-        (ap (has_file inner.path) (placed_here st.namespace k (at area.Run u) inner.spot inner.path (Piece []) st.entries before
+        subst (λ (q : Request). has_file_among inner.path (entries_in k (state_next st (event p q reply)).entries) ≡ true) (sym asked)
+        (subst (λ (y : Reply). has_file_among inner.path (entries_in k (state_next st (event p (MakeFileIn inner) y)).entries) ≡ true) (sym done)
+        (ap (has_file_among inner.path) (placed_here st.namespace k (at area.Run u) inner.spot inner.path (Piece []) st.entries before
         (subst (λ (z : Spot). spot_eq z inner.spot ≡ true) same (spot_self inner.spot)))
         ∙ any_last (λ e. not (is_dir e.node) && bytes_eq e.path inner.path) (entries_in k st.entries) (record { path = inner.path; node = Piece [] })
         (same_name inner.path inner.path refl)))
 
 -- the move by which it comes to run the pod
-noted_arrival : (p : ℕ) (u : List ℕ) (h : List Event) (from to : Spot) → IsConforming (then_moved h p from to) → is_of u to ≡ true →
+noted_arrival : (p : ℕ) (u : List ℕ) (h : List Event) (from to : Spot) → IsConforming (then_moved h p from to) → is_spot_of_pod u to ≡ true →
     runs (seen_replied (seen_of p h) (MoveFolder from to) Done) u ≡ true → (k : ℕ) →
     folder_at (state_after (then_moved h p from to)).namespace (at area.Run u) ≡ Some k →
     Noted (entries_in k (state_after (then_moved h p from to)).entries) (seen_of p h).notes u
 noted_arrival p u h from to c of r k found = record {
-  files = λ path named there. clash (has_file path (entries_in k (state_after (then_moved h p from to)).entries)) there (whole.0.files path named);
-  stands = λ inner i same. absurd (whole.1 (subst (λ (v : List ℕ). 5 ≤ age (pod_state v h))
+  files = λ path named there. clash (has_file_among path (entries_in k (state_after (then_moved h p from to)).entries)) there (whole.0.files path named);
+  stands = λ inner i same. absurd (whole.1 (subst (λ (v : List ℕ). 5 ≤ pod_progress (pod_state v h))
       (ap (λ (z : Spot). z.name) same ∙ sym name) (notes_old h (happens h (event p (MoveFolder from to) Done) c).conforming p inner i).1.0));
 }
   where
@@ -217,19 +219,19 @@ noted_arrival p u h from to c of r k found = record {
     stage = and_left (is_stage to.area) (bytes_eq to.name u) of
 
     name : to.name ≡ u
-    name = name_same to.name u (and_right (is_stage to.area) (bytes_eq to.name u) of)
+    name = same_text to.name u (and_right (is_stage to.area) (bytes_eq to.name u) of)
 
-    last : on_spot test (last_of u (to ∷ k0.moves)) ≡ true
-    last = sym (ap (λ b. on_spot test (last_of u (cond b (to ∷ k0.moves) k0.moves))) stage)
+    last : on_spot test (last_move_of u (to ∷ k0.moves)) ≡ true
+    last = sym (ap (λ b. on_spot test (last_move_of u (cond b (to ∷ k0.moves) k0.moves))) stage)
         ∙ and_right (holds_own u (standing_replied k0 (MoveFolder from to) Done)) _ r
 
     run : area.Run ≡ to.area
-    run = in_area area.Run to.area (sym (ap (λ b. on_spot test (cond b (Some to) (last_of u k0.moves))) of) ∙ last)
+    run = in_area area.Run to.area (sym (ap (λ b. on_spot test (cond b (Some to) (last_move_of u k0.moves))) of) ∙ last)
 
     here : at area.Run u ≡ to
     here = ap (λ (a : Area). at a u) run ∙ ap (λ (v : List ℕ). at to.area v) (sym name)
 
-    whole : Whole (entries_in k (state_after (then_moved h p from to)).entries) × (5 ≤ age (pod_state to.name h) → ⊥)
+    whole : Whole (entries_in k (state_after (then_moved h p from to)).entries) × (5 ≤ pod_progress (pod_state to.name h) → ⊥)
     whole = comes_whole h p from to c (sym run) k (subst (λ (z : Spot). folder_at (state_after (then_moved h p from to)).namespace z ≡ Some k) here found)
 
 -- the steps of others
@@ -276,7 +278,7 @@ noted_foreign p u h e c f was living running k found =
             (subst (λ (z : Spot). runs (seen_of p h) z.name ≡ true) place ran)
 
     by : (path : List ℕ) → is_noted path ≡ true →
-        (has_file path (entries_in k st.entries) ≡ true) ⊎ ((w : Written st e.process e.request e.reply k (at area.Run u)) × (w.inner.path ≡ path)) →
+        (has_file_among path (entries_in k st.entries) ≡ true) ⊎ ((w : Written st e.process e.request e.reply k (at area.Run u)) × (w.inner.path ≡ path)) →
         list_any (inner_eq (note u path)) (seen_of p h).notes ≡ true
     by path named (inl old) = noted.files path named old
     by path named (inr (w, same)) = absurd (other w (ap is_noted same ∙ named))

@@ -2,6 +2,9 @@
 use Rattle.std.proofs.Common.{◌≡◌, ◌⊎◌, inl, inr, ℕ, Bool, true, false, not, ◌&&◌, ◌||◌, cond, bytes_eq, nat_lt, Some, None, List, [], ◌∷◌, ◌++◌, length, drop, codes, refl, sym, ap, subst, ◌∙◌}
 use Rattle.std.proofs.lemmas.Bool.Decides.{Decides-eqb}
 use Rattle.std.proofs.lemmas.Slice.Eq.{starts_is}
+use Rattle.std.proofs.lemmas.Bool.{or_left, and_parts}
+use Rattle.plain_laws.proofs.Booleans.{clash}
+use Rattle.plain_laws.proofs.Texts.{same_text}
 use Rattle.dir_model.specs.declared.area.Area.{Area}
 use Rattle.dir_model.specs.declared.area.Area.TheVariants as area
 use Rattle.dir_model.specs.declared.event.Event.{Event}
@@ -20,14 +23,13 @@ use Rattle.dir_rules.specs.declared.seen.Seen.{Seen}
 use Rattle.dir_rules.specs.Marks.{has_slash, begins, parent, is_started_mark, is_status_file, status_directory}
 use Rattle.dir_rules.specs.Seen.{inner_eq, is_own_mark, is_free, makes_at}
 use Rattle.dir_rules.specs.Standing.{is_in, is_garbage, began_as, is_maker, is_remover, intends}
-use Rattle.dir_rules.specs.LockRules.{may_ask}
-use Rattle.dir_rules.specs.Rules.{allows, may_change, may_make_file_in, may_append_in, may_sync_in, may_note, may_mark, has_note, runs, spares, is_dir, has_path, has_dir, has_file, is_in_directory}
+use Rattle.dir_rules.specs.LockRules.{lock_rules_allow}
+use Rattle.dir_rules.specs.Rules.{allows, content_rules_allow, may_make_file_in, may_append_in, may_sync_in, may_note, may_mark, has_note, runs, spares_deleted_pod, is_dir, has_path_among, has_dir_among, has_file_among, is_in_directory}
 use Rattle.dir_rules.specs.Anomalies.{folder_of, is_its_folder, is_place_error, is_store}
 use Rattle.dir_rules.specs.Conforms.{seen_of}
+use Rattle.dir_laws.proofs.Paths.{parent_in}
 use Rattle.lifecycle.specs.Executions.{IsConforming}
-use Rattle.lifecycle.proofs.Lists.{any_in, in_any, or_left}
-use Rattle.lifecycle.proofs.Handles.{both, clash}
-use Rattle.lifecycle.proofs.Places.{name_same}
+use Rattle.lifecycle.proofs.Lists.{any_in, in_any}
 use Rattle.folder_contents.specs.Entries.{entries_in}
 use Rattle.folder_contents.proofs.Guards.{kinds_apart}
 use Rattle.folder_contents.proofs.Spots.{one_location, in_area}
@@ -56,17 +58,9 @@ parent_none : (path : List ℕ) → has_slash path ≡ false → is_empty (paren
 parent_none [] h = refl
 parent_none (b ∷ bs) h = ap (λ c. is_empty (cond c (b ∷ parent bs) [])) (or_right_false (is_slash b) (has_slash bs) h)
 
-slash_in : (d rest : List ℕ) → has_slash (d ++ 47 ∷ rest) ≡ true
-slash_in [] rest = refl
-slash_in (b ∷ d) rest = or_last (is_slash b) (has_slash (d ++ 47 ∷ rest)) (slash_in d rest)
-
-parent_in : (d rest : List ℕ) → has_slash rest ≡ false → parent (d ++ 47 ∷ rest) ≡ d
-parent_in [] rest off = ap (λ c. cond c (47 ∷ parent rest) []) off
-parent_in (b ∷ d) rest off = ap (λ c. cond c (b ∷ parent (d ++ 47 ∷ rest)) []) (slash_in d rest) ∙ ap (λ (l : List ℕ). b ∷ l) (parent_in d rest off)
-
 status_parent : (path : List ℕ) → is_status_file path ≡ true → parent path ≡ status_directory
 status_parent path h =
-    let x = both (begins (codes "stage1/rootfs/rkt/status/") path && nat_lt 25 (length path)) (not (has_slash (drop 25 path))) h in
+    let x = and_parts (begins (codes "stage1/rootfs/rkt/status/") path && nat_lt 25 (length path)) (not (has_slash (drop 25 path))) h in
     let front : path ≡ codes "stage1/rootfs/rkt/status/" ++ drop 25 path =
     (starts_is Decides-eqb path (codes "stage1/rootfs/rkt/status/") _ refl).0 (and_left (begins (codes "stage1/rootfs/rkt/status/") path) (nat_lt 25 (length path)) x.0) in
     ap parent front ∙ parent_in status_directory (drop 25 path) (not_true (has_slash (drop 25 path)) x.1)
@@ -78,13 +72,13 @@ note_full (b ∷ bs) h = refl
 note_inside : (es : List Entry) (path : List ℕ) → Tidy es → is_noted path ≡ true → is_in_directory path es ≡ true
 note_inside es path tidy named = by (is_started_mark path) (is_status_file path) refl refl named
   where
-    by : (a b : Bool) → is_started_mark path ≡ a → is_status_file path ≡ b → (a || b) ≡ true → (is_empty (parent path) || has_dir (parent path) es) ≡ true
-    by true b e f h = or_left (is_empty (parent path)) (has_dir (parent path) es)
+    by : (a b : Bool) → is_started_mark path ≡ a → is_status_file path ≡ b → (a || b) ≡ true → (is_empty (parent path) || has_dir_among (parent path) es) ≡ true
+    by true b e f h = or_left (is_empty (parent path)) (has_dir_among (parent path) es)
         (parent_none path (not_true (has_slash path) (and_right _ (not (has_slash path)) e)))
-    by false true e f h = or_last (is_empty (parent path)) (has_dir (parent path) es) (ap (λ (l : List ℕ). has_dir l es) (status_parent path f) ∙ tidy.status)
+    by false true e f h = or_last (is_empty (parent path)) (has_dir_among (parent path) es) (ap (λ (l : List ℕ). has_dir_among l es) (status_parent path f) ∙ tidy.status)
     by false false e f h = cc
 
-file_path : (path : List ℕ) (es : List Entry) → has_file path es ≡ true → has_path path es ≡ true
+file_path : (path : List ℕ) (es : List Entry) → has_file_among path es ≡ true → has_path_among path es ≡ true
 file_path path es h =
     let y = any_in (λ e. not (is_dir e.node) && bytes_eq e.path path) es h in
     in_any (λ e. bytes_eq e.path path) y.0 es y.1.0 (and_right (not (is_dir y.0.node)) (bytes_eq y.0.path path) y.1.1)
@@ -108,7 +102,7 @@ module _ (h : List Event) (p : ℕ) (conforming : IsConforming h) where
       by k true e m = none k i.path e
       by k false e m =
           let y = any_in (inner_eq i) s.notes m in
-          let same = name_same i.path y.0.path (both (spot_eq i.spot y.0.spot) (bytes_eq i.path y.0.path) y.1.1).1 in
+          let same = same_text i.path y.0.path (and_parts (spot_eq i.spot y.0.spot) (bytes_eq i.path y.0.path) y.1.1).1 in
           subst (λ (l : List ℕ). is_own_at st l (Some k) ≡ false) (sym same) (plain_unowned h k y.0.path (notes_old h conforming p y.0 y.1.0).1.1)
 
   pub noting_plain : (request : Request) → is_noting request ≡ true → allows s request ≡ true → is_apps_request st request ≡ false
@@ -116,8 +110,8 @@ module _ (h : List Event) (p : ℕ) (conforming : IsConforming h) where
   noting_plain (AppendIn i piece) on may = append_plain h p i piece (sym (in_area area.Run i.spot.area on)) may
   noting_plain (SyncIn i) on may =
       let run = sym (in_area area.Run i.spot.area on) in
-      sync_plain i run (subst (λ (a : Area). may_sync_in s i a ≡ true) run (and_left (may_sync_in s i i.spot.area) (spares s i)
-      (and_right (may_ask s.standing (SyncIn i)) (may_change s (SyncIn i)) may)))
+      sync_plain i run (subst (λ (a : Area). may_sync_in s i a ≡ true) run (and_left (may_sync_in s i i.spot.area) (spares_deleted_pod s i)
+      (and_right (lock_rules_allow s.standing (SyncIn i)) (content_rules_allow s (SyncIn i)) may)))
   noting_plain request on may = cc
 
   module _ (living : lives (state_after h).namespace p ≡ true) where
@@ -138,33 +132,33 @@ module _ (h : List Event) (p : ℕ) (conforming : IsConforming h) where
           noted = noted h conforming p i.spot.name living r f.0 f.1;
         }
 
-    note_stands : (i : Inner) → i.spot.area ≡ area.Run → (r : Runs i) → has_note s i ≡ true → has_file i.path (entries_in r.folder st.entries) ≡ true
+    note_stands : (i : Inner) → i.spot.area ≡ area.Run → (r : Runs i) → has_note s i ≡ true → has_file_among i.path (entries_in r.folder st.entries) ≡ true
     note_stands i run r had =
         let y = any_in (inner_eq i) s.notes had in
-        let e = both (spot_eq i.spot y.0.spot) (bytes_eq i.path y.0.path) y.1.1 in
-        subst (λ (l : List ℕ). has_file l (entries_in r.folder st.entries) ≡ true) (sym (name_same i.path y.0.path e.1))
+        let e = and_parts (spot_eq i.spot y.0.spot) (bytes_eq i.path y.0.path) y.1.1 in
+        subst (λ (l : List ℕ). has_file_among l (entries_in r.folder st.entries) ≡ true) (sym (same_text i.path y.0.path e.1))
         (r.noted.stands y.0 y.1.0 (sym (one_location i.spot y.0.spot e.0) ∙ ap (λ (a : Area). at a i.spot.name) run))
 
     note_made : (i : Inner) → i.spot.area ≡ area.Run → may_note s i ≡ true → is_path i.path ≡ true → refusal st p (MakeFileIn i) ≡ None
     note_made i run may is =
-        let a = both (runs s i.spot.name) (is_noted i.path && not (has_note s i)) may in
-        let b = both (is_noted i.path) (not (has_note s i)) a.1 in
+        let a = and_parts (runs s i.spot.name) (is_noted i.path && not (has_note s i)) may in
+        let b = and_parts (is_noted i.path) (not (has_note s i)) a.1 in
         let r = here i run a.0 in
         ap (refused_in (make_refusal i.path) st.entries) r.found
         ∙ made_free st.entries r.folder (entries_in r.folder st.entries) (λ path. (refl, refl)) i.path is (note_full i.path b.0) (r.tidy.dirs i.path b.0)
         (new r b.0 (not_true (has_note s i) b.1)) (note_inside (entries_in r.folder st.entries) i.path r.tidy b.0)
       where
-        new : (r : Runs i) → is_noted i.path ≡ true → has_note s i ≡ false → has_file i.path (entries_in r.folder st.entries) ≡ false
-        new r named off = by (has_file i.path (entries_in r.folder st.entries)) refl
+        new : (r : Runs i) → is_noted i.path ≡ true → has_note s i ≡ false → has_file_among i.path (entries_in r.folder st.entries) ≡ false
+        new r named off = by (has_file_among i.path (entries_in r.folder st.entries)) refl
           where
-            by : (b : Bool) → has_file i.path (entries_in r.folder st.entries) ≡ b → b ≡ false
+            by : (b : Bool) → has_file_among i.path (entries_in r.folder st.entries) ≡ b → b ≡ false
             by false e = refl
             by true e = clash (has_note s i)
                 (subst (λ (a : Area). has_note s (record { spot = at a i.spot.name; path = i.path }) ≡ true) (sym run) (r.noted.files i.path named e)) off
 
     note_appended : (i : Inner) (piece : List ℕ) → i.spot.area ≡ area.Run → may_append_in s i area.Run ≡ true → refusal st p (AppendIn i piece) ≡ None
     note_appended i piece run may =
-        let a = both (runs s i.spot.name) (is_status_file i.path && has_note s i) may in
+        let a = and_parts (runs s i.spot.name) (is_status_file i.path && has_note s i) may in
         let r = here i run a.0 in
         ap (refused_in (file_refusal i.path) st.entries) r.found
         ∙ appends st.entries r.folder (entries_in r.folder st.entries) (λ path. (refl, refl)) i.path
@@ -172,12 +166,12 @@ module _ (h : List Event) (p : ℕ) (conforming : IsConforming h) where
 
     note_synced : (i : Inner) → i.spot.area ≡ area.Run → may_sync_in s i area.Run ≡ true → refusal st p (SyncIn i) ≡ None
     note_synced i run may =
-        let a = both (runs s i.spot.name) (is_empty i.path || has_note s i) may in
+        let a = and_parts (runs s i.spot.name) (is_empty i.path || has_note s i) may in
         let r = here i run a.0 in
         ap (refused_in (sync_refusal i.path) st.entries) r.found
         ∙ syncs st.entries r.folder (entries_in r.folder st.entries) (λ path. (refl, refl)) i.path (by r (is_empty i.path) a.1)
       where
-        by : (r : Runs i) (b : Bool) → (b || has_note s i) ≡ true → (b || has_path i.path (entries_in r.folder st.entries)) ≡ true
+        by : (r : Runs i) (b : Bool) → (b || has_note s i) ≡ true → (b || has_path_among i.path (entries_in r.folder st.entries)) ≡ true
         by r true m = refl
         by r false m = file_path i.path (entries_in r.folder st.entries) (note_stands i run r m)
 
@@ -197,8 +191,8 @@ module _ (h : List Event) (p : ℕ) (conforming : IsConforming h) where
     pub noting_fine : (request : Request) (error : DirError) (left : ℕ) → is_noting request ≡ true → is_apps_request st request ≡ false → is_well_formed request ≡ true →
         allows s request ≡ true → is_reply st p request (Refused error left) ≡ true → is_place_error error ≡ true → is_its_folder s (folder_of request) ≡ true → ⊥
     noting_fine (MakeFileIn i) error left on plain formed may is place its =
-        by (may_note s i) (may_mark s i) refl refl (subst (λ (a : Area). may_make_file_in s i a ≡ true) run (and_left (may_make_file_in s i i.spot.area) (spares s i)
-        (and_right (may_ask s.standing (MakeFileIn i)) (may_change s (MakeFileIn i)) may)))
+        by (may_note s i) (may_mark s i) refl refl (subst (λ (a : Area). may_make_file_in s i a ≡ true) run (and_left (may_make_file_in s i i.spot.area) (spares_deleted_pod s i)
+        (and_right (lock_rules_allow s.standing (MakeFileIn i)) (content_rules_allow s (MakeFileIn i)) may)))
       where
         run : i.spot.area ≡ area.Run
         run = sym (in_area area.Run i.spot.area on)
@@ -210,11 +204,11 @@ module _ (h : List Event) (p : ℕ) (conforming : IsConforming h) where
     noting_fine (AppendIn i piece) error left on plain formed may is place its =
         let run = sym (in_area area.Run i.spot.area on) in
         unrefused error (refusal st p (AppendIn i piece)) (told st p (AppendIn i piece) error left plain refl (place_told error place) is)
-        (note_appended i piece run (subst (λ (a : Area). may_append_in s i a ≡ true) run (and_left (may_append_in s i i.spot.area) (spares s i)
-        (and_right (may_ask s.standing (AppendIn i piece)) (may_change s (AppendIn i piece)) may))))
+        (note_appended i piece run (subst (λ (a : Area). may_append_in s i a ≡ true) run (and_left (may_append_in s i i.spot.area) (spares_deleted_pod s i)
+        (and_right (lock_rules_allow s.standing (AppendIn i piece)) (content_rules_allow s (AppendIn i piece)) may))))
     noting_fine (SyncIn i) error left on plain formed may is place its =
         let run = sym (in_area area.Run i.spot.area on) in
         unrefused error (refusal st p (SyncIn i)) (told st p (SyncIn i) error left plain refl (place_told error place) is)
-        (note_synced i run (subst (λ (a : Area). may_sync_in s i a ≡ true) run (and_left (may_sync_in s i i.spot.area) (spares s i)
-        (and_right (may_ask s.standing (SyncIn i)) (may_change s (SyncIn i)) may))))
+        (note_synced i run (subst (λ (a : Area). may_sync_in s i a ≡ true) run (and_left (may_sync_in s i i.spot.area) (spares_deleted_pod s i)
+        (and_right (lock_rules_allow s.standing (SyncIn i)) (content_rules_allow s (SyncIn i)) may))))
     noting_fine request error left on plain formed may is place its = cc

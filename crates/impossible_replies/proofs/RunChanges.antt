@@ -1,5 +1,7 @@
 -- What a step changes in a pod in run: nothing, or one piece of a file is added by a make or an append there.
 use Rattle.std.proofs.Common.{◌≡◌, ◌⊎◌, inl, inr, ℕ, Bool, true, false, ◌==◌, Option, Some, None, List, [], ◌∷◌, ◌++◌, take, append-nil, refl, sym, ap, subst}
+use Rattle.std.proofs.lemmas.Bool.{and_parts}
+use Rattle.plain_laws.proofs.Booleans.{clash}
 use Rattle.dir_model.specs.declared.area.Area.{Area}
 use Rattle.dir_model.specs.declared.area.Area.TheVariants.{Embryo, Prepare, Run, ExitedGarbage, Garbage, Incoming, Removed}
 use Rattle.dir_model.specs.declared.spot.Spot.{Spot}
@@ -20,10 +22,9 @@ use Rattle.dir_rules.specs.declared.seen.Making.{Making}
 use Rattle.dir_rules.specs.declared.standing.Standing.{Standing}
 use Rattle.dir_rules.specs.Seen.{makes_at, is_making_area}
 use Rattle.dir_rules.specs.Standing.{is_in}
-use Rattle.dir_rules.specs.LockRules.{may_ask, may_remove, is_removal_held, is_removal_target}
-use Rattle.dir_rules.specs.Rules.{allows, may_change}
+use Rattle.dir_rules.specs.LockRules.{lock_rules_allow, may_remove, is_removal_held, is_removal_target}
+use Rattle.dir_rules.specs.Rules.{allows, content_rules_allow}
 use Rattle.lifecycle.proofs.Lists.{any_in}
-use Rattle.lifecycle.proofs.Handles.{both, clash}
 use Rattle.dir_model.proofs.Lists.{and_left, and_right}
 use Rattle.folder_contents.specs.Entries.{entries_in}
 use Rattle.folder_contents.proofs.Entries.{placed_here, placed_away, removed_away}
@@ -34,7 +35,7 @@ use Rattle.impossible_replies.proofs.Citing.{building_its}
 removal_elsewhere : (k : Standing) (spot : Spot) → may_remove k spot ≡ true → is_in Run spot.area ≡ false
 removal_elsewhere k spot h =
     let e = any_in (is_removal_held spot) k.holdings h in
-    by e.0.target spot.area (both (is_exclusive e.0.lock) (is_removal_target spot e.0.target) e.1.1).1
+    by e.0.target spot.area (and_parts (is_exclusive e.0.lock) (is_removal_target spot e.0.target) e.1.1).1
   where
     by : (t : Target) (a : Area) → is_removal_target (record { area = a; name = spot.name }) t ≡ true → is_in Run a ≡ false
     by (Own here) ExitedGarbage h = refl
@@ -108,8 +109,8 @@ run_change s q g (AppendIn i piece) (Refused error left) k here run at may = by 
     by false false z e = inl (rw z (placed_away s.namespace k here i.spot i.path (Piece (take left piece)) s.entries at e))
 run_change s q g (RemoveFileIn i) Done k here run at may =
     inl (removed_away s.namespace k here i.spot i.path s.entries at (elsewhere here i.spot run
-    (removal_elsewhere g.standing i.spot (and_left (may_ask g.standing (RemoveFileIn i)) (may_change g (RemoveFileIn i)) (may refl)))))
+    (removal_elsewhere g.standing i.spot (and_left (lock_rules_allow g.standing (RemoveFileIn i)) (content_rules_allow g (RemoveFileIn i)) (may refl)))))
 run_change s q g (RemoveDirIn i) Done k here run at may =
     inl (removed_away s.namespace k here i.spot i.path s.entries at (elsewhere here i.spot run
-    (removal_elsewhere g.standing i.spot (and_left (may_ask g.standing (RemoveDirIn i)) (may_change g (RemoveDirIn i)) (may refl)))))
+    (removal_elsewhere g.standing i.spot (and_left (lock_rules_allow g.standing (RemoveDirIn i)) (content_rules_allow g (RemoveDirIn i)) (may refl)))))
 run_change s q g request reply k here run at may = inl (ap (entries_in k) (append-nil s.entries))

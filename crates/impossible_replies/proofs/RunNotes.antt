@@ -1,5 +1,6 @@
 -- What a process has noted, it noted in a pod that had come to run, under the name of a note.
 use Rattle.std.proofs.Common.{arith, ◌≡◌, ◌⊎◌, inl, inr, ◌≤◌, ℕ, Bool, true, false, ◌||◌, cond, bytes_eq, Option, Some, None, is_some, List, [], ◌∷◌, ◌++◌, refl, sym, ap, subst, ◌∙◌}
+use Rattle.plain_laws.proofs.Booleans.{clash}
 use Rattle.dir_model.specs.declared.area.Area.{Area}
 use Rattle.dir_model.specs.declared.area.Area.TheVariants as area
 use Rattle.dir_model.specs.declared.item.Inner.{Inner}
@@ -17,13 +18,12 @@ use Rattle.dir_model.proofs.Lists.{and_both}
 use Rattle.dir_rules.specs.declared.seen.Seen.{Seen}
 use Rattle.dir_rules.specs.Marks.{is_started_mark, is_status_file}
 use Rattle.dir_rules.specs.Seen.{learned}
-use Rattle.dir_rules.specs.Standing.{is_in, is_of}
+use Rattle.dir_rules.specs.Standing.{is_in, is_spot_of_pod}
 use Rattle.dir_rules.specs.Conforms.{seen_of}
 use Rattle.lifecycle.specs.declared.machine.PodState.{PodState}
-use Rattle.lifecycle.specs.PodMachine.{pod_state, pod_state_next, is_place, age}
+use Rattle.lifecycle.specs.PodMachine.{pod_state, pod_state_next, is_area_of_state, pod_progress}
 use Rattle.lifecycle.specs.Executions.{IsConforming}
 use Rattle.lifecycle.proofs.Forward.{ages}
-use Rattle.lifecycle.proofs.Handles.{clash}
 use Rattle.lifecycle.proofs.Invariant.{placed_age}
 use Rattle.lifecycle.proofs.Lists.{In}
 use Rattle.lifecycle.proofs.Opens.{found_pod}
@@ -40,12 +40,12 @@ is_noted path = is_started_mark path || is_status_file path
 
 -- a note was made in a pod in run, under such a name
 abbrev NotesOld : ℕ → List Event → Type 0
-NotesOld p h = (inner : Inner) → In inner (seen_of p h).notes → (is_in area.Run inner.spot.area ≡ true) × ((5 ≤ age (pod_state inner.spot.name h)) × (is_plain inner.path ≡ true))
+NotesOld p h = (inner : Inner) → In inner (seen_of p h).notes → (is_in area.Run inner.spot.area ≡ true) × ((5 ≤ pod_progress (pod_state inner.spot.name h)) × (is_plain inner.path ≡ true))
 
-older : (u : List ℕ) (h : List Event) (e : Event) → 5 ≤ age (pod_state u h) → 5 ≤ age (pod_state u (h ++ e ∷ []))
+older : (u : List ℕ) (h : List Event) (e : Event) → 5 ≤ pod_progress (pod_state u h) → 5 ≤ pod_progress (pod_state u (h ++ e ∷ []))
 older u h e l =
-    let up : age (pod_state u h) ≤ age (pod_state_next u (state_after h).namespace (pod_state u h) e) = ages u (e ∷ []) (state_after h) (pod_state u h) in
-    subst (λ (z : PodState). 5 ≤ age z) (sym (state_on u h e)) (omega (arith, l, up))
+    let up : pod_progress (pod_state u h) ≤ pod_progress (pod_state_next u (state_after h).namespace (pod_state u h) e) = ages u (e ∷ []) (state_after h) (pod_state u h) in
+    subst (λ (z : PodState). 5 ≤ pod_progress z) (sym (state_on u h e)) (omega (arith, l, up))
 
 pub same_notes : (s : Seen) (request : Request) (reply : Reply) → (inner : Inner) → In inner (learned s request reply).notes →
     In inner s.notes ⊎ ((request ≡ MakeFileIn inner) × ((reply ≡ Done) × (is_in inner.spot.area area.Run ≡ true)))
@@ -74,28 +74,28 @@ run_area i e = in_area i.spot.area area.Run e
 old_next : (p : ℕ) (h : List Event) (e : Event) → IsConforming (h ++ e ∷ []) → NotesOld p h → NotesOld p (h ++ e ∷ [])
 old_next p h e c was inner j = by (whose p e)
   where
-    kept : In inner (seen_of p h).notes → (is_in area.Run inner.spot.area ≡ true) × ((5 ≤ age (pod_state inner.spot.name (h ++ e ∷ []))) × (is_plain inner.path ≡ true))
+    kept : In inner (seen_of p h).notes → (is_in area.Run inner.spot.area ≡ true) × ((5 ≤ pod_progress (pod_state inner.spot.name (h ++ e ∷ []))) × (is_plain inner.path ≡ true))
     kept k = let y = was inner k in (y.0, (older inner.spot.name h e y.1.0, y.1.1))
 
-    made : Steps h p (MakeFileIn inner) Done → is_in inner.spot.area area.Run ≡ true → (is_in area.Run inner.spot.area ≡ true) × ((5 ≤ age (pod_state inner.spot.name (h ++ e ∷ []))) × (is_plain inner.path ≡ true))
+    made : Steps h p (MakeFileIn inner) Done → is_in inner.spot.area area.Run ≡ true → (is_in area.Run inner.spot.area ≡ true) × ((5 ≤ pod_progress (pod_state inner.spot.name (h ++ e ∷ []))) × (is_plain inner.path ≡ true))
     made x run =
         let place = run_area inner run in
         let u = inner.spot.name in
         let there = stood (folder_at (state_after h).namespace inner.spot) (done h p (MakeFileIn inner) (note_plain h p inner place x.may) x.is) in
-        let of : is_of u inner.spot ≡ true = and_both (is_stage inner.spot.area) (bytes_eq u u) (ap is_stage place) (same_name u u refl) in
+        let of : is_spot_of_pod u inner.spot ≡ true = and_both (is_stage inner.spot.area) (bytes_eq u u) (ap is_stage place) (same_name u u refl) in
         let found = (found_pod u (state_after h).namespace (pod_state u h) (pod_at u h x.conforming) inner.spot of there).0 in
-        (ap (is_in area.Run) place, (older u h e (placed_age area.Run (pod_state u h) (subst (λ (a : Area). is_place a (pod_state u h) ≡ true) place found)), note_named h p inner place x.may))
+        (ap (is_in area.Run) place, (older u h e (placed_age area.Run (pod_state u h) (subst (λ (a : Area). is_area_of_state a (pod_state u h) ≡ true) place found)), note_named h p inner place x.may))
       where
         stood : (o : Option ℕ) → refused_in (make_refusal inner.path) (state_after h).entries o ≡ None → is_some o ≡ true
         stood (Some k) e = refl
         stood None e = cc
 
     own : e.process ≡ p → is_kill e.request ≡ false → (b : Bool) → is_begin e.request ≡ b → In inner (learned (seen_of p h) e.request e.reply).notes →
-        (is_in area.Run inner.spot.area ≡ true) × ((5 ≤ age (pod_state inner.spot.name (h ++ e ∷ []))) × (is_plain inner.path ≡ true))
+        (is_in area.Run inner.spot.area ≡ true) × ((5 ≤ pod_progress (pod_state inner.spot.name (h ++ e ∷ []))) × (is_plain inner.path ≡ true))
     own is alive b on k = split b on (same_notes (seen_of p h) e.request e.reply inner k)
       where
         split : (b : Bool) → is_begin e.request ≡ b → In inner (seen_of p h).notes ⊎ ((e.request ≡ MakeFileIn inner) × ((e.reply ≡ Done) × (is_in inner.spot.area area.Run ≡ true))) →
-            (is_in area.Run inner.spot.area ≡ true) × ((5 ≤ age (pod_state inner.spot.name (h ++ e ∷ []))) × (is_plain inner.path ≡ true))
+            (is_in area.Run inner.spot.area ≡ true) × ((5 ≤ pod_progress (pod_state inner.spot.name (h ++ e ∷ []))) × (is_plain inner.path ≡ true))
         split b on (inl m) = kept m
         split true on (inr (asked, (ok, run))) = clash (is_begin e.request) on (ap is_begin asked)
         split false on (inr (asked, (ok, run))) =
@@ -103,7 +103,7 @@ old_next p h e c was inner j = by (whose p e)
             (subst (λ (q : ℕ). Steps h q e.request e.reply) is (steps h e c alive on)))) run
 
     by : (is_foreign p e ≡ true) ⊎ ((is_foreign p e ≡ false) × ((e.process ≡ p) × (is_kill e.request ≡ false))) →
-        (is_in area.Run inner.spot.area ≡ true) × ((5 ≤ age (pod_state inner.spot.name (h ++ e ∷ []))) × (is_plain inner.path ≡ true))
+        (is_in area.Run inner.spot.area ≡ true) × ((5 ≤ pod_progress (pod_state inner.spot.name (h ++ e ∷ []))) × (is_plain inner.path ≡ true))
     by (inl f) = kept (subst (λ (s : Seen). In inner s.notes) (foreign_same p h e f) j)
     by (inr f) = own f.1.0 f.1.1 (is_begin e.request) refl (subst (λ (s : Seen). In inner s.notes) (own_next p h e f.0) j)
 

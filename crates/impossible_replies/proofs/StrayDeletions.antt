@@ -1,7 +1,8 @@
 -- A deletion of a folder that stood there meets no answer that its lock doesn't explain but by what a started app wrote.
-use Rattle.std.proofs.Common.{◌≡◌, ◌⊎◌, inl, inr, ℕ, Bool, true, false, not, ◌&&◌, ◌||◌, ◌==◌, Some, List, [], ◌∷◌, ◌++◌, append_assoc, refl, sym, ap, subst, ◌∙◌}
+use Rattle.std.proofs.Common.{◌≡◌, ◌⊎◌, inl, inr, ℕ, Bool, true, false, not, ◌||◌, ◌==◌, Some, List, [], ◌∷◌, ◌++◌, append_assoc, refl, sym, ap, subst, ◌∙◌}
 use Rattle.std.specs.List.{AllByRecursion}
 use Rattle.std.proofs.lemmas.List.{append_cancel_left}
+use Rattle.plain_laws.proofs.Booleans.{clash, no_more}
 use Rattle.dir_model.specs.declared.event.Event.{Event}
 use Rattle.dir_model.specs.declared.item.Inner.{Inner}
 use Rattle.dir_model.specs.declared.spot.Mode.TheVariants.{Shared}
@@ -13,27 +14,26 @@ use Rattle.dir_model.specs.declared.request.Request.TheVariants.{Open, TryLock, 
 use Rattle.dir_model.specs.declared.request.Reply.{Reply}
 use Rattle.dir_model.specs.declared.request.Reply.TheVariants.{Done, Begun, Items, Refused}
 use Rattle.dir_model.specs.Calls.{CallStep, TookPlace, LeftNothing, Extends, AtOwnStep, Interference, event, is_kill, is_foreign}
-use Rattle.dir_model.specs.Listings.{is_of, is_listing, is_listing_request, noted_by, begun}
+use Rattle.dir_model.specs.Listings.{is_listing_of, is_listing, is_listing_request, noted_by, listing_begun}
 use Rattle.dir_model.specs.Replies.{is_reply, is_late_reply, is_look_at}
 use Rattle.dir_model.specs.State.{DirState, folder_at, lives, spot_eq, stands}
 use Rattle.dir_model.specs.Trace.{state_after}
 use Rattle.dir_model.proofs.Chains.{state_after-push}
-use Rattle.dir_model.proofs.Lists.{all_both, all_left, all_right, all_weaker, or_map, or_second, same_self}
+use Rattle.dir_model.proofs.Lists.{all_both, all_left, all_right, all_weaker, or_map, or_second, same_self, same_number as nat_same}
 use Rattle.dir_model.proofs.Moments.{some_number}
 use Rattle.dir_rules.specs.declared.seen.Seen.{Seen}
 use Rattle.dir_rules.specs.declared.standing.Standing.{Standing}
 use Rattle.dir_rules.specs.Anomalies.{is_foreign_write}
 use Rattle.dir_rules.specs.Conforms.{seen_of, seen_replied, IsTied}
 use Rattle.dir_rules.specs.LockRules.{may_remove}
-use Rattle.dir_rules.specs.Rules.{root_of, shows, is_file_item}
+use Rattle.dir_rules.specs.Rules.{root_of, is_item_shown, is_file_item}
 use Rattle.dir_rules.proofs.Tied.{meanwhile_unseen, lived_meanwhile, tied_call}
 use Rattle.lifecycle.specs.Executions.{IsConforming}
 use Rattle.lifecycle.proofs.Draws.{conforming_left}
-use Rattle.lifecycle.proofs.Handles.{clash, nat_same}
 use Rattle.lifecycle.proofs.Lists.{In, in_any}
 use Rattle.folder_contents.proofs.Spots.{one_location}
-use Rattle.folder_removal.specs.Known.{HasAsked, IsDue, StrayKnowing}
-use Rattle.folder_removal.specs.Removal.{deletes_at, is_stray, removes_folder, KeptFolders, WasStray}
+use Rattle.folder_removal.specs.Known.{HasAsked, IsListingDue, StrayKnowing}
+use Rattle.folder_removal.specs.Removal.{asks_deletion_at, is_stray_deletion, removes_folder, KeptFolders, WasStrayDeletion}
 use Rattle.impossible_replies.specs.Replies.{AppWroteOn}
 use Rattle.impossible_replies.proofs.Alongside.{Steps, steps}
 use Rattle.impossible_replies.proofs.Calls.{removal_lost}
@@ -60,22 +60,18 @@ wrote_within {me} {a} {b} {c} {d} more rest later earlier w = record {
   app = w.app;
 }
 
-never_both : (b : Bool) → (b && false) ≡ true → ⊥
-never_both true h = cc
-never_both false h = cc
-
 -- such an answer is told by a step
-pub stray_told : (request : Request) (reply : Reply) → is_stray request reply ≡ true → is_late_reply request reply ≡ true → ⊥
-stray_told (ListIn i) (Refused Missing left) stray late = never_both (left == 0) late
-stray_told (RemoveFileIn i) (Refused Missing left) stray late = never_both (left == 0) late
-stray_told (RemoveDirIn i) (Refused Missing left) stray late = never_both (left == 0) late
-stray_told (RemoveDirIn i) (Refused NotEmpty left) stray late = never_both (left == 0) late
-stray_told (RemoveFolder s) (Refused Missing left) stray late = never_both (left == 0) late
-stray_told (RemoveFolder s) (Refused NotEmpty left) stray late = never_both (left == 0) late
+pub stray_told : (request : Request) (reply : Reply) → is_stray_deletion request reply ≡ true → is_late_reply request reply ≡ true → ⊥
+stray_told (ListIn i) (Refused Missing left) stray late = no_more (left == 0) late
+stray_told (RemoveFileIn i) (Refused Missing left) stray late = no_more (left == 0) late
+stray_told (RemoveDirIn i) (Refused Missing left) stray late = no_more (left == 0) late
+stray_told (RemoveDirIn i) (Refused NotEmpty left) stray late = no_more (left == 0) late
+stray_told (RemoveFolder s) (Refused Missing left) stray late = no_more (left == 0) late
+stray_told (RemoveFolder s) (Refused NotEmpty left) stray late = no_more (left == 0) late
 stray_told (ListIn i) (Items items) stray late = cc
 stray_told request reply stray late = cc
 
-pub stray_step : {me : ℕ} {old new : List Event} (request : Request) (reply : Reply) → is_stray request reply ≡ true → (c : CallStep me old request reply new) → new ≡ c.before ++ event me request reply ∷ []
+pub stray_step : {me : ℕ} {old new : List Event} (request : Request) (reply : Reply) → is_stray_deletion request reply ≡ true → (c : CallStep me old request reply new) → new ≡ c.before ++ event me request reply ∷ []
 stray_step {me} {old} {new} request reply stray c = by c.own
   where
     by : TookPlace c.before me request reply new ⊎ LeftNothing c.before me request reply new → new ≡ c.before ++ event me request reply ∷ []
@@ -125,7 +121,7 @@ look_leaves test (TryLock handle Shared) reply on = refl
 look_leaves test (Close handle) reply on = refl
 look_leaves test request reply on = cc
 
-deletion_leaves : (spot : Spot) (request : Request) (reply : Reply) → deletes_at spot request ≡ true → not (removes_folder request reply) ≡ true → leaves_folders request reply ≡ true
+deletion_leaves : (spot : Spot) (request : Request) (reply : Reply) → asks_deletion_at spot request ≡ true → not (removes_folder request reply) ≡ true → leaves_folders request reply ≡ true
 deletion_leaves spot (ListIn inner) reply on keeps = refl
 deletion_leaves spot (RemoveFileIn inner) reply on keeps = refl
 deletion_leaves spot (RemoveDirIn inner) reply on keeps = refl
@@ -169,15 +165,15 @@ none_open me test h e c own looks l i mine =
         closed false is = refl
         closed true is = clash (is_listing_request e.request) (lists_at_once h e c is (quiet e.request looks).0) (quiet e.request looks).1
 
-    begins : (request : Request) → is_look_at test request ≡ true → begun st e.process request ≡ Some l → ⊥
+    begins : (request : Request) → is_look_at test request ≡ true → listing_begun st e.process request ≡ Some l → ⊥
     begins (Open spot which) on b = cc
     begins (TryLock handle Shared) on b = cc
     begins (Close handle) on b = cc
     begins request on b = cc
 
-    by : (In l st.listings ⊎ ((l0 : OpenListing) × (In l0 st.listings × (l ≡ noted_by st l0)))) ⊎ ((e.reply ≡ Begun) × (begun st e.process e.request ≡ Some l)) → ⊥
-    by (inl (inl j)) = clash (is_listing st me) (in_any (is_of me) l st.listings j (same_number l.process me mine)) none
-    by (inl (inr x)) = clash (is_listing st me) (in_any (is_of me) x.0 st.listings x.1.0 (same_number x.0.process me (sym (ap (λ (z : OpenListing). z.process) x.1.1) ∙ mine))) none
+    by : (In l st.listings ⊎ ((l0 : OpenListing) × (In l0 st.listings × (l ≡ noted_by st l0)))) ⊎ ((e.reply ≡ Begun) × (listing_begun st e.process e.request ≡ Some l)) → ⊥
+    by (inl (inl j)) = clash (is_listing st me) (in_any (is_listing_of me) l st.listings j (same_number l.process me mine)) none
+    by (inl (inr x)) = clash (is_listing st me) (in_any (is_listing_of me) x.0 st.listings x.1.0 (same_number x.0.process me (sym (ap (λ (z : OpenListing). z.process) x.1.1) ∙ mine))) none
     by (inr x) = begins e.request looks x.1
 
 -- what stood at an own look, and this process deletes since, isn't missing when it is listed
@@ -202,7 +198,7 @@ module _ {me : ℕ} {old mid new : List Event} (spot : Spot) (on : is_removing s
     found = λ l i mine. absurd (none_open me test at.before at.step (conforming_left moment (at.rest ++ kept.more) (subst IsConforming whole conforming)) at.own (or_second (is_foreign me at.step) (is_look_at test at.step.request) looked.0 at.own) l i mine);
   }
 
-  never_missing : (h deleted : List Event) (e : Event) (left : ℕ) → new ≡ h ++ e ∷ [] → h ≡ mid ++ deleted → AllByRecursion (λ e. (is_foreign me e || deletes_at spot e.request) ≡ true) deleted →
+  never_missing : (h deleted : List Event) (e : Event) (left : ℕ) → new ≡ h ++ e ∷ [] → h ≡ mid ++ deleted → AllByRecursion (λ e. (is_foreign me e || asks_deletion_at spot e.request) ≡ true) deleted →
       IsConforming h → lives (state_after h).namespace me ≡ true → may_remove (seen_of me h).standing spot ≡ true → is_reply (state_after h) me (ListIn (root_of spot)) (Refused Missing left) ≡ true → ⊥
   never_missing h deleted e left grown is asked law living lock reply = by (some_number (folder_at (state_after moment).namespace spot) at.holds)
     where
@@ -215,8 +211,8 @@ module _ {me : ℕ} {old mid new : List Event} (spot : Spot) (on : is_removing s
       quiet : AllByRecursion (IsQuiet me spot on) (at.rest ++ deleted)
       quiet = all_both (IsQuiet me spot on) at.rest deleted
           (all_weaker (λ e. (is_foreign me e || is_look_at test e.request) ≡ true) (IsQuiet me spot on) (λ e. or_map (is_foreign me e) (is_look_at test e.request) (leaves_folders e.request e.reply) (look_leaves test e.request e.reply)) at.rest looked.1)
-          (all_two (λ e. (is_foreign me e || deletes_at spot e.request) ≡ true) (λ e. (is_foreign me e || not (removes_folder e.request e.reply)) ≡ true) (IsQuiet me spot on)
-          (λ e a k. or_both (is_foreign me e) (deletes_at spot e.request) (not (removes_folder e.request e.reply)) (leaves_folders e.request e.reply) a k (deletion_leaves spot e.request e.reply)) deleted asked keeps)
+          (all_two (λ e. (is_foreign me e || asks_deletion_at spot e.request) ≡ true) (λ e. (is_foreign me e || not (removes_folder e.request e.reply)) ≡ true) (IsQuiet me spot on)
+          (λ e a k. or_both (is_foreign me e) (asks_deletion_at spot e.request) (not (removes_folder e.request e.reply)) (leaves_folders e.request e.reply) a k (deletion_leaves spot e.request e.reply)) deleted asked keeps)
 
       same : h ≡ moment ++ (at.rest ++ deleted)
       same = is ∙ (ap (λ l. l ++ deleted) at.ends ∙ append_assoc moment at.rest deleted)
@@ -230,7 +226,7 @@ module _ {me : ℕ} {old mid new : List Event} (spot : Spot) (on : is_removing s
 
 -- a deletion of what stood at an own look was answered so by what a started app wrote
 pub app_wrote_on : {me : ℕ} {old mid new : List Event} (spot : Spot) → is_removing spot.area ≡ true → (test : Spot → Bool) → AtOwnStep me old mid (λ s. stands s.namespace spot ≡ true) → Extends (is_look_at test) me old mid →
-    KeptFolders me mid new → WasStray spot me mid new → StrayKnowing spot me new → IsConforming new → AppWroteOn me mid new
+    KeptFolders me mid new → WasStrayDeletion spot me mid new → StrayKnowing spot me new → IsConforming new → AppWroteOn me mid new
 app_wrote_on {me} {old} {mid} {new} spot on test at looks kept w k conforming = by k.request k.reply k.last k.about k.stray k.due k.begun grown
   where
     h : List Event
@@ -246,9 +242,9 @@ app_wrote_on {me} {old} {mid} {new} spot on test at looks kept w k conforming = 
     begins = same_front h w.last.before (event me k.request k.reply) (event me w.request w.reply) (sym grown ∙ stray_step w.request w.reply w.stray w.last)
         ∙ (w.last.meanwhile.grown ∙ (ap (λ l. l ++ w.last.meanwhile.others) w.first.grown ∙ append_assoc mid w.first.more w.last.meanwhile.others))
 
-    asked : AllByRecursion (λ e. (is_foreign me e || deletes_at spot e.request) ≡ true) deleted
-    asked = all_both (λ e. (is_foreign me e || deletes_at spot e.request) ≡ true) w.first.more w.last.meanwhile.others w.first.asked
-        (all_weaker (λ e. is_foreign me e ≡ true) (λ e. (is_foreign me e || deletes_at spot e.request) ≡ true) (λ e f. ap (λ b. b || deletes_at spot e.request) f) w.last.meanwhile.others w.last.meanwhile.foreign)
+    asked : AllByRecursion (λ e. (is_foreign me e || asks_deletion_at spot e.request) ≡ true) deleted
+    asked = all_both (λ e. (is_foreign me e || asks_deletion_at spot e.request) ≡ true) w.first.more w.last.meanwhile.others w.first.asked
+        (all_weaker (λ e. is_foreign me e ≡ true) (λ e. (is_foreign me e || asks_deletion_at spot e.request) ≡ true) (λ e f. ap (λ b. b || asks_deletion_at spot e.request) f) w.last.meanwhile.others w.last.meanwhile.foreign)
 
     wrote : (request : Request) (reply : Reply) → new ≡ h ++ event me request reply ∷ [] → is_foreign_write (state_after h) (seen_of me h) request reply ≡ true → AppWroteOn me mid new
     wrote request reply ends foreign = record {
@@ -270,7 +266,7 @@ app_wrote_on {me} {old} {mid} {new} spot on test at looks kept w k conforming = 
         let ends : new ≡ h ++ event me request reply ∷ [] = x.grown ∙ ap (λ l. l ++ event me request reply ∷ []) front in
         wrote request reply ends (subst (λ l. is_foreign_write (state_after l) (seen_of me l) request reply ≡ true) front x.foreign)
 
-    listed : (inner : Inner) (left : ℕ) → spot_eq inner.spot spot ≡ true → IsDue k.seen (ListIn inner) → HasAsked (ListIn inner) me k.asked k.before → new ≡ h ++ event me (ListIn inner) (Refused Missing left) ∷ [] → AppWroteOn me mid new
+    listed : (inner : Inner) (left : ℕ) → spot_eq inner.spot spot ≡ true → IsListingDue k.seen (ListIn inner) → HasAsked (ListIn inner) me k.asked k.before → new ≡ h ++ event me (ListIn inner) (Refused Missing left) ∷ [] → AppWroteOn me mid new
     listed inner left here due has ends = came due
       where
         law : IsConforming (h ++ event me (ListIn inner) (Refused Missing left) ∷ [])
@@ -282,7 +278,7 @@ app_wrote_on {me} {old} {mid} {new} spot on test at looks kept w k conforming = 
         knew : ((seen_of me h).items ≡ k.seen.items) × ((seen_of me h).standing ≡ k.seen.standing)
         knew = listing_knew inner k.seen k.knew has k.last.meanwhile x.living
 
-        came : IsDue k.seen (ListIn inner) → AppWroteOn me mid new
+        came : IsListingDue k.seen (ListIn inner) → AppWroteOn me mid new
         came (inl root) =
             let is : inner ≡ root_of spot = root ∙ ap root_of (one_location inner.spot spot here) in
             absurd (never_missing spot on test at looks kept conforming h deleted (event me (ListIn inner) (Refused Missing left)) left ends begins asked x.conforming x.living
@@ -290,9 +286,9 @@ app_wrote_on {me} {old} {mid} {new} spot on test at looks kept w k conforming = 
             (subst (λ (i : Inner). is_reply (state_after h) me (ListIn i) (Refused Missing left) ≡ true) is x.is))
         came (inr shown) =
             wrote (ListIn inner) (Refused Missing left) ends
-            (listing_at_app h me inner left law (ap (shows (λ k. not (is_file_item k)) inner) knew.0 ∙ shown))
+            (listing_at_app h me inner left law (ap (is_item_shown (λ k. not (is_file_item k)) inner) knew.0 ∙ shown))
 
-    by : (request : Request) (reply : Reply) → CallStep me k.before request reply new → deletes_at spot request ≡ true → is_stray request reply ≡ true → IsDue k.seen request → HasAsked request me k.asked k.before → new ≡ h ++ event me request reply ∷ [] → AppWroteOn me mid new
+    by : (request : Request) (reply : Reply) → CallStep me k.before request reply new → asks_deletion_at spot request ≡ true → is_stray_deletion request reply ≡ true → IsListingDue k.seen request → HasAsked request me k.asked k.before → new ≡ h ++ event me request reply ∷ [] → AppWroteOn me mid new
     by (ListIn inner) (Refused Missing left) c about stray due has ends = listed inner left about due has ends
     by (ListIn inner) (Items items) c about stray due has ends = wrote (ListIn inner) (Items items) ends (long_at_app (state_after h) (seen_of me h) inner items stray)
     by (RemoveFileIn i) (Refused Missing left) c about stray due has ends = removed (RemoveFileIn i) (Refused Missing left) c refl refl

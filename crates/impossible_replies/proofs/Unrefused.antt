@@ -1,6 +1,8 @@
 -- What is made in a folder comes to a new path in a directory that stands, and what is appended to is a file that stands.
 use Rattle.std.proofs.Common.{arith, ◌≡◌, ℕ, Bool, true, false, not, ◌&&◌, ◌||◌, ◌==◌, cond, nat_le, nat_lt, Option, Some, None, is_some, List, length, codes, refl, sym, ap, subst, ◌∙◌}
 use Rattle.std.proofs.lemmas.Bool.Decides.{nat_tests}
+use Rattle.std.proofs.lemmas.Bool.{or_left}
+use Rattle.plain_laws.proofs.Booleans.{clash}
 use Rattle.dir_model.specs.declared.area.Area.{Area}
 use Rattle.dir_model.specs.declared.area.Area.TheVariants as area
 use Rattle.dir_model.specs.declared.item.Inner.{Inner}
@@ -21,12 +23,11 @@ use Rattle.dir_rules.specs.declared.seen.Seen.{Seen}
 use Rattle.dir_rules.specs.Marks.{has_slash, begins, is_started_mark, is_status_file, is_later_mark}
 use Rattle.dir_rules.specs.Seen.{makes_at, is_own_mark, is_free}
 use Rattle.dir_rules.specs.Standing.{began_as, is_remover}
-use Rattle.dir_rules.specs.LockRules.{may_ask}
-use Rattle.dir_rules.specs.Rules.{allows, may_change, makes_here, may_make_dir, may_make_file_in, may_append_in, may_make_entry, may_note, may_mark, has_note, runs, spares, of_making, has_file as makes_file}
+use Rattle.dir_rules.specs.LockRules.{lock_rules_allow}
+use Rattle.dir_rules.specs.Rules.{allows, content_rules_allow, makes_here, may_make_dir, may_make_file_in, may_append_in, may_make_entry, may_note, may_mark, has_note, runs, spares_deleted_pod, of_making, has_file_among as makes_file}
 use Rattle.dir_rules.specs.Conforms.{seen_of}
-use Rattle.lifecycle.proofs.Handles.{clash, none_refused}
-use Rattle.lifecycle.proofs.Lists.{or_left}
-use Rattle.folder_contents.specs.Filled.{is_filled}
+use Rattle.lifecycle.proofs.Handles.{none_refused}
+use Rattle.folder_contents.specs.Filled.{is_after_handover}
 use Rattle.folder_contents.proofs.Notes.{make_note}
 use Rattle.impossible_replies.proofs.Alongside.{Steps}
 use Rattle.impossible_replies.proofs.Makers.{here_guarded, made_dir, made_file, appended}
@@ -63,8 +64,8 @@ module _ (h : List Event) (p : ℕ) where
   pub note_named : (i : Inner) → i.spot.area ≡ area.Run → allows s (MakeFileIn i) ≡ true → is_plain i.path ≡ true
   note_named i run may =
       by (may_note s i) (may_mark s i) refl refl
-      (subst (λ (a : Area). may_make_file_in s i a ≡ true) run (and_left (may_make_file_in s i i.spot.area) (spares s i)
-      (and_right (may_ask s.standing (MakeFileIn i)) (may_change s (MakeFileIn i)) may)))
+      (subst (λ (a : Area). may_make_file_in s i a ≡ true) run (and_left (may_make_file_in s i i.spot.area) (spares_deleted_pod s i)
+      (and_right (lock_rules_allow s.standing (MakeFileIn i)) (content_rules_allow s (MakeFileIn i)) may)))
     where
       later_plain : is_later_mark i.path ≡ true → has_slash i.path ≡ false
       later_plain later = at (has_slash i.path) later
@@ -83,7 +84,7 @@ module _ (h : List Event) (p : ℕ) where
           (and_left (is_started_mark i.path || is_status_file i.path) (not (has_note s i)) (and_right (runs s i.spot.name) _ e))
       by false true e f x = or_left (not (has_slash i.path)) (is_status_file i.path) (ap not (later_plain (marked_later i.path s.standing.intent
           (and_left (is_own_mark s.standing.intent i.path) (is_free s i.spot) (and_right (began_as is_remover s.standing) _ f))
-          (make_note s i (ap is_filled run) may))))
+          (make_note s i (ap is_after_handover run) may))))
       by false false e f x = cc
 
   -- a note is nobody's app's
@@ -93,8 +94,8 @@ module _ (h : List Event) (p : ℕ) where
   pub append_plain : (i : Inner) (piece : List ℕ) → i.spot.area ≡ area.Run → allows s (AppendIn i piece) ≡ true → is_apps_request (state_after h) (AppendIn i piece) ≡ false
   append_plain i piece run may =
       unowned i (λ k. status_unowned h k i.path (and_left (is_status_file i.path) (has_note s i) (and_right (runs s i.spot.name) _
-      (subst (λ (a : Area). may_append_in s i a ≡ true) run (and_left (may_append_in s i i.spot.area) (spares s i)
-      (and_right (may_ask s.standing (AppendIn i piece)) (may_change s (AppendIn i piece)) may))))))
+      (subst (λ (a : Area). may_append_in s i a ≡ true) run (and_left (may_append_in s i i.spot.area) (spares_deleted_pod s i)
+      (and_right (lock_rules_allow s.standing (AppendIn i piece)) (content_rules_allow s (AppendIn i piece)) may))))))
 
   -- where nothing but the state answers, an Ok was refused by nothing
   pub done : (request : Request) → is_apps_request (state_after h) request ≡ false → is_reply (state_after h) p request Done ≡ true → refusal (state_after h) p request ≡ None
@@ -111,13 +112,13 @@ module _ (h : List Event) (p : ℕ) where
   pub dir_unrefused : (i : Inner) → Steps h p (MakeDirIn i) Done → is_path i.path ≡ true → refusal (state_after h) p (MakeDirIn i) ≡ None
   dir_unrefused i x path =
       let here = and_left (makes_here s i.spot i.spot.area) (of_making (may_make_entry s false i) s.making)
-      (and_left (may_make_dir s i) (spares s i) (and_right (may_ask s.standing (MakeDirIn i)) (may_change s (MakeDirIn i)) x.may)) in
+      (and_left (may_make_dir s i) (spares_deleted_pod s i) (and_right (lock_rules_allow s.standing (MakeDirIn i)) (content_rules_allow s (MakeDirIn i)) x.may)) in
       let m = here_making s.making refl i i.spot.area here in
       made_dir h p x.conforming x.living m.0 m.1 i path x.may
 
   pub file_unrefused : (i : Inner) → Steps h p (MakeFileIn i) Done → is_path i.path ≡ true → refusal (state_after h) p (MakeFileIn i) ≡ None
-  file_unrefused i x path = by i.spot.area refl (and_left (may_make_file_in s i i.spot.area) (spares s i)
-      (and_right (may_ask s.standing (MakeFileIn i)) (may_change s (MakeFileIn i)) x.may))
+  file_unrefused i x path = by i.spot.area refl (and_left (may_make_file_in s i i.spot.area) (spares_deleted_pod s i)
+      (and_right (lock_rules_allow s.standing (MakeFileIn i)) (content_rules_allow s (MakeFileIn i)) x.may))
     where
       on : (a : Area) → (makes_here s i.spot a && of_making (may_make_entry s true i) s.making) ≡ true → refusal (state_after h) p (MakeFileIn i) ≡ None
       on a g =
@@ -139,8 +140,8 @@ module _ (h : List Event) (p : ℕ) where
 
   -- an append, or the first bytes of one that was refused, is to a file that stands
   appends_to : (i : Inner) (piece : List ℕ) → Steps h p (AppendIn i piece) Done → refusal (state_after h) p (AppendIn i piece) ≡ None
-  appends_to i piece x = by i.spot.area refl (and_left (may_append_in s i i.spot.area) (spares s i)
-      (and_right (may_ask s.standing (AppendIn i piece)) (may_change s (AppendIn i piece)) x.may))
+  appends_to i piece x = by i.spot.area refl (and_left (may_append_in s i i.spot.area) (spares_deleted_pod s i)
+      (and_right (lock_rules_allow s.standing (AppendIn i piece)) (content_rules_allow s (AppendIn i piece)) x.may))
     where
       on : (a : Area) → (makes_here s i.spot a && of_making (λ m. makes_file i.path m.entries) s.making) ≡ true → refusal (state_after h) p (AppendIn i piece) ≡ None
       on a g =
@@ -174,8 +175,8 @@ module _ (h : List Event) (p : ℕ) where
 
   pub left_there : (i : Inner) (piece : List ℕ) (error : DirError) (left k : ℕ) → folder_at (state_after h).namespace i.spot ≡ Some k →
       Steps h p (AppendIn i piece) (Refused error left) → (left == 0) ≡ false → has_file (state_after h).entries k i.path ≡ true
-  left_there i piece error left k at x some = by i.spot.area refl (and_left (may_append_in s i i.spot.area) (spares s i)
-      (and_right (may_ask s.standing (AppendIn i piece)) (may_change s (AppendIn i piece)) x.may))
+  left_there i piece error left k at x some = by i.spot.area refl (and_left (may_append_in s i i.spot.area) (spares_deleted_pod s i)
+      (and_right (lock_rules_allow s.standing (AppendIn i piece)) (content_rules_allow s (AppendIn i piece)) x.may))
     where
       on : (a : Area) → (makes_here s i.spot a && of_making (λ m. makes_file i.path m.entries) s.making) ≡ true → has_file (state_after h).entries k i.path ≡ true
       on a g =

@@ -1,7 +1,11 @@
 -- A pod comes to run with its directory for statuses, and with nothing that is named as a note. The directory stays, and no
 -- directory gets such a name.
-use Rattle.std.proofs.Common.{arith, ◌≡◌, ◌⊎◌, inl, inr, ◌≤◌, ℕ, Bool, true, false, not, ◌&&◌, ◌||◌, cond, bytes_eq, nat_lt, Some, None, unwrap_or, List, [], ◌∷◌, ◌++◌, length, drop, codes, append-nil, refl, sym, ap, subst, ◌∙◌}
+use Rattle.std.proofs.Common.{arith, ◌≡◌, ◌⊎◌, inl, inr, ◌≤◌, ℕ, Bool, true, false, not, ◌&&◌, ◌||◌, cond, bytes_eq, nat_lt, Some, None, List, [], ◌∷◌, ◌++◌, length, drop, codes, append-nil, refl, sym, ap, subst, ◌∙◌}
 use Rattle.std.specs.List.{list_any}
+use Rattle.std.proofs.lemmas.Bool.{and_parts}
+use Rattle.plain_laws.proofs.Booleans.{clash}
+use Rattle.plain_laws.proofs.Texts.{same_text}
+use Rattle.plain_laws.proofs.Numbers.{one_number}
 use Rattle.dir_model.specs.declared.area.Area.{Area}
 use Rattle.dir_model.specs.declared.area.Area.TheVariants as area
 use Rattle.dir_model.specs.declared.event.Event.{Event}
@@ -24,21 +28,20 @@ use Rattle.dir_rules.specs.declared.seen.Making.{Making}
 use Rattle.dir_rules.specs.declared.seen.Seen.{Seen}
 use Rattle.dir_rules.specs.Marks.{has_slash, begins, is_started_mark, is_status_file, status_directory, is_below_status, is_later_mark}
 use Rattle.dir_rules.specs.Standing.{is_in}
-use Rattle.dir_rules.specs.LockRules.{may_ask, may_move, may_move_between}
-use Rattle.dir_rules.specs.Rules.{allows, may_bring, may_bring_between, may_change, may_make_in, is_dir, has_path, has_dir, has_file, is_all_done, is_whole_pod}
+use Rattle.dir_rules.specs.LockRules.{lock_rules_allow, may_move_by_locks, locks_allow_move}
+use Rattle.dir_rules.specs.Rules.{allows, may_move_by_contents, contents_allow_move, content_rules_allow, may_make_in, is_dir, has_path_among, has_dir_among, has_file_among, is_all_done, is_whole_pod}
 use Rattle.dir_rules.specs.Conforms.{seen_of}
 use Rattle.lifecycle.specs.declared.machine.PodState.{PodState}
 use Rattle.lifecycle.specs.declared.machine.PodState.TheVariants.{Preparing, AbortedPrepare, Prepared}
-use Rattle.lifecycle.specs.PodMachine.{pod_state, is_place, age}
+use Rattle.lifecycle.specs.PodMachine.{pod_state, is_area_of_state, pod_progress}
 use Rattle.lifecycle.specs.Executions.{IsConforming}
 use Rattle.lifecycle.proofs.Lists.{In, any_in, in_any}
-use Rattle.lifecycle.proofs.Handles.{both, clash}
 use Rattle.lifecycle.proofs.Opens.{found_pod}
-use Rattle.lifecycle.proofs.Places.{name_same, moved_there, none_stands}
+use Rattle.lifecycle.proofs.Places.{moved_there, none_stands}
 use Rattle.lifecycle.proofs.Step.{stands_from}
 use Rattle.folder_contents.specs.Entries.{entries_in}
 use Rattle.folder_contents.specs.Handing.{hands_over, then_moved}
-use Rattle.folder_contents.specs.UnderGate.{takes}
+use Rattle.folder_contents.specs.UnderGate.{is_taken_from}
 use Rattle.folder_contents.proofs.Along.{Happens, along, happens, pod_at}
 use Rattle.folder_contents.proofs.Places.{stands_there, untaken}
 use Rattle.folder_contents.proofs.Spots.{one_location}
@@ -52,13 +55,13 @@ use Rattle.impossible_replies.proofs.RunChanges.{Written, run_change}
 
 -- the directory for statuses stands, and no directory is named as a note
 pub record Tidy (es : List Entry) : Type 0 where
-  pub status : has_dir status_directory es ≡ true
-  pub dirs : (path : List ℕ) → is_noted path ≡ true → has_dir path es ≡ false
+  pub status : has_dir_among status_directory es ≡ true
+  pub dirs : (path : List ℕ) → is_noted path ≡ true → has_dir_among path es ≡ false
 
 -- nor is a file
 pub record Whole (es : List Entry) : Type 0 where
   pub tidy : Tidy es
-  pub files : (path : List ℕ) → is_noted path ≡ true → has_file path es ≡ false
+  pub files : (path : List ℕ) → is_noted path ≡ true → has_file_among path es ≡ false
 
 -- a note's path is below the directory for statuses, or a later mark
 named_late : (path : List ℕ) → is_noted path ≡ true → (is_below_status path ≡ true) ⊎ (is_later_mark path ≡ true)
@@ -66,7 +69,7 @@ named_late path note = by (is_started_mark path) (is_status_file path) refl refl
   where
     by : (a b : Bool) → is_started_mark path ≡ a → is_status_file path ≡ b → (a || b) ≡ true → (is_below_status path ≡ true) ⊎ (is_later_mark path ≡ true)
     by true b e f h =
-        let x = both (begins mark_prefix path && nat_lt 8 (length path)) (not (has_slash path)) e in
+        let x = and_parts (begins mark_prefix path && nat_lt 8 (length path)) (not (has_slash path)) e in
         inr (ap (λ c. cond c false (cond (begins mark_prefix path) true (begins (codes "marked-") path))) (not_true (has_slash path) x.1)
         ∙ ap (λ c. cond c true (begins (codes "marked-") path)) (and_left (begins mark_prefix path) (nat_lt 8 (length path)) x.0))
     by false true e f h =
@@ -75,10 +78,10 @@ named_late path note = by (is_started_mark path) (is_status_file path) refl refl
     by false false e f h = cc
 
 unnamed : (es : List Entry) → list_any (λ e. is_below_status e.path) es ≡ false → list_any (λ e. is_later_mark e.path) es ≡ false →
-    (path : List ℕ) → is_noted path ≡ true → has_path path es ≡ false
-unnamed es below later path note = by (has_path path es) refl
+    (path : List ℕ) → is_noted path ≡ true → has_path_among path es ≡ false
+unnamed es below later path note = by (has_path_among path es) refl
   where
-    by : (b : Bool) → has_path path es ≡ b → b ≡ false
+    by : (b : Bool) → has_path_among path es ≡ b → b ≡ false
     by false e = refl
     by true e = late (named_late path note)
       where
@@ -87,9 +90,9 @@ unnamed es below later path note = by (has_path path es) refl
 
         late : (is_below_status path ≡ true) ⊎ (is_later_mark path ≡ true) → true ≡ false
         late (inl h) = clash (list_any (λ e. is_below_status e.path) es)
-            (in_any (λ e. is_below_status e.path) x.0 es x.1.0 (ap is_below_status (name_same x.0.path path x.1.1) ∙ h)) below
+            (in_any (λ e. is_below_status e.path) x.0 es x.1.0 (ap is_below_status (same_text x.0.path path x.1.1) ∙ h)) below
         late (inr h) = clash (list_any (λ e. is_later_mark e.path) es)
-            (in_any (λ e. is_later_mark e.path) x.0 es x.1.0 (ap is_later_mark (name_same x.0.path path x.1.1) ∙ h)) later
+            (in_any (λ e. is_later_mark e.path) x.0 es x.1.0 (ap is_later_mark (same_text x.0.path path x.1.1) ∙ h)) later
 
 whole_pod : (m : Making) → is_whole_pod m ≡ true → Whole m.entries
 whole_pod m whole = record {
@@ -103,13 +106,13 @@ whole_pod m whole = record {
     later : Bool
     later = list_any (λ e. is_later_mark e.path) m.entries
 
-    b : (has_dir status_directory m.entries ≡ true) × ((not below && not later) ≡ true)
-    b = both (has_dir status_directory m.entries) (not below && not later) (and_right (is_all_done m) _ whole)
+    b : (has_dir_among status_directory m.entries ≡ true) × ((not below && not later) ≡ true)
+    b = and_parts (has_dir_among status_directory m.entries) (not below && not later) (and_right (is_all_done m) _ whole)
 
     c : (below ≡ false) × (later ≡ false)
-    c = (not_true below (both (not below) (not later) b.1).0, not_true later (both (not below) (not later) b.1).1)
+    c = (not_true below (and_parts (not below) (not later) b.1).0, not_true later (and_parts (not below) (not later) b.1).1)
 
-young : (a : Area) (z : PodState) → (is_in area.Prepare a || is_in area.Prepared a) ≡ true → is_place a z ≡ true → 5 ≤ age z → ⊥
+young : (a : Area) (z : PodState) → (is_in area.Prepare a || is_in area.Prepared a) ≡ true → is_area_of_state a z ≡ true → 5 ≤ pod_progress z → ⊥
 young area.Prepare (Preparing o) on h l = absurd (omega (arith, l))
 young area.Prepare AbortedPrepare on h l = absurd (omega (arith, l))
 young area.Prepare z on h l = cc
@@ -117,14 +120,11 @@ young area.Prepared Prepared on h l = absurd (omega (arith, l))
 young area.Prepared z on h l = cc
 young a z on h l = cc
 
-one_number : (f k : ℕ) → Some f ≡ Some k → f ≡ k
-one_number f k e = ap (λ o. unwrap_or o f) e
-
 -- what comes to run comes whole, from prepare or prepared
 pub comes_whole : (h : List Event) (p : ℕ) (from to : Spot) → IsConforming (then_moved h p from to) → to.area ≡ area.Run → (k : ℕ) →
     folder_at (state_after (then_moved h p from to)).namespace to ≡ Some k →
-    Whole (entries_in k (state_after (then_moved h p from to)).entries) × (5 ≤ age (pod_state to.name h) → ⊥)
-comes_whole h p from to c run k found = by from.area refl (subst (λ (b : Area). may_bring_between s from to from.area b ≡ true) run (brought s from to may))
+    Whole (entries_in k (state_after (then_moved h p from to)).entries) × (5 ≤ pod_progress (pod_state to.name h) → ⊥)
+comes_whole h p from to c run k found = by from.area refl (subst (λ (b : Area). contents_allow_move s from to from.area b ≡ true) run (brought s from to may))
   where
     x : Happens h (event p (MoveFolder from to) Done)
     x = happens h (event p (MoveFolder from to) Done) c
@@ -144,18 +144,18 @@ comes_whole h p from to c run k found = by from.area refl (subst (λ (b : Area).
     unchanged = ap (λ (z : DirState). entries_in k z.entries) (state_after-push h (event p (MoveFolder from to) Done))
         ∙ ap (entries_in k) (append-nil (state_after h).entries)
 
-    early : (is_in area.Prepare from.area || is_in area.Prepared from.area) ≡ true → is_stage from.area ≡ true → 5 ≤ age (pod_state to.name h) → ⊥
+    early : (is_in area.Prepare from.area || is_in area.Prepared from.area) ≡ true → is_stage from.area ≡ true → 5 ≤ pod_progress (pod_state to.name h) → ⊥
     early on stage l = young from.area (pod_state to.name h) on
         (found_pod to.name (state_after h).namespace (pod_state to.name h) (pod_at to.name h x.conforming) from
         (and_both (is_stage from.area) (bytes_eq from.name to.name) stage names) (stands_there (state_after h).namespace from k stood)).0 l
       where
         names : bytes_eq from.name to.name ≡ true
-        names = and_left (bytes_eq from.name to.name) (may_move_between s.standing from.name from.area to.area)
-            (sym (ap (λ b. cond (b || is_stage to.area) (bytes_eq from.name to.name && may_move_between s.standing from.name from.area to.area) true) stage)
-            ∙ and_left (may_move s.standing from to) (may_bring s from to) may)
+        names = and_left (bytes_eq from.name to.name) (locks_allow_move s.standing from.name from.area to.area)
+            (sym (ap (λ b. cond (b || is_stage to.area) (bytes_eq from.name to.name && locks_allow_move s.standing from.name from.area to.area) true) stage)
+            ∙ and_left (may_move_by_locks s.standing from to) (may_move_by_contents s from to) may)
 
-    by : (a : Area) → from.area ≡ a → may_bring_between s from to a area.Run ≡ true →
-        Whole (entries_in k (state_after (then_moved h p from to)).entries) × (5 ≤ age (pod_state to.name h) → ⊥)
+    by : (a : Area) → from.area ≡ a → contents_allow_move s from to a area.Run ≡ true →
+        Whole (entries_in k (state_after (then_moved h p from to)).entries) × (5 ≤ pod_progress (pod_state to.name h) → ⊥)
     by area.Prepare e bring =
         let o = handed h p from to c (subst (λ (a : Area). hands_over a to.area ≡ true) (sym e) (subst (λ (b : Area). hands_over area.Prepare b ≡ true) (sym run) refl)) in
         let same : o.0 ≡ k = one_number o.0 k (sym o.1.stands ∙ found) in (
@@ -213,7 +213,7 @@ tidy_next h e c was u k there = by (came st e.process e.request e.reply spot (st
         let may : allows (seen_of e.process h) (MakeFolder new) ≡ true =
         ap (λ (q : Request). allows (seen_of e.process h) q) (sym is) ∙ x.may (ap is_kill is) in
         clash (may_make_in (seen_of e.process h) new.name new.area)
-        (and_right (may_ask (seen_of e.process h).standing (MakeFolder new)) (may_change (seen_of e.process h) (MakeFolder new)) may)
+        (and_right (lock_rules_allow (seen_of e.process h).standing (MakeFolder new)) (content_rules_allow (seen_of e.process h) (MakeFolder new)) may)
         (ap (λ (z : Spot). may_make_in (seen_of e.process h) z.name z.area) (one_location new spot on))
     arrived (MoveFolder from to) Done is done on =
         let same : h ++ e ∷ [] ≡ then_moved h e.process from to =
@@ -225,7 +225,7 @@ tidy_next h e c was u k there = by (came st e.process e.request e.reply spot (st
         (subst (λ (z : Spot). folder_at (state_after (h ++ e ∷ [])).namespace z ≡ Some k) (sym here) there))).0.tidy
     arrived request reply is done on = cc
 
-    by : (arrives spot e.request e.reply ≡ true) ⊎ ((stands st.namespace spot ≡ true) × (takes spot e.request e.reply ≡ false)) →
+    by : (arrives spot e.request e.reply ≡ true) ⊎ ((stands st.namespace spot ≡ true) × (is_taken_from spot e.request e.reply ≡ false)) →
         Tidy (entries_in k (state_after (h ++ e ∷ [])).entries)
     by (inl on) = arrived e.request e.reply refl refl on
     by (inr (stood, off)) = put (stays (sym (untaken st e.process e.request e.reply spot x.is stood off) ∙ found))

@@ -4,5 +4,5 @@ use Rattle.std.specs.BTreeMap.{get_by_text}
 use Rattle.launch.specs.declared.last_values.LastValues.{LastValues}
 
 -- the value at a name
-abbrev pub value_at : LastValues → List ℕ → Option (List ℕ)
-value_at t name = get_by_text t.values name
+abbrev pub kept_value_at : LastValues → List ℕ → Option (List ℕ)
+kept_value_at t name = get_by_text t.values name

@@ -1,7 +1,7 @@
 // The environment of an app's programs.
 ghost use Rattle.std.specs.Prelude.{◌≡◌, ◌++◌, ℕ, List, None, bytes_eq, false, IfOk, OnOk, map, option_map, cond, string_bytes};
-ghost use Rattle.launch.specs.LastValues.{value_at};
-ghost use Rattle.launch.specs.Environment.{has_name, last_value, first_words, is_reserved, path_name, default_path, search_path, usual_path, metadata_of, given, variable_of, environment_of};
+ghost use Rattle.launch.specs.LastValues.{kept_value_at};
+ghost use Rattle.launch.specs.Environment.{has_variable, last_value, variable_if_unreserved, is_reserved_variable, path_name, default_path, search_path, default_path_if_unset, metadata_address, variables_from_manifest, variable_of, environment_of};
 
 use crate::last_values::LastValues;
 use crate::words::{with_variable, with_word};
@@ -19,7 +19,7 @@ const PATH: &str = "PATH";
 const DEFAULT_PATH: &str = "/usr/local/sbin:/usr/local/bin:/usr/sbin:/usr/bin:/sbin:/bin";
 
 fn is_reserved(name: &str) -> bool
-    ensures { result ≡ is_reserved name.now }
+    ensures { result ≡ is_reserved_variable name.now }
 {
     name == APP_NAME || name == METADATA_URL
 }
@@ -54,8 +54,8 @@ fn with_first(
     name: &str,
     values: &mut LastValues,
 ) -> Result<Words, NoMemory>
-    ensures words { IfOk result (λ longer. longer ≡ words ++ first_words name.now (value_at values.old name.now)) }
-    ensures rest { OnOk result ((other : List ℕ) → is_reserved other ≡ false → value_at values.new other ≡ cond (bytes_eq name.now other) None (value_at values.old other)) }
+    ensures words { IfOk result (λ longer. longer ≡ words ++ variable_if_unreserved name.now (kept_value_at values.old name.now)) }
+    ensures rest { OnOk result ((other : List ℕ) → is_reserved_variable other ≡ false → kept_value_at values.new other ≡ cond (bytes_eq name.now other) None (kept_value_at values.old other)) }
 {
     if is_reserved(name) {
         return Ok(words);
@@ -68,7 +68,7 @@ fn with_first(
 
 // What the manifest gives: each name where it first stands, with its last value.
 fn given(alloc: Global, variables: &[EnvVar]) -> Result<Words, NoMemory>
-    ensures { IfOk result (λ words. words ≡ map variable_of (given variables.now)) }
+    ensures { IfOk result (λ words. words ≡ map variable_of (variables_from_manifest variables.now)) }
 {
     let mut values = LastValues::of(alloc, variables)?;
     let mut words = Words::new(alloc);
@@ -79,14 +79,14 @@ fn given(alloc: Global, variables: &[EnvVar]) -> Result<Words, NoMemory>
 }
 
 fn has_path(variables: &[EnvVar]) -> bool
-    ensures { result ≡ has_name path_name variables.now }
+    ensures { result ≡ has_variable path_name variables.now }
 {
     variables.iter().any(|v| v.name.as_str() == PATH)
 }
 
 // The usual places for programs, where the manifest says none.
 fn with_usual_path(alloc: Global, words: Words, variables: &[EnvVar]) -> Result<Words, NoMemory>
-    ensures { IfOk result (λ longer. longer ≡ words ++ usual_path variables.now) }
+    ensures { IfOk result (λ longer. longer ≡ words ++ default_path_if_unset variables.now) }
 {
     if has_path(variables) {
         return Ok(words);
@@ -95,7 +95,7 @@ fn with_usual_path(alloc: Global, words: Words, variables: &[EnvVar]) -> Result<
 }
 
 fn metadata_url(alloc: Global, address: &str, token: &str) -> Result<String, NoMemory>
-    ensures { IfOk result (λ url. string_bytes url ≡ metadata_of address.now token.now) }
+    ensures { IfOk result (λ url. string_bytes url ≡ metadata_address address.now token.now) }
 {
     let mut url = String::from_str(alloc, "http://")?;
     url.push_str(address)?;

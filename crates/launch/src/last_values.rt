@@ -1,7 +1,7 @@
 // The value that each variable's name has last.
 ghost use Rattle.std.specs.Prelude.{◌≡◌, ℕ, List, Some, None, bytes_eq, cond, IfOk, OnOk};
-ghost use Rattle.launch.specs.Environment.{last_value, is_named};
-ghost use Rattle.launch.specs.LastValues.{value_at};
+ghost use Rattle.launch.specs.Environment.{last_value, is_variable_named};
+ghost use Rattle.launch.specs.LastValues.{kept_value_at};
 
 use ac_types::{NoMemory, Text};
 use app_section::EnvVar;
@@ -16,7 +16,7 @@ pub(crate) struct LastValues {
 
 impl LastValues {
     fn put(&mut self, alloc: Global, variable: &EnvVar) -> Result<(), NoMemory>
-        ensures { OnOk result ((name : List ℕ) → value_at self.new name ≡ cond (is_named variable.now name) (Some variable.now.value) (value_at self.old name)) }
+        ensures { OnOk result ((name : List ℕ) → kept_value_at self.new name ≡ cond (is_variable_named variable.now name) (Some variable.now.value) (kept_value_at self.old name)) }
     {
         let value = variable.value.copy()?;
         let name = String::from_str(alloc, variable.name.as_str())?;
@@ -26,7 +26,7 @@ impl LastValues {
 
     /// The values of some variables. Refused only where memory ran out.
     pub(crate) fn of(alloc: Global, variables: &[EnvVar]) -> Result<LastValues, NoMemory>
-        ensures { IfOk result (λ values. (name : List ℕ) → value_at values name ≡ last_value name variables.now) }
+        ensures { IfOk result (λ values. (name : List ℕ) → kept_value_at values name ≡ last_value name variables.now) }
     {
         let mut last = LastValues {
             values: BTreeMap::new(alloc),
@@ -39,8 +39,8 @@ impl LastValues {
 
     /// The value of a name, which it has no longer then.
     pub(crate) fn take(&mut self, name: &str) -> Option<Text>
-        ensures value { result ≡ value_at self.old name.now }
-        ensures rest { (other : List ℕ) → value_at self.new other ≡ cond (bytes_eq name.now other) None (value_at self.old other) }
+        ensures value { result ≡ kept_value_at self.old name.now }
+        ensures rest { (other : List ℕ) → kept_value_at self.new other ≡ cond (bytes_eq name.now other) None (kept_value_at self.old other) }
     {
         self.values.remove(name)
     }

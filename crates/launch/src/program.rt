@@ -3,7 +3,7 @@ ghost use Rattle.std.specs.Prelude.{◌≡◌, ◌∷◌, ◌==◌, ℕ, List, S
 ghost use Rattle.std.specs.List.{slice_split};
 ghost use Rattle.std.specs.Option.{option_copied};
 ghost use Rattle.path_map.specs.Entries.{entry_at};
-ghost use Rattle.launch.specs.Programs.{is_absolute, is_startable, below, found_in, found_among, program_of, word_of, argv_of};
+ghost use Rattle.launch.specs.Programs.{is_absolute_path, is_startable, word_path_in, program_in_directory, found_among, program_of, program_word_of, argv_of};
 
 use crate::error::{LaunchError, no_memory};
 use crate::words::with_word;
@@ -14,7 +14,7 @@ use std::alloc::{AllocError, Global};
 
 // The path that a text is, or none.
 fn path_of(alloc: Global, text: &str) -> Result<Option<AbsPath>, NoMemory>
-    ensures { IfOk result (λ path. path ≡ cond (is_absolute text.now) (Some text.now) None) }
+    ensures { IfOk result (λ path. path ≡ cond (is_absolute_path text.now) (Some text.now) None) }
 {
     match AbsPath::parse(alloc, text) {
         Ok(path) => Ok(Some(path)),
@@ -34,7 +34,7 @@ fn is_startable(entry: Option<&Entry>) -> bool
 
 // The path of a word in a directory.
 fn below(alloc: Global, directory: &str, word: &str) -> Result<String, NoMemory>
-    ensures { IfOk result (λ path. string_bytes path ≡ below word.now directory.now) }
+    ensures { IfOk result (λ path. string_bytes path ≡ word_path_in word.now directory.now) }
 {
     let mut path = String::from_str(alloc, directory)?;
     path.push_str("/")?;
@@ -49,7 +49,7 @@ fn program_in(
     word: &str,
     tree: &PathMap,
 ) -> Result<Option<Text>, NoMemory>
-    ensures { IfOk result (λ found. found ≡ found_in (entry_at tree.now) word.now directory.now) }
+    ensures { IfOk result (λ found. found ≡ program_in_directory (entry_at tree.now) word.now directory.now) }
 {
     let text = below(alloc, directory, word)?;
     if path_of(alloc, directory)?.is_none() {
@@ -101,7 +101,7 @@ fn program_path(
 }
 
 fn word_of(exec: &[Text]) -> &str
-    ensures { result.now ≡ word_of exec.now }
+    ensures { result.now ≡ program_word_of exec.now }
 {
     match exec.first() {
         Some(word) => word.as_str(),

@@ -1,5 +1,7 @@
 -- A process begins.
 use Rattle.std.proofs.Common.{◌≡◌, inl, inr, ℕ, Bool, true, false, not, ◌==◌, cond, List, [], ◌∷◌, ◌++◌, refl, sym, ap, subst, ◌∙◌}
+use Rattle.std.proofs.lemmas.Bool.{and_parts}
+use Rattle.plain_laws.proofs.Booleans.{clash}
 use Rattle.dir_model.specs.declared.opening.Opening.{Opening}
 use Rattle.dir_model.specs.declared.request.Request.TheVariants.{Begin}
 use Rattle.dir_model.specs.State.{Namespace, has_begun, has_ended}
@@ -7,11 +9,12 @@ use Rattle.dir_rules.specs.Standing.{nothing_standing, standing_done}
 use Rattle.lifecycle.specs.declared.machine.PodState.{PodState}
 use Rattle.dir_rules.specs.declared.standing.Standing.{Standing}
 use Rattle.lifecycle.proofs.Lists.{In}
-use Rattle.lifecycle.proofs.Handles.{Sound, both, clash, nat_same}
+use Rattle.lifecycle.proofs.Handles.{Sound}
 use Rattle.lifecycle.proofs.Linked.{Bare, own, mine}
 use Rattle.lifecycle.proofs.Invariant.{Pod, Knows, others_still}
 use Rattle.dir_model.specs.declared.intent.Intent.{Intent}
 use Rattle.dir_model.specs.declared.intent.Start.{Start}
+use Rattle.dir_model.proofs.Lists.{same_number}
 
 abbrev pub and_begun : Namespace → Start → Namespace
 and_begun n b = record n { begun = n.begun ++ b ∷ [] }
@@ -29,20 +32,20 @@ unborn_mine n p sound unborn = none_mine p n.openings (λ o i. by o i (o.process
   where
     by : (o : Opening) → In o n.openings → (b : Bool) → (o.process == p) ≡ b → (o.process == p) ≡ false
     by o i false e = e
-    by o i true e = clash (has_begun n p) (subst (λ (q : ℕ). has_begun n q ≡ true) (nat_same o.process p e)
-        (both (has_begun n o.process) (not (has_ended n o.process)) (sound.living o i)).0) unborn
+    by o i true e = clash (has_begun n p) (subst (λ (q : ℕ). has_begun n q ≡ true) (same_number o.process p e)
+        (and_parts (has_begun n o.process) (not (has_ended n o.process)) (sound.living o i)).0) unborn
 
 pub begin_knows : (u : List ℕ) (n : Namespace) (s : PodState) (p : ℕ) (intent : Intent) → Sound n →
     has_begun n p ≡ false → Knows u p (and_begun n (record { process = p; intent = intent })) s
     (standing_done nothing_standing (Begin intent))
 begin_knows u n s p intent sound unborn = record {
   linked = sym (unborn_mine n p sound unborn);
-  gated = λ g d. absurd (cc);
+  embryo_under_lock = λ g d. absurd (cc);
   gates = λ g. absurd (cc);
   owned = λ e x. absurd (cc);
   covered = λ h i o c. absurd i;
   looked = λ a x. absurd (cc);
-  cleared = λ x. absurd (cc);
+  seen_unowned_under_claim = λ x. absurd (cc);
 }
 
 pub knows_begun : (u : List ℕ) (n : Namespace) (b : Start) (q : ℕ) (s : PodState) (k : Standing) → Knows u q n s k →

@@ -1,5 +1,7 @@
 -- The machine by events alone is the machine by the namespace.
 use Rattle.std.proofs.Common.{◌≡◌, inl, inr, ℕ, Bool, true, false, not, ◌&&◌, ◌==◌, cond, Option, Some, None, List, [], ◌∷◌, ◌++◌, map, filter, find, refl, sym, ap, ◌∙◌}
+use Rattle.std.proofs.lemmas.Bool.{and_parts}
+use Rattle.plain_laws.proofs.Booleans.{clash}
 use Rattle.dir_model.specs.declared.spot.Handle.{Handle}
 use Rattle.dir_model.specs.declared.spot.Mode.{Mode}
 use Rattle.dir_model.specs.declared.spot.Mode.TheVariants.{Shared, Exclusive}
@@ -21,9 +23,9 @@ use Rattle.lifecycle.specs.declared.machine.PodState.{PodState}
 use Rattle.lifecycle.specs.declared.machine.PodState.TheVariants.{Absent}
 use Rattle.lifecycle.specs.declared.machine.Transition.{Transition}
 use Rattle.lifecycle.specs.declared.machine.Transition.TheVariants as turn
-use Rattle.lifecycle.specs.PodMachine.{turned, transition, if_so, on_opening, is_deleter, is_grip, is_owner, is_gone}
+use Rattle.lifecycle.specs.PodMachine.{after_transition, transition, transition_if, on_opening, is_deleter, is_exclusive_own, is_owner, is_gone}
 use Rattle.lifecycle.proofs.Lists.{In}
-use Rattle.lifecycle.proofs.Handles.{Sound, both, clash, handle_meet, held}
+use Rattle.lifecycle.proofs.Handles.{Sound, handle_meet, held}
 use Rattle.dir_model.specs.declared.event.Event.{Event}
 use Rattle.dir_model.specs.declared.item.Item.{Item}
 use Rattle.dir_model.specs.declared.request.DirError.{DirError}
@@ -211,11 +213,11 @@ read_none u n s p request x = refl
 watched_same : (u : List ℕ) (n : Namespace) (s : PodState) (p : ℕ) (request : Request) (reply : Reply) → Sound n →
     watched u s (ours u n.openings) p request reply ≡ transition u n s p request reply
 watched_same u n s p (TryLock h Exclusive) Done sound =
-    ap (λ b. if_so (not (is_gone s) && b) turn.BeginDelete)
+    ap (λ b. transition_if (not (is_gone s) && b) turn.BeginDelete)
     (sym (find_ours u p h (is_deleter u) (λ g. g.in_garbage) n.openings sound.unique (λ o. refl)))
 watched_same u n s p (Close h) Done sound =
-    ap (λ b. if_so (is_owner p s && b) turn.End)
-    (sym (find_ours u p h (is_grip u) (λ g. g.exclusive) n.openings sound.unique (λ o. refl)))
+    ap (λ b. transition_if (is_owner p s && b) turn.End)
+    (sym (find_ours u p h (is_exclusive_own u) (λ g. g.exclusive) n.openings sound.unique (λ o. refl)))
 watched_same u n s p (TryLock h Shared) Done sound = refl
 watched_same u n s p request Done sound = refl
 watched_same u n s p request (Refused e left) sound = refused_none u n s p request e left
@@ -230,12 +232,12 @@ watch_is_from : (u : List ℕ) (es : List Event) (n : DirState) (s : PodState) �
     { state = pod_state_from u n s es; grips = ours u (states_next n es).namespace.openings }
 watch_is_from u [] n s sound run = refl
 watch_is_from u (e ∷ es) n s sound run =
-    let x = both (is_allowed n e) (is_run_from (state_next n e) es) run in
+    let x = and_parts (is_allowed n e) (is_run_from (state_next n e) es) run in
     let y = allowed_parts n e x.0 in
     let next : watch_next u (record { state = s; grips = ours u n.namespace.openings }) e ≡ record
     { state = pod_state_next u n.namespace s e; grips = ours u (state_next n e).namespace.openings } =
     ap (λ (o : Option Transition). record {
-      state = turned o e.process s;
+      state = after_transition o e.process s;
       grips =
           grips_replied u (ours u n.namespace.openings) e.process e.request e.reply;
     })
@@ -243,7 +245,7 @@ watch_is_from u (e ∷ es) n s sound run =
     ∙ ap (λ (gs : List Grip). record { state = pod_state_next u n.namespace s e; grips = gs })
     (sym (grips_step u n.namespace e.process e.request e.reply)) in
     ap (λ (w : Watch). watch_from u w es) next ∙ watch_is_from u es (state_next n e) (pod_state_next u n.namespace s e)
-    (step_sound n e.process e.request e.reply (both (is_well_formed e.request)
+    (step_sound n e.process e.request e.reply (and_parts (is_well_formed e.request)
     (is_due n.namespace e.process e.request) y.0).1 y.1 sound) x.1
 
 -- in every run

@@ -1,5 +1,8 @@
 -- No two processes drew one identity in the whole trace: then no two in a beginning of it.
 use Rattle.std.proofs.Common.{◌≡◌, ◌⊎◌, inl, inr, ℕ, Bool, true, false, not, ◌||◌, ◌==◌, cond, Option, Some, None, List, [], ◌∷◌, ◌++◌, map, refl, sym, ap, subst, ◌∙◌}
+use Rattle.std.proofs.lemmas.Bool.{and_parts}
+use Rattle.plain_laws.proofs.Booleans.{clash}
+use Rattle.plain_laws.proofs.Texts.{same_text}
 use Rattle.dir_model.specs.declared.event.Event.{Event}
 use Rattle.dir_model.specs.declared.spot.Mode.TheVariants.{Shared, Exclusive}
 use Rattle.dir_model.specs.declared.area.Area.TheVariants as area
@@ -13,18 +16,17 @@ use Rattle.dir_model.specs.State.{DirState, empty_state, has_begun, lives}
 use Rattle.dir_model.specs.Trace.{state_next, states_next, state_after}
 use Rattle.dir_model.specs.Replies.{is_reply}
 use Rattle.dir_model.specs.Calls.{is_begin, is_kill, is_foreign, is_allowed, is_run_from, IsRun, may_step}
-use Rattle.dir_rules.specs.Standing.{nothing_standing, draws, draws_by, holds_gate, find_held, held_in, looked_by, standing_replied, stood, standing_from, standing_of}
+use Rattle.dir_rules.specs.Standing.{nothing_standing, draws, draws_by, shares_area, find_held, held_with_mode, looked_by, standing_replied, stood, standing_from, standing_of}
 use Rattle.dir_model.specs.Areas.{is_stage}
 use Rattle.dir_model.proofs.Chains.{run_from-left, run_from-right, run-left}
-use Rattle.lifecycle.specs.Executions.{IsConforming}
-use Rattle.lifecycle.proofs.Handles.{both, clash, nat_same, is_due}
+use Rattle.lifecycle.specs.Executions.{IsDrawnOnce, IsConforming}
+use Rattle.lifecycle.proofs.Handles.{is_due}
 use Rattle.lifecycle.proofs.Lives.{begun_stays, begun_me}
 use Rattle.dir_model.specs.declared.intent.Intent.{Intent}
 use Rattle.dir_model.specs.Paths.{is_well_formed}
 use Rattle.dir_model.specs.Pods.{pod_text}
-use Rattle.lifecycle.proofs.Places.{name_same}
 use Rattle.dir_rules.proofs.Tied.{conforms-left}
-use Rattle.dir_model.proofs.Lists.{not_true}
+use Rattle.dir_model.proofs.Lists.{not_true, same_number}
 use Rattle.dir_model.proofs.Allowed.{allowed_parts}
 
 pub standing_split : (p : ℕ) (s : Standing) (xs ys : List Event) → standing_from p s (xs ++ ys) ≡ standing_from p
@@ -32,18 +34,18 @@ pub standing_split : (p : ℕ) (s : Standing) (xs ys : List Event) → standing_
 standing_split p s [] ys = refl
 standing_split p s (x ∷ xs) ys = standing_split p (stood p s x) xs ys
 
-same_intent : (s : Standing) (request : Request) (reply : Reply) → is_begin request ≡ false →
+pub same_intent : (s : Standing) (request : Request) (reply : Reply) → is_begin request ≡ false →
     (standing_replied s request reply).intent ≡ s.intent
 same_intent s (Begin intent) reply off = cc
 same_intent s request (Refused e left) off = refl
 same_intent s (MakeFolder spot) Done off = by (is_stage spot.area)
   where
-    by : (b : Bool) → (cond b (record s { made = true; gated = holds_gate area.Embryo s }) s).intent ≡ s.intent
+    by : (b : Bool) → (cond b (record s { made = true; embryo_under_lock = shares_area area.Embryo s }) s).intent ≡ s.intent
     by true = refl
     by false = refl
 same_intent s (TryLock h Shared) Done off = by (find_held h s)
   where
-    by : (o : Option Held) → (looked_by o (record s { holdings = map (held_in h Shared) s.holdings })).intent ≡ s.intent
+    by : (o : Option Held) → (looked_by o (record s { holdings = map (held_with_mode h Shared) s.holdings })).intent ≡ s.intent
     by None = refl
     by (Some x) = refl
 same_intent s (TryLock h Exclusive) Done off = refl
@@ -58,7 +60,7 @@ foreign_or_own p e = by (e.process == p) (is_kill e.request) refl
   where
     by : (c k : Bool) → (e.process == p) ≡ c → (((not c || k) ≡ true) ⊎ (((not c || k) ≡ false) × (e.process ≡ p)))
     by true true f = inl refl
-    by true false f = inr (refl, nat_same e.process p f)
+    by true false f = inr (refl, same_number e.process p f)
     by false k f = inl refl
 
 -- an intent stays
@@ -70,10 +72,10 @@ intent_stays p (e ∷ es) n s run begun =
     ∙ one (foreign_or_own p e)
   where
     a : (is_allowed n e ≡ true) × (is_run_from (state_next n e) es ≡ true)
-    a = both (is_allowed n e) (is_run_from (state_next n e) es) run
+    a = and_parts (is_allowed n e) (is_run_from (state_next n e) es) run
 
     may : is_due n.namespace e.process e.request ≡ true
-    may = (both (is_well_formed e.request) (is_due n.namespace e.process e.request)
+    may = (and_parts (is_well_formed e.request) (is_due n.namespace e.process e.request)
         (allowed_parts n e a.0).0).1
 
     not_begin : e.process ≡ p → (c : Bool) → is_begin e.request ≡ c → is_begin e.request ≡ false
@@ -94,7 +96,7 @@ unborn_same p [] n s run un = refl
 unborn_same p (e ∷ es) n s run un = unborn_same p es (state_next n e) (stood p s e) a.1 un ∙ one (foreign_or_own p e)
   where
     a : (is_allowed n e ≡ true) × (is_run_from (state_next n e) es ≡ true)
-    a = both (is_allowed n e) (is_run_from (state_next n e) es) run
+    a = and_parts (is_allowed n e) (is_run_from (state_next n e) es) run
 
     b : (may_step n e.process e.request ≡ true) × (is_reply n e.process e.request e.reply ≡ true)
     b = allowed_parts n e a.0
@@ -107,7 +109,7 @@ unborn_same p (e ∷ es) n s run un = unborn_same p es (state_next n e) (stood p
     one (inl f) = ap (λ c. cond c s (standing_replied s e.request e.reply)) f
     one (inr f) = clash (has_begun (states_next (state_next n e) es).namespace p)
         (on es (state_next n e) (subst (λ (q : ℕ). has_begun (state_next n e).namespace q ≡ true) f.1
-        (begun_me n e.process e.request e.reply (both (is_well_formed e.request)
+        (begun_me n e.process e.request e.reply (and_parts (is_well_formed e.request)
         (is_due n.namespace e.process e.request) b.0).1 b.1))) un
 
 intent_on : (before later : List Event) (p : ℕ) (i : Intent) → IsRun (before ++ later) →
@@ -136,7 +138,7 @@ conforming_left before later l = record {
 
 -- what it drew
 drawn : (u : List ℕ) (o : Option Intent) → draws_by u o ≡ true → (i : Intent) × ((o ≡ Some i) × (pod_text i.draw.bytes ≡ u))
-drawn u (Some i) h = (i, (refl, name_same (pod_text i.draw.bytes) u h))
+drawn u (Some i) h = (i, (refl, same_text (pod_text i.draw.bytes) u h))
 drawn u None h = cc
 
 -- no two processes would make one pod, by no beginning of the trace
@@ -147,3 +149,7 @@ drawn_once trace before later l is u p q x y =
     let b = drawn u (standing_of q before).intent y in
     (conforming_left before later (subst (λ (h : List Event). IsConforming h) is l)).identities p q a.0 b.0 a.1.0 b.1.0
     (a.1.1 ∙ sym b.1.1)
+
+-- where one process alone begins, nothing is drawn twice
+pub drawn_by_one : (trace : List Event) (one : ℕ) → ((p : ℕ) (a : Intent) → (standing_of p trace).intent ≡ Some a → p ≡ one) → (drawn : Intent → List ℕ) → IsDrawnOnce drawn trace
+drawn_by_one trace one maker drawn p q a b x y is = maker p a x ∙ sym (maker q b y)

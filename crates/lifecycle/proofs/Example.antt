@@ -15,12 +15,13 @@ use Rattle.dir_model.specs.declared.request.Request.TheVariants.{Begin, MakeFold
 use Rattle.dir_model.specs.declared.request.Reply.TheVariants.{Done, Opened}
 use Rattle.dir_model.specs.Pods.{pod_text}
 use Rattle.dir_model.specs.Calls.{IsRun, event}
+use Rattle.dir_model.proofs.Lists.{same_number}
 use Rattle.dir_rules.specs.Standing.{standing_of}
 use Rattle.dir_rules.specs.Conforms.{Conforms}
 use Rattle.lifecycle.specs.PodMachine.{pod_phase}
-use Rattle.lifecycle.specs.Executions.{IsDrawnOnce, IsConforming}
-use Rattle.lifecycle.proofs.Handles.{nat_same}
+use Rattle.lifecycle.specs.Executions.{IsConforming}
 use Rattle.lifecycle.proofs.Places.{same_name}
+use Rattle.lifecycle.proofs.Draws.{drawn_by_one}
 
 module _ (draw : PodId) (name : List ℕ) (drawn : bytes_eq (pod_text draw.bytes) name ≡ true)
     (same : bytes_eq name name ≡ true) where
@@ -55,7 +56,7 @@ module _ (draw : PodId) (name : List ℕ) (drawn : bytes_eq (pod_text draw.bytes
   rules p = by (1 == p) refl
     where
       by : (b : Bool) → (1 == p) ≡ b → Conforms p trace
-      by true on = subst (λ (q : ℕ). Conforms q trace) (nat_same 1 p on) mine
+      by true on = subst (λ (q : ℕ). Conforms q trace) (same_number 1 p on) mine
       by false off = others p off
 
   unborn : (p : ℕ) → (1 == p) ≡ false → (standing_of p trace).intent ≡ None
@@ -65,14 +66,11 @@ module _ (draw : PodId) (name : List ℕ) (drawn : bytes_eq (pod_text draw.bytes
   maker p a is = by (1 == p) refl
     where
       by : (b : Bool) → (1 == p) ≡ b → p ≡ 1
-      by true on = sym (nat_same 1 p on)
+      by true on = sym (same_number 1 p on)
       by false off = let x : None ≡ Some a = sym (unborn p off) ∙ is in absurd (cc)
 
-  once : (drawn : Intent → List ℕ) → IsDrawnOnce drawn trace
-  once drawn p q a b x y is = maker p a x ∙ sym (maker q b y)
-
   pub conforms : IsConforming trace
-  conforms = record { run = run; rules = rules; identities = once (λ i. pod_text i.draw.bytes); tokens = once (λ i. i.token) }
+  conforms = record { run = run; rules = rules; identities = drawn_by_one trace 1 maker (λ i. pod_text i.draw.bytes); tokens = drawn_by_one trace 1 maker (λ i. i.token) }
 
   pub phase_is : pod_phase name trace ≡ Some phase.AbortedPrepare
   phase_is = rw same refl

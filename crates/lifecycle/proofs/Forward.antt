@@ -1,5 +1,7 @@
 -- A pod only gets further along; until it leaves an area its folder stands there.
 use Rattle.std.proofs.Common.{arith, ◌≡◌, ◌≤◌, ℕ, Bool, true, false, cond, bytes_eq, Option, Some, None, is_some, List, [], ◌∷◌, refl, ap, ◌∙◌}
+use Rattle.std.proofs.lemmas.Bool.{and_parts}
+use Rattle.plain_laws.proofs.Booleans.{clash}
 use Rattle.dir_model.specs.declared.area.Area.{Area}
 use Rattle.dir_model.specs.declared.area.Area.TheVariants as area
 use Rattle.dir_model.specs.declared.spot.Spot.{Spot}
@@ -10,15 +12,15 @@ use Rattle.dir_model.specs.declared.request.Reply.TheVariants.{Done, Opened, Ref
 use Rattle.dir_model.specs.State.{spot_eq, DirState, folder_at, stands}
 use Rattle.dir_model.specs.Trace.{namespace_replied, state_next, states_next}
 use Rattle.dir_model.specs.Replies.{is_reply}
-use Rattle.dir_rules.specs.Standing.{is_of, stood}
+use Rattle.dir_rules.specs.Standing.{is_spot_of_pod, stood}
 use Rattle.dir_model.specs.Areas.{is_stage}
 use Rattle.lifecycle.specs.declared.machine.PodState.{PodState}
 use Rattle.lifecycle.specs.declared.machine.PodState.TheVariants.{Absent, Embryo, Preparing, AbortedPrepare, Prepared, Running, Exited, ExitedGarbage, Garbage, Deleting, Gone}
 use Rattle.lifecycle.specs.declared.machine.Transition.{Transition}
 use Rattle.lifecycle.specs.declared.machine.Transition.TheVariants as turn
-use Rattle.lifecycle.specs.PodMachine.{enabled, leads, turned, transition, is_place, age, age_in}
+use Rattle.lifecycle.specs.PodMachine.{enabled, leads, after_transition, transition, is_area_of_state, pod_progress, age_in}
 use Rattle.dir_rules.specs.declared.standing.Standing.{Standing}
-use Rattle.lifecycle.proofs.Handles.{both, clash, none_refused, refused_if}
+use Rattle.lifecycle.proofs.Handles.{none_refused, refused_if}
 use Rattle.lifecycle.proofs.Invariant.{placed_age}
 use Rattle.dir_model.specs.declared.event.Event.{Event}
 use Rattle.lifecycle.specs.PodMachine.{pod_state_next, pod_state_from}
@@ -30,7 +32,7 @@ use Rattle.lifecycle.proofs.Step.{stands_from}
 use Rattle.lifecycle.proofs.Run.{Good, ConformingFrom, given, next_good, conforming_tail}
 use Rattle.lifecycle.proofs.Lists.{no_less}
 
-leads_on : (x : Transition) (p : ℕ) (s : PodState) → enabled x p s ≡ true → age s ≤ age (leads x p s)
+leads_on : (x : Transition) (p : ℕ) (s : PodState) → enabled x p s ≡ true → pod_progress s ≤ pod_progress (leads x p s)
 leads_on turn.Make p Absent h = omega arith
 leads_on turn.BeginPrepare p (Embryo m) h = omega arith
 leads_on turn.Finish p (Preparing o) h = omega arith
@@ -47,21 +49,21 @@ leads_on turn.Remove p (Deleting o area.ExitedGarbage) h = omega arith
 leads_on turn.Remove p (Deleting o f) h = omega arith
 leads_on x p s h = cc
 
-turned_on : (o : Option Transition) (p : ℕ) (s : PodState) → age s ≤ age (turned o p s)
-turned_on None p s = no_less (age s)
+turned_on : (o : Option Transition) (p : ℕ) (s : PodState) → pod_progress s ≤ pod_progress (after_transition o p s)
+turned_on None p s = no_less (pod_progress s)
 turned_on (Some x) p s = by (enabled x p s) refl
   where
-    by : (b : Bool) → enabled x p s ≡ b → age s ≤ age (cond b (leads x p s) s)
+    by : (b : Bool) → enabled x p s ≡ b → pod_progress s ≤ pod_progress (cond b (leads x p s) s)
     by true e = leads_on x p s e
-    by false e = no_less (age s)
+    by false e = no_less (pod_progress s)
 
 -- along any trace
-pub ages : (u : List ℕ) (es : List Event) (n : DirState) (s : PodState) → age s ≤ age (pod_state_from u n s es)
-ages u [] n s = no_less (age s)
+pub ages : (u : List ℕ) (es : List Event) (n : DirState) (s : PodState) → pod_progress s ≤ pod_progress (pod_state_from u n s es)
+ages u [] n s = no_less (pod_progress s)
 ages u (e ∷ es) n s =
-    let x : age s ≤ age (pod_state_next u n.namespace s e) =
+    let x : pod_progress s ≤ pod_progress (pod_state_next u n.namespace s e) =
     turned_on (transition u n.namespace s e.process e.request e.reply) e.process s in
-    let y : age (pod_state_next u n.namespace s e) ≤ age (pod_state_from u (state_next n e)
+    let y : pod_progress (pod_state_next u n.namespace s e) ≤ pod_progress (pod_state_from u (state_next n e)
     (pod_state_next u n.namespace s e) es) = ages u es (state_next n e) (pod_state_next u n.namespace s e) in
     omega (arith, x, y)
 
@@ -75,7 +77,7 @@ age_out area.ExitedGarbage = 7
 age_out area.Garbage = 8
 age_out _ = 0
 
-pub out_age : (a : Area) (s : PodState) → is_place a s ≡ true → age s ≤ age_out a
+pub out_age : (a : Area) (s : PodState) → is_area_of_state a s ≡ true → pod_progress s ≤ age_out a
 out_age area.Embryo (Embryo m) h = omega arith
 out_age area.Prepare (Preparing o) h = omega arith
 out_age area.Prepare AbortedPrepare h = omega arith
@@ -104,7 +106,7 @@ place_number Garbage = 6
 place_number Gone = 7
 
 -- between these it stands there
-pub between : (a : Area) (s : PodState) → is_stage a ≡ true → age_in a ≤ age s → age s ≤ age_out a → is_place a s ≡ true
+pub between : (a : Area) (s : PodState) → is_stage a ≡ true → age_in a ≤ pod_progress s → pod_progress s ≤ age_out a → is_area_of_state a s ≡ true
 between area.Embryo (Embryo m) is l g = refl
 between area.Prepare (Preparing o) is l g = refl
 between area.Prepare AbortedPrepare is l g = refl
@@ -176,20 +178,20 @@ stand_step n p request reply spot is was stays = refl
 
 -- along a part after which the pod hasn't left the place, its folder stands there
 pub stays_from : (u : List ℕ) (es : List Event) (n : DirState) (s : PodState) (σ : ℕ → Standing) (spot : Spot) (f : ℕ) →
-    Good u n s σ → ConformingFrom u n σ es → is_of u spot ≡ true → folder_at n.namespace spot ≡ Some f →
-    age (pod_state_from u n s es) ≤ age_out spot.area → folder_at (states_next n es).namespace spot ≡ Some f
+    Good u n s σ → ConformingFrom u n σ es → is_spot_of_pod u spot ≡ true → folder_at n.namespace spot ≡ Some f →
+    pod_progress (pod_state_from u n s es) ≤ age_out spot.area → folder_at (states_next n es).namespace spot ≡ Some f
 stays_from u [] n s σ spot f good conforming of at bound = at
 stays_from u (e ∷ es) n s σ spot f good conforming of at bound =
     let g = given u n s σ e es good conforming in
     let next = next_good u n s σ e g in
     let t : PodState = pod_state_next u n.namespace s e in
-    let was : is_place spot.area s ≡ true = (found_pod u n.namespace s good.inv.pod spot of
+    let was : is_area_of_state spot.area s ≡ true = (found_pod u n.namespace s good.inv.pod spot of
     (ap (λ (o : Option ℕ). is_some o) at)).0 in
-    let low : age_in spot.area ≤ age s = placed_age spot.area s was in
-    let up : age s ≤ age t = turned_on (transition u n.namespace s e.process e.request e.reply) e.process s in
-    let top : age t ≤ age (pod_state_from u (state_next n e) t es) = ages u es (state_next n e) t in
-    let there : is_place spot.area t ≡ true = between spot.area t
-    (both (is_stage spot.area) (bytes_eq spot.name u) of).0 (omega (arith, low, up)) (omega (arith, top, bound)) in
+    let low : age_in spot.area ≤ pod_progress s = placed_age spot.area s was in
+    let up : pod_progress s ≤ pod_progress t = turned_on (transition u n.namespace s e.process e.request e.reply) e.process s in
+    let top : pod_progress t ≤ pod_progress (pod_state_from u (state_next n e) t es) = ages u es (state_next n e) t in
+    let there : is_area_of_state spot.area t ≡ true = between spot.area t
+    (and_parts (is_stage spot.area) (bytes_eq spot.name u) of).0 (omega (arith, low, up)) (omega (arith, top, bound)) in
     let stays : stands (state_next n e).namespace spot ≡ true =
     ap (λ (o : Option ℕ). is_some o) (next.inv.pod.at spot of ∙ ap (λ b. cond b (Some next.inv.pod.number) None)
     there) in

@@ -1,6 +1,8 @@
 -- What holds of the open handles of every run: a handle is one, and who holds a lock exclusively holds it alone.
 use Rattle.std.proofs.Common.{arith, ◌≡◌, ◌⊎◌, inl, inr, ◌<◌, ◌≤◌, ℕ, Bool, true, false, not, ◌&&◌, ◌==◌, cond, Option, Some, None, is_some, List, [], ◌∷◌, ◌++◌, length, map, find, refl, sym, ap, subst, ◌∙◌}
 use Rattle.std.proofs.lemmas.Bool.Decides.{nat_tests}
+use Rattle.std.proofs.lemmas.Bool.{and_parts}
+use Rattle.plain_laws.proofs.Booleans.{clash}
 use Rattle.dir_model.specs.declared.spot.Handle.{Handle}
 use Rattle.dir_model.specs.declared.spot.Mode.{Mode}
 use Rattle.dir_model.specs.declared.spot.Spot.{Spot}
@@ -22,21 +24,10 @@ use Rattle.dir_model.specs.Replies.{is_reply, refusal, is_locked, is_opposed, as
 use Rattle.lifecycle.proofs.Lists.{In, in_push, in_map, in_any, find_in, in_find}
 use Rattle.dir_model.proofs.Lists.{and_both, not_true}
 
-pub both : (a b : Bool) → (a && b) ≡ true → (a ≡ true) × (b ≡ true)
-both true b h = (refl, h)
-both false b h = cc
-
-pub clash : {X : Type 0} (b : Bool) → b ≡ true → b ≡ false → X
-clash true h k = absurd (cc)
-clash false h k = absurd (cc)
-
-pub nat_same : (a b : ℕ) → (a == b) ≡ true → a ≡ b
-nat_same a b h = grind (arith, nat_tests)
-
 -- this handle, both ways and by way of another
 pub handle_turn : (a b : Opening) → is_handle a.process a.handle b ≡ true → is_handle b.process b.handle a ≡ true
 handle_turn a b h =
-    let k = both (b.process == a.process) (b.handle.number == a.handle.number) h in
+    let k = and_parts (b.process == a.process) (b.handle.number == a.handle.number) h in
     and_both (a.process == b.process) (a.handle.number == b.handle.number) (turn b.process a.process k.0)
     (turn b.handle.number a.handle.number k.1)
   where
@@ -46,8 +37,8 @@ handle_turn a b h =
 pub handle_meet : (p : ℕ) (h : Handle) (a b : Opening) → is_handle p h a ≡ true → is_handle p h b ≡ true →
     is_handle a.process a.handle b ≡ true
 handle_meet p h a b x y =
-    let i = both (a.process == p) (a.handle.number == h.number) x in
-    let j = both (b.process == p) (b.handle.number == h.number) y in
+    let i = and_parts (a.process == p) (a.handle.number == h.number) x in
+    let j = and_parts (b.process == p) (b.handle.number == h.number) y in
     and_both (b.process == a.process) (b.handle.number == a.handle.number) (meet a.process b.process p i.0 j.0)
     (meet a.handle.number b.handle.number h.number i.1 j.1)
   where
@@ -247,7 +238,7 @@ lock_sound n p h m s free = record {
 pub none_refused : (s : DirState) (p : ℕ) (request : Request) → is_apps_request s request ≡ false →
     is_reply s p request Done ≡ true → is_some (refusal s p request) ≡ false
 none_refused s p request plain h =
-    not_true (is_some (refusal s p request)) (both (not (is_some (refusal s p request))) (asks_for_nothing request)
+    not_true (is_some (refusal s p request)) (and_parts (not (is_some (refusal s p request))) (asks_for_nothing request)
     (sym (ap (λ b. cond b (asks_for_nothing request) (not (is_some (refusal s p request)) && asks_for_nothing request))
     plain) ∙ h)).0
 
@@ -266,7 +257,7 @@ lock_free s p h m r = refused_if (is_locked s.namespace p h m) _ (none_refused s
 pub open_fresh : (s : DirState) (p : ℕ) (spot : Spot) (which : Which) (h : Handle) →
     is_reply s p (Open spot which) (Opened h) ≡ true → has_open s.namespace p h ≡ false
 open_fresh s p spot which h r =
-    not_true (has_open s.namespace p h) (both (not (is_some (refusal s p (Open spot which))))
+    not_true (has_open s.namespace p h) (and_parts (not (is_some (refusal s p (Open spot which))))
     (not (has_open s.namespace p h)) r).1
 
 pub gate_fresh : (s : DirState) (p : ℕ) (area : Area) (h : Handle) → is_reply s p (OpenArea area) (Opened h) ≡ true →
@@ -277,7 +268,7 @@ gate_fresh s p area h r = not_true (has_open s.namespace p h) r
 pub open_stands : (s : DirState) (p : ℕ) (spot : Spot) (which : Which) (h : Handle) →
     is_reply s p (Open spot which) (Opened h) ≡ true → stands s.namespace spot ≡ true
 open_stands s p spot which h r =
-    by (folder_at s.namespace spot) (both (not (is_some (refusal s p (Open spot which))))
+    by (folder_at s.namespace spot) (and_parts (not (is_some (refusal s p (Open spot which))))
     (not (has_open s.namespace p h)) r).0
   where
     by : (o : Option ℕ) → not (is_some (refused_in (open_refusal which) s.entries o)) ≡ true → is_some o ≡ true

@@ -1,7 +1,8 @@
 -- The invariant: how a pod's state, the namespace, and what each process knows go together.
 use Rattle.std.proofs.Common.{arith, ◌≡◌, ◌⊎◌, ◌≤◌, ℕ, Bool, true, false, ◌&&◌, ◌==◌, cond, Option, Some, None, is_some, List, refl, sym, ap, ◌∙◌}
 use Rattle.std.specs.List.{list_any}
-use Rattle.std.proofs.lemmas.Bool.Decides.{nat_tests}
+use Rattle.std.proofs.lemmas.Bool.{and_parts}
+use Rattle.plain_laws.proofs.Numbers.{ranks_meet}
 use Rattle.dir_model.specs.declared.area.Area.{Area}
 use Rattle.dir_model.specs.declared.area.Area.TheVariants as area
 use Rattle.dir_model.specs.declared.spot.Spot.{Spot}
@@ -13,22 +14,22 @@ use Rattle.dir_model.specs.declared.opening.Target.TheVariants.{Own, Claim, Gate
 use Rattle.dir_model.specs.Areas.{rank}
 use Rattle.dir_model.specs.Locks.{is_exclusive, is_one_lock, is_same_folder}
 use Rattle.dir_model.specs.State.{Namespace, folder_at, lives}
-use Rattle.dir_rules.specs.Standing.{area_of, began_as, closes_gate, draws, has_name, has_place, holds_claim, holds_gate, holds_own, is_claim_of, is_garbage, is_gate_of, is_of, is_remover, is_shared}
+use Rattle.dir_rules.specs.Standing.{area_of, began_as, excludes_area, draws, is_name_among, has_place, holds_claim, shares_area, holds_own, is_claim_of, is_garbage, is_gate_of, is_spot_of_pod, is_remover, is_shared}
 use Rattle.dir_model.specs.Local.{is_own_of}
 use Rattle.lifecycle.specs.declared.machine.PodState.{PodState}
 use Rattle.lifecycle.specs.declared.machine.PodState.TheVariants.{Absent, Embryo, Preparing, AbortedPrepare, Prepared, Running, Exited, ExitedGarbage, Garbage, Deleting, Gone}
-use Rattle.lifecycle.specs.PodMachine.{is_grip, is_owner, is_place, age, age_in, age_free}
+use Rattle.lifecycle.specs.PodMachine.{is_exclusive_own, is_owner, is_area_of_state, pod_progress, age_in, age_free}
 use Rattle.dir_rules.specs.declared.standing.Held.{Held}
 use Rattle.dir_rules.specs.declared.standing.Standing.{Standing}
 use Rattle.lifecycle.proofs.Lists.{In, any_in, in_any, no_less}
-use Rattle.lifecycle.proofs.Handles.{Sound, both}
+use Rattle.lifecycle.proofs.Handles.{Sound}
 use Rattle.lifecycle.proofs.Linked.{Bare, bare, own, mine, Linked, held_open, open_held}
 use Rattle.dir_model.proofs.Lists.{same_self}
 
 -- a place of the pod
 abbrev pub is_named : List ℕ → Target → Bool
-is_named u (Own spot) = is_of u spot
-is_named u (Claim spot) = is_of u spot
+is_named u (Own spot) = is_spot_of_pod u spot
+is_named u (Claim spot) = is_spot_of_pod u spot
 is_named u (Gate area) = false
 
 -- who may hold Own exclusively, by a handle opened there
@@ -45,39 +46,39 @@ may_own s p a = false
 pub record Pod (u : List ℕ) (n : Namespace) (s : PodState) : Type 0 where
   -- its folder
   pub number : ℕ
-  pub at : (spot : Spot) → is_of u spot ≡ true → folder_at n spot ≡ cond (is_place spot.area s) (Some number) None
+  pub at : (spot : Spot) → is_spot_of_pod u spot ≡ true → folder_at n spot ≡ cond (is_area_of_state spot.area s) (Some number) None
   -- a handle that was opened on it stands for its folder, and tells how far along it is
   pub named : (o : Opening) → In o n.openings → is_named u o.target ≡ true →
-      (o.folder ≡ Some number) × (age_in (area_of o.target) ≤ age s)
+      (o.folder ≡ Some number) × (age_in (area_of o.target) ≤ pod_progress s)
   -- who holds Own exclusively is its owner, where the state has owners
-  pub owns : (o : Opening) → In o n.openings → is_grip u o ≡ true → may_own s o.process (area_of o.target) ≡ true
+  pub owns : (o : Opening) → In o n.openings → is_exclusive_own u o ≡ true → may_own s o.process (area_of o.target) ≡ true
   -- the owner holds it
-  pub held : (p : ℕ) → is_owner p s ≡ true → (o : Opening) × (In o n.openings × ((is_grip u o ≡ true) × (o.process ≡ p)))
+  pub held : (p : ℕ) → is_owner p s ≡ true → (o : Opening) × (In o n.openings × ((is_exclusive_own u o ≡ true) × (o.process ≡ p)))
 
 abbrev pub Ungripped : List ℕ → Namespace → Type 0
-Ungripped u n = (o : Opening) → In o n.openings → is_grip u o ≡ false
+Ungripped u n = (o : Opening) → In o n.openings → is_exclusive_own u o ≡ false
 
 -- who had Own of a prepared pod shared under Claim
 pub record Cleared (u : List ℕ) (n : Namespace) (s : PodState) (k : Standing) : Type 0 where
   pub claim : holds_claim u k ≡ true
   pub remover : began_as is_remover k ≡ true
-  pub past : 4 ≤ age s
+  pub past : 4 ≤ pod_progress s
   pub free : s ≡ Prepared → Ungripped u n
 
 -- what a living process knows, and the namespace
 pub record Knows (u : List ℕ) (p : ℕ) (n : Namespace) (s : PodState) (k : Standing) : Type 0 where
   pub linked : Linked p n k
   -- the maker that has held the gate since before finds its pod in embryo
-  pub gated : k.gated ≡ true → draws u k ≡ true → s ≡ Embryo p
-  pub gates : k.gated ≡ true → holds_gate area.Embryo k ≡ true
+  pub embryo_under_lock : k.embryo_under_lock ≡ true → draws u k ≡ true → s ≡ Embryo p
+  pub gates : k.embryo_under_lock ≡ true → shares_area area.Embryo k ≡ true
   -- Own held in embryo goes with the gate held
-  pub owned : s ≡ Embryo p → holds_own u k ≡ true → (k.gated ≡ true) × (draws u k ≡ true)
+  pub owned : s ≡ Embryo p → holds_own u k ≡ true → (k.embryo_under_lock ≡ true) × (draws u k ≡ true)
   -- who has held Claim since before its open of prepared finds the pod there until it moves it
   pub covered : (h : Held) → In h k.holdings → is_own_of u h.target ≡ true → h.covered ≡ true →
       (s ≡ Prepared) × (holds_claim u k ≡ true)
   -- where Own could be had shared, there was no owner, and there is none
-  pub looked : (a : Area) → has_place u a k.looked ≡ true → age_free a ≤ age s
-  pub cleared : has_name u k.cleared ≡ true → Cleared u n s k
+  pub looked : (a : Area) → has_place u a k.looked ≡ true → age_free a ≤ pod_progress s
+  pub seen_unowned_under_claim : is_name_among u k.seen_unowned_under_claim ≡ true → Cleared u n s k
 
 pub record Invariant (u : List ℕ) (n : Namespace) (s : PodState) (σ : ℕ → Standing) : Type 0 where
   pub sound : Sound n
@@ -128,10 +129,7 @@ claim_lock u (Gate a) b f g number h k e i = cc
 claim_lock u (Claim s) (Own t) f g number h k e i = cc
 claim_lock u (Claim s) (Gate b) f g number h k e i = cc
 
-ranks_meet : (x y z : ℕ) → (x == y) ≡ true → (x == z) ≡ true → (y == z) ≡ true
-ranks_meet x y z h k = grind (arith, nat_tests)
-
-gate_lock : (here : Area) (a b : Target) (f g : Option ℕ) → is_gate_of here a ≡ true → is_gate_of here b ≡ true →
+pub gate_lock : (here : Area) (a b : Target) (f g : Option ℕ) → is_gate_of here a ≡ true → is_gate_of here b ≡ true →
     is_one_lock a f b g ≡ true
 gate_lock here (Gate a) (Gate b) f g h k = ranks_meet (rank here) (rank a) (rank b) h k
 gate_lock here (Own s) b f g h k = cc
@@ -141,10 +139,10 @@ gate_lock here (Gate a) (Claim s) f g h k = cc
 
 -- two that hold Own exclusively are one
 pub one_grip : (u : List ℕ) (n : Namespace) (s : PodState) → Sound n → Pod u n s → (a b : Opening) → In a n.openings →
-    In b n.openings → is_grip u a ≡ true → is_grip u b ≡ true → a ≡ b
+    In b n.openings → is_exclusive_own u a ≡ true → is_exclusive_own u b ≡ true → a ≡ b
 one_grip u n s sound pod a b i j g h =
-    let x = both (is_own_of u a.target) (is_exclusive a.lock) g in
-    let y = both (is_own_of u b.target) (is_exclusive b.lock) h in
+    let x = and_parts (is_own_of u a.target) (is_exclusive a.lock) g in
+    let y = and_parts (is_own_of u b.target) (is_exclusive b.lock) h in
     sound.alone a b i j (own_lock u a.target b.target a.folder b.folder pod.number x.0 y.0
     (pod.named a i (own_named u a.target x.0)).0 (pod.named b j (own_named u b.target y.0)).0) x.1
     (some_exclusive b.lock y.1)
@@ -155,8 +153,8 @@ is_claim u o = is_claim_of u o.target && is_exclusive o.lock
 pub one_claim : (u : List ℕ) (n : Namespace) (s : PodState) → Sound n → Pod u n s → (a b : Opening) → In a n.openings →
     In b n.openings → is_claim u a ≡ true → is_claim u b ≡ true → a ≡ b
 one_claim u n s sound pod a b i j g h =
-    let x = both (is_claim_of u a.target) (is_exclusive a.lock) g in
-    let y = both (is_claim_of u b.target) (is_exclusive b.lock) h in
+    let x = and_parts (is_claim_of u a.target) (is_exclusive a.lock) g in
+    let y = and_parts (is_claim_of u b.target) (is_exclusive b.lock) h in
     sound.alone a b i j (claim_lock u a.target b.target a.folder b.folder pod.number x.0 y.0
     (pod.named a i (claim_named u a.target x.0)).0 (pod.named b j (claim_named u b.target y.0)).0) x.1
     (some_exclusive b.lock y.1)
@@ -198,18 +196,18 @@ claims_meet u n s p q k l sound pod lk ll h j =
 
 -- nobody holds the gate shared while another holds it exclusively
 pub gates_meet : {X : Type 0} (n : Namespace) (p q : ℕ) (k l : Standing) → Sound n → Linked p n k → Linked q n l →
-    closes_gate area.Embryo k ≡ true → holds_gate area.Embryo l ≡ true → X
+    excludes_area area.Embryo k ≡ true → shares_area area.Embryo l ≡ true → X
 gates_meet n p q k l sound lk ll h j =
     let a = holding p n k gate_for lk h in
     let b = holding q n l gate_of ll j in
-    let x = both (is_gate_of area.Embryo a.0.target) (is_exclusive a.0.lock) a.1.1.1 in
-    let y = both (is_gate_of area.Embryo b.0.target) (is_shared b.0.lock) b.1.1.1 in
+    let x = and_parts (is_gate_of area.Embryo a.0.target) (is_exclusive a.0.lock) a.1.1.1 in
+    let y = and_parts (is_gate_of area.Embryo b.0.target) (is_shared b.0.lock) b.1.1.1 in
     let same : a.0 ≡ b.0 = sound.alone a.0 b.0 a.1.0 b.1.0 (gate_lock area.Embryo a.0.target b.0.target a.0.folder
     b.0.folder x.0 y.0) x.1 (some_shared b.0.lock y.1) in
     shared_or_not b.0.lock y.1 (ap (λ (o : Opening). is_exclusive o.lock) (sym same) ∙ x.1)
 
 -- a pod found in an area is that far along at least
-pub placed_age : (a : Area) (s : PodState) → is_place a s ≡ true → age_in a ≤ age s
+pub placed_age : (a : Area) (s : PodState) → is_area_of_state a s ≡ true → age_in a ≤ pod_progress s
 placed_age area.Embryo (Embryo m) h = omega arith
 placed_age area.Prepare (Preparing o) h = omega arith
 placed_age area.Prepare AbortedPrepare h = omega arith
@@ -225,20 +223,20 @@ placed_age a s h = cc
 
 -- what goes on for the other processes
 pub others : (u : List ℕ) (q : ℕ) (n m : Namespace) (s t : PodState) (k : Standing) →
-    mine q m.openings ≡ mine q n.openings → age s ≤ age t
-    → (k.gated ≡ true → draws u k ≡ true → s ≡ Embryo q → t ≡ Embryo q) → (t ≡ Embryo q → s ≡ Embryo q)
+    mine q m.openings ≡ mine q n.openings → pod_progress s ≤ pod_progress t
+    → (k.embryo_under_lock ≡ true → draws u k ≡ true → s ≡ Embryo q → t ≡ Embryo q) → (t ≡ Embryo q → s ≡ Embryo q)
     → (holds_claim u k ≡ true → s ≡ Prepared → t ≡ Prepared)
-    → (4 ≤ age s → holds_claim u k ≡ true → began_as is_remover k ≡ true → t ≡ Prepared →
+    → (4 ≤ pod_progress s → holds_claim u k ≡ true → began_as is_remover k ≡ true → t ≡ Prepared →
     (s ≡ Prepared) × (Ungripped u n → Ungripped u m))
     → Knows u q n s k → Knows u q m t k
 others u q n m s t k same aged embryo back prepared free knows = record {
   linked = knows.linked ∙ sym same;
-  gated = λ g d. embryo g d (knows.gated g d);
+  embryo_under_lock = λ g d. embryo g d (knows.embryo_under_lock g d);
   gates = knows.gates;
   owned = λ e h. knows.owned (back e) h;
   covered = λ h i o c. let x = knows.covered h i o c in (prepared x.1 x.0, x.1);
-  looked = λ a h. let l : age_free a ≤ age s = knows.looked a h in omega (arith, l, aged);
-  cleared = λ h. let c = knows.cleared h in let l : 4 ≤ age s =
+  looked = λ a h. let l : age_free a ≤ pod_progress s = knows.looked a h in omega (arith, l, aged);
+  seen_unowned_under_claim = λ h. let c = knows.seen_unowned_under_claim h in let l : 4 ≤ pod_progress s =
       c.past in record {
         claim = c.claim;
         remover = c.remover;
@@ -253,4 +251,4 @@ pub others_still : (u : List ℕ) (q : ℕ) (n m : Namespace) (s : PodState) (k 
     → (holds_claim u k ≡ true → began_as is_remover k ≡ true → s ≡ Prepared → Ungripped u n → Ungripped u m)
     → Knows u q n s k → Knows u q m s k
 others_still u q n m s k same free knows =
-    others u q n m s s k same (no_less (age s)) (λ g d e. e) (λ e. e) (λ c e. e) (λ l c r e. (e, free c r e)) knows
+    others u q n m s s k same (no_less (pod_progress s)) (λ g d e. e) (λ e. e) (λ c e. e) (λ l c r e. (e, free c r e)) knows

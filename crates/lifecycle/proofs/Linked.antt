@@ -1,6 +1,8 @@
 -- What a process has open by its own answers is what it has open.
-use Rattle.std.proofs.Common.{arith, ◌≡◌, ◌⊎◌, inl, inr, ℕ, Bool, true, false, not, ◌&&◌, ◌==◌, cond, Option, Some, None, List, [], ◌∷◌, ◌++◌, map, filter, refl, sym, ap, subst, ◌∙◌}
+use Rattle.std.proofs.Common.{arith, ◌≡◌, ◌⊎◌, inl, inr, ℕ, Bool, true, false, not, ◌&&◌, ◌==◌, cond, Option, Some, List, [], ◌∷◌, ◌++◌, map, filter, refl, sym, ap, subst, ◌∙◌}
 use Rattle.std.proofs.lemmas.Bool.Decides.{nat_tests}
+use Rattle.plain_laws.proofs.Booleans.{clash}
+use Rattle.plain_laws.proofs.Lists.{map_both}
 use Rattle.dir_model.specs.declared.spot.Handle.{Handle}
 use Rattle.dir_model.specs.declared.spot.Mode.{Mode}
 use Rattle.dir_model.specs.declared.spot.Mode.TheVariants.{Shared, Exclusive}
@@ -13,13 +15,13 @@ use Rattle.dir_model.specs.declared.request.Reply.TheVariants.{Done, Opened, Ref
 use Rattle.dir_model.specs.Locks.{is_handle}
 use Rattle.dir_model.specs.State.{Namespace}
 use Rattle.dir_model.specs.Trace.{namespace_replied, locked, opened, opened_gate}
-use Rattle.dir_rules.specs.Standing.{find_held, held_in, is_number, looked_by, recover, standing_replied, uncover}
+use Rattle.dir_rules.specs.Standing.{find_held, held_with_mode, is_handle_held, uncovered_by_close, standing_replied, uncover}
 use Rattle.dir_model.specs.Areas.{is_stage}
 use Rattle.dir_rules.specs.declared.standing.Held.{Held}
 use Rattle.dir_rules.specs.declared.standing.Standing.{Standing}
+use Rattle.dir_rules.proofs.Standings.{looked_holdings}
 use Rattle.lifecycle.proofs.Lists.{In, in_map, map_in}
-use Rattle.lifecycle.proofs.Handles.{clash, nat_same}
-use Rattle.dir_model.proofs.Lists.{same_self}
+use Rattle.dir_model.proofs.Lists.{same_self, same_number}
 
 -- the part of an open handle that both know
 pub record Bare : Type 0 where
@@ -57,10 +59,6 @@ push_other p (x ∷ os) o is = ap (λ (l : List Bare). l ++ own_of p x) (push_ot
 
 apart : {X : Type 0} (a p q : ℕ) → (q == p) ≡ false → (a == p) ≡ true → (a == q) ≡ true → X
 apart a p q x y z = absurd (grind (arith, nat_tests))
-
-map_both : {X Y : Type 0} (f : X → Y) (xs ys : List X) → map f (xs ++ ys) ≡ map f xs ++ map f ys
-map_both f [] ys = refl
-map_both f (x ∷ xs) ys = ap (λ l. f x ∷ l) (map_both f xs ys)
 
 filter_both : {X : Type 0} (t : X → Bool) (xs ys : List X) → filter t (xs ++ ys) ≡ filter t xs ++ filter t ys
 filter_both t [] ys = refl
@@ -147,32 +145,28 @@ bare_map : (f : Held → Held) (hs : List Held) → ((h : Held) → bare (f h) �
 bare_map f [] same = refl
 bare_map f (x ∷ hs) same = rw (same x, bare_map f hs same) refl
 
-bare_held : (h : Handle) (m : Mode) (hs : List Held) → map bare (map (held_in h m) hs) ≡ map (tie h m) (map bare hs)
+bare_held : (h : Handle) (m : Mode) (hs : List Held) → map bare (map (held_with_mode h m) hs) ≡ map (tie h m) (map bare hs)
 bare_held h m [] = refl
 bare_held h m (x ∷ hs) = by (x.handle.number == h.number) (bare_held h m hs)
   where
-    by : (b : Bool) → map bare (map (held_in h m) hs) ≡ map (tie h m) (map bare hs) →
+    by : (b : Bool) → map bare (map (held_with_mode h m) hs) ≡ map (tie h m) (map bare hs) →
         bare (cond b (record { handle = x.handle; target = x.target; lock = Some m; covered = x.covered }) x) ∷ map bare
-        (map (held_in h m) hs) ≡ cond b (record { handle = x.handle; target = x.target; lock = Some m }) (bare x) ∷ map
+        (map (held_with_mode h m) hs) ≡ cond b (record { handle = x.handle; target = x.target; lock = Some m }) (bare x) ∷ map
         (tie h m) (map bare hs)
     by true go = ap (λ (l : List Bare). record { handle = x.handle; target = x.target; lock = Some m } ∷ l) go
     by false go = ap (λ (l : List Bare). bare x ∷ l) go
 
-bare_filter : (h : Handle) (hs : List Held) → map bare (filter (λ g. not (is_number h g)) hs) ≡ filter
+bare_filter : (h : Handle) (hs : List Held) → map bare (filter (λ g. not (is_handle_held h g)) hs) ≡ filter
     (λ b. not (b.handle.number == h.number)) (map bare hs)
 bare_filter h [] = refl
 bare_filter h (x ∷ hs) = by (x.handle.number == h.number) (bare_filter h hs)
   where
-    by : (b : Bool) → map bare (filter (λ g. not (is_number h g)) hs) ≡ filter (λ b. not (b.handle.number == h.number))
-        (map bare hs) → map bare (cond (not b) (x ∷ filter (λ g. not (is_number h g)) hs)
-        (filter (λ g. not (is_number h g)) hs)) ≡ cond (not b) (bare x ∷ filter (λ b. not (b.handle.number == h.number))
+    by : (b : Bool) → map bare (filter (λ g. not (is_handle_held h g)) hs) ≡ filter (λ b. not (b.handle.number == h.number))
+        (map bare hs) → map bare (cond (not b) (x ∷ filter (λ g. not (is_handle_held h g)) hs)
+        (filter (λ g. not (is_handle_held h g)) hs)) ≡ cond (not b) (bare x ∷ filter (λ b. not (b.handle.number == h.number))
         (map bare hs)) (filter (λ b. not (b.handle.number == h.number)) (map bare hs))
     by true go = go
     by false go = ap (λ (l : List Bare). bare x ∷ l) go
-
-pub looked_holdings : (o : Option Held) (s : Standing) → (looked_by o s).holdings ≡ s.holdings
-looked_holdings None s = refl
-looked_holdings (Some h) s = refl
 
 -- another process's event
 pub linked_other : (q p : ℕ) (n : Namespace) (request : Request) (reply : Reply) → (p == q) ≡ false →
@@ -234,7 +228,7 @@ linked_own p n s (TryLock h Shared) Done on l =
 linked_own p n s (TryLock h Exclusive) Done on l =
     bare_held h Exclusive s.holdings ∙ (ap (map (tie h Exclusive)) l ∙ sym (lock_own p h Exclusive n.openings))
 linked_own p n s (Close h) Done on l =
-    bare_map (recover h s.holdings) (filter (λ g. not (is_number h g)) s.holdings) (λ g. refl)
+    bare_map (uncovered_by_close h s.holdings) (filter (λ g. not (is_handle_held h g)) s.holdings) (λ g. refl)
     ∙ (bare_filter h s.holdings ∙ (ap (filter (λ b. not (b.handle.number == h.number))) l
     ∙ sym (close_own p h n.openings)))
 linked_own p n s Finish Done on l = cc
@@ -243,7 +237,7 @@ linked_own p n s _ Done on l = l
 linked_own p n s request reply on l = l
 
 -- the two lists of openings
-in_both : {X : Type 0} (x : X) (xs ys : List X) → In x (xs ++ ys) → In x xs ⊎ In x ys
+pub in_both : {X : Type 0} (x : X) (xs ys : List X) → In x (xs ++ ys) → In x xs ⊎ In x ys
 in_both x [] ys i = inr i
 in_both x (z ∷ zs) ys (inl is) = inl (inl is)
 in_both x (z ∷ zs) ys (inr later) = by (in_both x zs ys later)
@@ -257,7 +251,7 @@ in_first x [] ys i = absurd i
 in_first x (z ∷ zs) ys (inl is) = inl is
 in_first x (z ∷ zs) ys (inr later) = inr (in_first x zs ys later)
 
-in_second : {X : Type 0} (x : X) (xs ys : List X) → In x ys → In x (xs ++ ys)
+pub in_second : {X : Type 0} (x : X) (xs ys : List X) → In x ys → In x (xs ++ ys)
 in_second x [] ys i = i
 in_second x (z ∷ zs) ys i = inr (in_second x zs ys i)
 
@@ -268,7 +262,7 @@ mine_in p (x ∷ os) b i = by (in_both b (mine p os) (own_of p x) i) (λ j. mine
   where
     last : (c : Bool) → (x.process == p) ≡ c → In b (cond c (own x ∷ []) []) →
         (o : Opening) × (In o (x ∷ os) × ((o.process ≡ p) × (b ≡ own o)))
-    last true e (inl is) = (x, (inl refl, (nat_same x.process p e, is)))
+    last true e (inl is) = (x, (inl refl, (same_number x.process p e, is)))
     last true e (inr never) = absurd never
     last false e never = absurd never
 

@@ -1,6 +1,8 @@
 -- Who has begun, and who lives.
 use Rattle.std.proofs.Common.{◌≡◌, ℕ, Bool, true, false, not, ◌&&◌, ◌==◌, List, [], ◌∷◌, ◌++◌, refl, ap}
 use Rattle.std.specs.List.{list_any}
+use Rattle.std.proofs.lemmas.Bool.{and_parts}
+use Rattle.plain_laws.proofs.Booleans.{clash}
 use Rattle.dir_model.specs.declared.request.Request.{Request}
 use Rattle.dir_model.specs.declared.request.Request.TheVariants.{Begin, Open, OpenArea, Finish, Kill}
 use Rattle.dir_model.specs.declared.request.Reply.{Reply}
@@ -12,7 +14,7 @@ use Rattle.dir_model.specs.Calls.{event}
 use Rattle.dir_rules.specs.Standing.{standing_replied, stood}
 use Rattle.dir_rules.specs.declared.standing.Standing.{Standing}
 use Rattle.lifecycle.proofs.Lists.{in_any, last_in}
-use Rattle.lifecycle.proofs.Handles.{both, clash, is_due}
+use Rattle.lifecycle.proofs.Handles.{is_due}
 use Rattle.lifecycle.proofs.Opens.{any_unpushed}
 use Rattle.dir_model.proofs.Lists.{and_both, any_push, not_true, same_self}
 
@@ -37,7 +39,7 @@ unborn_before n p q request reply h = by (has_begun n q) refl
 
 living_begun : (n : Namespace) (p : ℕ) (request : Request) (reply : Reply) → lives n p ≡ true →
     has_begun (namespace_replied n p request reply) p ≡ true
-living_begun n p request reply h = begun_stays n p p request reply (both (has_begun n p) (not (has_ended n p)) h).0
+living_begun n p request reply h = begun_stays n p p request reply (and_parts (has_begun n p) (not (has_ended n p)) h).0
 
 -- who takes a step has begun
 pub begun_me : (n : DirState) (p : ℕ) (request : Request) (reply : Reply) → is_due n.namespace p request ≡ true →
@@ -70,15 +72,15 @@ lived n p q (Open spot which) (Opened g) off h = h
 lived n p q (OpenArea a) (Opened g) off h = h
 lived n p q request (Opened g) off h = h
 lived n p q (Begin intent) Done off h =
-    let x = both (list_any (λ start. start.process == q) (n.begun ++ record { process = p; intent = intent } ∷ []))
+    let x = and_parts (list_any (λ start. start.process == q) (n.begun ++ record { process = p; intent = intent } ∷ []))
     (not (has_ended n q)) h in
     and_both (has_begun n q) (not (has_ended n q)) (any_unpushed (λ start. start.process == q) n.begun
     (record { process = p; intent = intent }) off x.0) x.1
 lived n p q Finish Done off h =
-    let x = both (has_begun n q) (not (list_any (λ r. r == q) (n.ended ++ p ∷ []))) h in
+    let x = and_parts (has_begun n q) (not (list_any (λ r. r == q) (n.ended ++ p ∷ []))) h in
     and_both (has_begun n q) (not (has_ended n q)) x.0 (off_before (λ r. r == q) n.ended p x.1)
 lived n p q Kill Done off h =
-    let x = both (has_begun n q) (not (list_any (λ r. r == q) (n.ended ++ p ∷ []))) h in
+    let x = and_parts (has_begun n q) (not (list_any (λ r. r == q) (n.ended ++ p ∷ []))) h in
     and_both (has_begun n q) (not (has_ended n q)) x.0 (off_before (λ r. r == q) n.ended p x.1)
 lived n p q request Done off h = h
 lived n p q request reply off h = h

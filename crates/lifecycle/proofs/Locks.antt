@@ -1,6 +1,8 @@
 -- A lock is had.
 use Rattle.std.proofs.Common.{arith, ◌≡◌, ◌⊎◌, inl, inr, ◌≤◌, ℕ, Bool, true, false, not, ◌&&◌, ◌==◌, cond, Option, Some, None, is_some, List, map, refl, sym, ap, subst, ◌∙◌}
 use Rattle.std.specs.List.{list_any}
+use Rattle.std.proofs.lemmas.Bool.{and_parts}
+use Rattle.plain_laws.proofs.Booleans.{clash}
 use Rattle.dir_model.specs.declared.area.Area.{Area}
 use Rattle.dir_model.specs.declared.area.Area.TheVariants as area
 use Rattle.dir_model.specs.declared.spot.Handle.{Handle}
@@ -11,15 +13,15 @@ use Rattle.dir_model.specs.State.{Namespace}
 use Rattle.dir_model.specs.Trace.{locked}
 use Rattle.dir_model.specs.Replies.{is_locked}
 use Rattle.dir_rules.specs.LockRules.{is_alone, may_lock_by, may_lock_target}
-use Rattle.dir_rules.specs.Standing.{area_of, began_as, draws, find_held, held_in, holds_claim, holds_own, is_claim_of, is_gate_of, is_number, is_remover, is_shared}
+use Rattle.dir_rules.specs.Standing.{area_of, began_as, draws, find_held, held_with_mode, holds_claim, holds_own, is_claim_of, is_gate_of, is_handle_held, is_remover, is_shared}
 use Rattle.dir_model.specs.Local.{is_own_of}
 use Rattle.lifecycle.specs.declared.machine.PodState.{PodState}
 use Rattle.lifecycle.specs.declared.machine.PodState.TheVariants.{Embryo, Prepared}
-use Rattle.lifecycle.specs.PodMachine.{look, is_grip, is_owner, is_place, age, age_in, age_free}
+use Rattle.lifecycle.specs.PodMachine.{find_opening, is_exclusive_own, is_owner, is_area_of_state, pod_progress, age_in, age_free}
 use Rattle.dir_rules.specs.declared.standing.Held.{Held}
 use Rattle.dir_rules.specs.declared.standing.Standing.{Standing}
 use Rattle.lifecycle.proofs.Lists.{In, in_map, map_in, any_in, in_any, find_in, in_find}
-use Rattle.lifecycle.proofs.Handles.{Sound, both, clash, handle_meet, Was, locked_in, Unopposed, unopposed}
+use Rattle.lifecycle.proofs.Handles.{Sound, handle_meet, Was, locked_in, Unopposed, unopposed}
 use Rattle.lifecycle.proofs.Linked.{Bare, bare, own, mine, Linked, held_open}
 use Rattle.lifecycle.proofs.Invariant.{is_named, may_own, Pod, Ungripped, Knows, some_exclusive, some_shared, claim_of, gate_of, others}
 use Rattle.lifecycle.proofs.Closes.{held_once}
@@ -29,7 +31,7 @@ abbrev pub and_locked : Namespace → ℕ → Handle → Mode → Namespace
 and_locked n p h m = record n { openings = map (locked p h m) n.openings }
 
 abbrev pub and_held_in : Standing → Handle → Mode → Standing
-and_held_in k h m = record k { holdings = map (held_in h m) k.holdings }
+and_held_in k h m = record k { holdings = map (held_with_mode h m) k.holdings }
 
 -- the handle by which the lock was had
 pub record Lock (p : ℕ) (n : Namespace) (k : Standing) (h : Handle) (m : Mode) : Type 0 where
@@ -37,7 +39,7 @@ pub record Lock (p : ℕ) (n : Namespace) (k : Standing) (h : Handle) (m : Mode)
   pub opening : Opening
   pub found : find_held h k ≡ Some held
   pub known : In held k.holdings
-  pub number : is_number h held ≡ true
+  pub number : is_handle_held h held ≡ true
   pub there : In opening n.openings
   pub process : opening.process ≡ p
   pub mine : is_handle p h opening ≡ true
@@ -53,9 +55,9 @@ lock_of p n k h m sound linked free may = by (find_held h k) refl may
   where
     by : (o : Option Held) → find_held h k ≡ o → may_lock_by k o m ≡ true → Lock p n k h m
     by (Some y) e may =
-        let f = find_in (is_number h) y k.holdings e in
+        let f = find_in (is_handle_held h) y k.holdings e in
         let o = held_open p n k y linked f.0 in
-        let x = both (not (is_some y.lock)) (is_alone y k.holdings && may_lock_target k y.covered y.target m) may in
+        let x = and_parts (not (is_some y.lock)) (is_alone y k.holdings && may_lock_target k y.covered y.target m) may in
         record {
           held = y;
           opening = o.0;
@@ -70,13 +72,13 @@ lock_of p n k h m sound linked free may = by (find_held h k) refl may
           bare_free = not_true (is_some y.lock) x.0;
           free = ap (λ (b : Bare). is_some b.lock) (sym o.1.1.1) ∙ not_true (is_some y.lock) x.0;
           may = ap (λ (b : Bare). may_lock_target k y.covered b.target m) (sym o.1.1.1)
-              ∙ (both (is_alone y k.holdings) (may_lock_target k y.covered y.target m) x.1).1;
+              ∙ (and_parts (is_alone y k.holdings) (may_lock_target k y.covered y.target m) x.1).1;
           alone = unopposed n p h m sound free;
         }
     by None e may = cc
 
 pub look_is : (p : ℕ) (n : Namespace) (h : Handle) (o : Opening) → Sound n → In o n.openings → is_handle p h o ≡ true →
-    look n p h ≡ Some o
+    find_opening n p h ≡ Some o
 look_is p n h o sound i is =
     let f = in_find (is_handle p h) o n.openings i is in
     let g = find_in (is_handle p h) f.0 n.openings f.1 in
@@ -88,36 +90,36 @@ pub kept_lock : (p : ℕ) (n : Namespace) (k : Standing) (h : Handle) (m : Mode)
     list_any (λ x. r (bare x)) k.holdings ≡ true → list_any (λ x. r (bare x)) (and_held_in k h m).holdings ≡ true
 kept_lock p n k h m r sound linked lock some any =
     let e = any_in (λ x. r (bare x)) k.holdings any in
-    by e.0 e.1.0 e.1.1 (is_number h e.0) refl
+    by e.0 e.1.0 e.1.1 (is_handle_held h e.0) refl
   where
-    by : (x : Held) → In x k.holdings → r (bare x) ≡ true → (b : Bool) → is_number h x ≡ b →
+    by : (x : Held) → In x k.holdings → r (bare x) ≡ true → (b : Bool) → is_handle_held h x ≡ b →
         list_any (λ x. r (bare x)) (and_held_in k h m).holdings ≡ true
     by x i t true e = clash (is_some lock.held.lock) (ap (λ (b : Bare). is_some b.lock)
         (held_once p n k h lock.held x sound linked lock.known i lock.number e) ∙ some (bare x) t) lock.bare_free
-    by x i t false e = in_any (λ x. r (bare x)) (held_in h m x) (map (held_in h m) k.holdings)
-        (map_in (held_in h m) x k.holdings i)
+    by x i t false e = in_any (λ x. r (bare x)) (held_with_mode h m x) (map (held_with_mode h m) k.holdings)
+        (map_in (held_with_mode h m) x k.holdings i)
         (ap (λ b. r (bare (cond b (record { handle = x.handle; target = x.target; lock = Some m; covered = x.covered })
         x))) e ∙ t)
 
 claim_some : (u : List ℕ) (b : Bare) → claim_of u b ≡ true → is_some b.lock ≡ true
-claim_some u b h = some_exclusive b.lock (both (is_claim_of u b.target) (is_exclusive b.lock) h).1
+claim_some u b h = some_exclusive b.lock (and_parts (is_claim_of u b.target) (is_exclusive b.lock) h).1
 
 gate_some : (b : Bare) → gate_of b ≡ true → is_some b.lock ≡ true
-gate_some b h = some_shared b.lock (both (is_gate_of area.Embryo b.target) (is_shared b.lock) h).1
+gate_some b h = some_shared b.lock (and_parts (is_gate_of area.Embryo b.target) (is_shared b.lock) h).1
 
 -- what a lock does
 pub record Locking (u : List ℕ) (p : ℕ) (n : Namespace) (s t : PodState) (k : Standing) (h : Handle) (m : Mode) : Type 0 where
-  pub place : (a : Area) → is_place a t ≡ is_place a s
-  pub aged : age s ≤ age t
+  pub place : (a : Area) → is_area_of_state a t ≡ is_area_of_state a s
+  pub aged : pod_progress s ≤ pod_progress t
   pub embryo : (q : ℕ) → s ≡ Embryo q → t ≡ Embryo q
   pub embryo_back : (q : ℕ) → t ≡ Embryo q → s ≡ Embryo q
   pub prepared : s ≡ Prepared → t ≡ Prepared
   pub prepared_back : t ≡ Prepared → s ≡ Prepared
-  pub owns : (o : Opening) → In o (and_locked n p h m).openings → is_grip u o ≡ true →
+  pub owns : (o : Opening) → In o (and_locked n p h m).openings → is_exclusive_own u o ≡ true →
       may_own t o.process (area_of o.target) ≡ true
   pub held : (q : ℕ) → is_owner q t ≡ true → (o : Opening) ×
-      (In o (and_locked n p h m).openings × ((is_grip u o ≡ true) × (o.process ≡ q)))
-  pub owned : s ≡ Embryo p → holds_own u (and_held_in k h m) ≡ true → (k.gated ≡ true) × (draws u k ≡ true)
+      (In o (and_locked n p h m).openings × ((is_exclusive_own u o ≡ true) × (o.process ≡ q)))
+  pub owned : s ≡ Embryo p → holds_own u (and_held_in k h m) ≡ true → (k.embryo_under_lock ≡ true) × (draws u k ≡ true)
   pub mine : began_as is_remover k ≡ true → s ≡ Prepared → Ungripped u n → Ungripped u (and_locked n p h m)
   pub other : (q : ℕ) (l : Standing) → (p == q) ≡ false → Linked q n l → holds_claim u l ≡ true → s ≡ Prepared →
       Ungripped u n → Ungripped u (and_locked n p h m)
@@ -132,18 +134,18 @@ lock_pod u n s t p k h m pod l = record {
   held = l.held;
 }
   where
-    after : (c : ℕ) → c ≤ age s → c ≤ age t
-    after c x = let g : age s ≤ age t = l.aged in omega (arith, x, g)
+    after : (c : ℕ) → c ≤ pod_progress s → c ≤ pod_progress t
+    after c x = let g : pod_progress s ≤ pod_progress t = l.aged in omega (arith, x, g)
 
     one : (o : Opening) → Was p h m n.openings o → is_named u o.target ≡ true →
-        (o.folder ≡ Some pod.number) × (age_in (area_of o.target) ≤ age t)
+        (o.folder ≡ Some pod.number) × (age_in (area_of o.target) ≤ pod_progress t)
     one o (a, (i, (inl e))) is =
         let x = pod.named a i (subst (λ (z : Opening). is_named u z.target ≡ true) e.1 is) in
-        subst (λ (z : Opening). (z.folder ≡ Some pod.number) × (age_in (area_of z.target) ≤ age t)) (sym e.1)
+        subst (λ (z : Opening). (z.folder ≡ Some pod.number) × (age_in (area_of z.target) ≤ pod_progress t)) (sym e.1)
         (x.0, after (age_in (area_of a.target)) x.1)
     one o (a, (i, (inr e))) is =
         let x = pod.named a i (subst (λ (z : Opening). is_named u z.target ≡ true) e.1 is) in
-        subst (λ (z : Opening). (z.folder ≡ Some pod.number) × (age_in (area_of z.target) ≤ age t)) (sym e.1)
+        subst (λ (z : Opening). (z.folder ≡ Some pod.number) × (age_in (area_of z.target) ≤ pod_progress t)) (sym e.1)
         (x.0, after (age_in (area_of a.target)) x.1)
 
 pub lock_others : (u : List ℕ) (n : Namespace) (s t : PodState) (p q : ℕ) (k l : Standing) (h : Handle) (m : Mode) →
@@ -156,25 +158,25 @@ lock_others u n s t p q k l h m off same x knows =
 -- a holding after the lock, and what it was
 abbrev pub Had : Handle → Mode → List Held → Held → Type 0
 Had h m hs g = (x : Held) × (In x hs ×
-    (((is_number h x ≡ true) × (g ≡ record {
+    (((is_handle_held h x ≡ true) × (g ≡ record {
       handle = x.handle;
       target = x.target;
       lock = Some m;
       covered =
           x.covered;
-    })) ⊎ ((is_number h x ≡ false) × (g ≡ x))))
+    })) ⊎ ((is_handle_held h x ≡ false) × (g ≡ x))))
 
-pub had_in : (h : Handle) (m : Mode) (hs : List Held) (g : Held) → In g (map (held_in h m) hs) → Had h m hs g
-had_in h m hs g i = let e = in_map (held_in h m) hs g i in (e.0, (e.1.0, by e.0 e.1.1 (is_number h e.0) refl))
+pub had_in : (h : Handle) (m : Mode) (hs : List Held) (g : Held) → In g (map (held_with_mode h m) hs) → Had h m hs g
+had_in h m hs g i = let e = in_map (held_with_mode h m) hs g i in (e.0, (e.1.0, by e.0 e.1.1 (is_handle_held h e.0) refl))
   where
-    by : (x : Held) → g ≡ held_in h m x → (b : Bool) → is_number h x ≡ b →
-        ((is_number h x ≡ true) × (g ≡ record {
+    by : (x : Held) → g ≡ held_with_mode h m x → (b : Bool) → is_handle_held h x ≡ b →
+        ((is_handle_held h x ≡ true) × (g ≡ record {
           handle = x.handle;
           target = x.target;
           lock = Some m;
           covered =
               x.covered;
-        })) ⊎ ((is_number h x ≡ false) × (g ≡ x))
+        })) ⊎ ((is_handle_held h x ≡ false) × (g ≡ x))
     by x e true f = inl (
       f,
       e ∙ ap
@@ -191,13 +193,13 @@ pub lock_knows : (u : List ℕ) (n : Namespace) (s t : PodState) (p : ℕ) (k : 
     Knows u p n s k → Knows u p (and_locked n p h m) t (and_held_in k h m)
 lock_knows u n s t p k h m sound lock linked x knows = record {
   linked = linked;
-  gated = λ g d. x.embryo p (knows.gated g d);
+  embryo_under_lock = λ g d. x.embryo p (knows.embryo_under_lock g d);
   gates = λ g. kept_lock p n k h m gate_of sound knows.linked lock gate_some (knows.gates g);
   owned = λ e o. x.owned (x.embryo_back p e) o;
   covered = λ g i o c. cover g (had_in h m k.holdings g i) o c;
-  looked = λ a y. let l : age_free a ≤ age s = knows.looked a y in let g : age s ≤ age t = x.aged in omega (arith, l, g);
-  cleared = λ y. let c = knows.cleared y in let l : 4 ≤ age s =
-      c.past in let g : age s ≤ age t = x.aged in record {
+  looked = λ a y. let l : age_free a ≤ pod_progress s = knows.looked a y in let g : pod_progress s ≤ pod_progress t = x.aged in omega (arith, l, g);
+  seen_unowned_under_claim = λ y. let c = knows.seen_unowned_under_claim y in let l : 4 ≤ pod_progress s =
+      c.past in let g : pod_progress s ≤ pod_progress t = x.aged in record {
         claim = claims c.claim;
         remover = c.remover;
         past =

@@ -1,6 +1,7 @@
 -- What a process that looks for a pod finds is the pod's phase at one of its own steps.
 use Rattle.std.proofs.Common.{arith, ◌≡◌, ◌⊎◌, inl, inr, ◌≤◌, ◌<◌, ◌+◌, ℕ, Bool, true, false, Option, None, List, [], ◌∷◌, ◌++◌, refl, sym, ap, subst, ◌∙◌, append_assoc}
 use Rattle.std.specs.Prelude.{zero, suc}
+use Rattle.plain_laws.proofs.Booleans.{clash}
 use Rattle.dir_model.specs.declared.area.Area.{Area}
 use Rattle.dir_model.specs.declared.area.Area.TheVariants as area
 use Rattle.dir_model.specs.declared.area.Phase.{Phase}
@@ -12,11 +13,10 @@ use Rattle.dir_model.specs.Calls.{AtOwnStep}
 use Rattle.dir_model.proofs.Moments.{at_grown}
 use Rattle.lifecycle.specs.declared.machine.PodState.{PodState}
 use Rattle.lifecycle.specs.declared.machine.PodState.TheVariants.{Absent, Embryo, Preparing, AbortedPrepare, Prepared, Running, Exited, ExitedGarbage, Garbage, Deleting, Gone}
-use Rattle.lifecycle.specs.PodMachine.{pod_state, pod_phase, phase_of_state, exists, is_place, age, age_in}
+use Rattle.lifecycle.specs.PodMachine.{pod_state, pod_phase, phase_of_state, exists, is_area_of_state, pod_progress, age_in}
 use Rattle.lifecycle.specs.Executions.{IsConforming}
 use Rattle.lifecycle.specs.Ownership.{place_in}
 use Rattle.lifecycle.specs.Readings.{WasPhase, LocksTellPhases, IsMissedIn, stages_back, MissesTellGone}
-use Rattle.lifecycle.proofs.Handles.{clash}
 use Rattle.lifecycle.proofs.Draws.{conforming_left}
 use Rattle.lifecycle.proofs.Run.{good}
 use Rattle.lifecycle.proofs.Phases.{stands_in}
@@ -33,14 +33,14 @@ at_most (suc m) (suc n) = by (at_most m n)
     by (inr l) = inr (omega (arith, l))
 
 -- a pod that is far enough along for a place, and isn't there, is past it
-pub past : (a : Area) (s : PodState) → is_stage a ≡ true → age_in a ≤ age s → is_place a s ≡ false → age_out a < age s
-past a s pod l off = by (at_most (age s) (age_out a))
+pub past : (a : Area) (s : PodState) → is_stage a ≡ true → age_in a ≤ pod_progress s → is_area_of_state a s ≡ false → age_out a < pod_progress s
+past a s pod l off = by (at_most (pod_progress s) (age_out a))
   where
-    by : (age s ≤ age_out a) ⊎ (age_out a < age s) → age_out a < age s
-    by (inl g) = clash (is_place a s) (between a s pod l g) off
+    by : (pod_progress s ≤ age_out a) ⊎ (age_out a < pod_progress s) → age_out a < pod_progress s
+    by (inl g) = clash (is_area_of_state a s) (between a s pod l g) off
     by (inr g) = g
 
-pub existing : (s : PodState) → exists s ≡ true → 1 ≤ age s
+pub existing : (s : PodState) → exists s ≡ true → 1 ≤ pod_progress s
 existing Absent e = cc
 existing Gone e = cc
 existing (Embryo m) e = omega arith
@@ -54,7 +54,7 @@ existing Garbage e = omega arith
 existing (Deleting o area.ExitedGarbage) e = omega arith
 existing (Deleting o f) e = omega arith
 
-pub ended_at : (s : PodState) → 8 < age s → exists s ≡ false
+pub ended_at : (s : PodState) → 8 < pod_progress s → exists s ≡ false
 ended_at Gone l = refl
 ended_at Absent l = absurd (omega (arith, l))
 ended_at (Embryo m) l = absurd (omega (arith, l))
@@ -74,17 +74,17 @@ gone_phase Gone h = refl
 gone_phase s h = cc
 
 pub off_place : (u : List ℕ) (a : Area) (h : List Event) → is_stage a ≡ true → IsConforming h →
-    stands (state_after h).namespace (place_in u a) ≡ false → is_place a (pod_state u h) ≡ false
-off_place u a h stage conforming miss = by (is_place a (pod_state u h)) refl
+    stands (state_after h).namespace (place_in u a) ≡ false → is_area_of_state a (pod_state u h) ≡ false
+off_place u a h stage conforming miss = by (is_area_of_state a (pod_state u h)) refl
   where
-    by : (c : Bool) → is_place a (pod_state u h) ≡ c → is_place a (pod_state u h) ≡ false
+    by : (c : Bool) → is_area_of_state a (pod_state u h) ≡ c → is_area_of_state a (pod_state u h) ≡ false
     by false e = e
     by true e = clash (stands (state_after h).namespace (place_in u a))
         (stands_in u (state_after h).namespace (pod_state u h) a (good u h conforming).inv.pod stage e) miss
 
 -- a pod only gets further along
-pub grows : (u : List ℕ) (h more : List Event) → age (pod_state u h) ≤ age (pod_state u (h ++ more))
-grows u h more = subst (λ (s : PodState). age (pod_state u h) ≤ age s)
+pub grows : (u : List ℕ) (h more : List Event) → pod_progress (pod_state u h) ≤ pod_progress (pod_state u (h ++ more))
+grows u h more = subst (λ (s : PodState). pod_progress (pod_state u h) ≤ pod_progress s)
     (sym (machine_append u h more empty_state Absent)) (ages u more (state_after h) (pod_state u h))
 
 module _ (me : ℕ) (old : List Event) (u : List ℕ) where
@@ -129,25 +129,25 @@ module _ (me : ℕ) (old : List Event) (u : List ℕ) where
 
   -- the pod was past the stages before: then it is past this one as well
   further : (a : Area) (m : ℕ) (b c : List Event) → is_stage a ≡ true → age_in a ≤ m + 1 → IsConforming c →
-      m < age (pod_state u b) → (x : Misses b c a) → age_out a < age (pod_state u (At x))
+      m < pod_progress (pod_state u b) → (x : Misses b c a) → age_out a < pod_progress (pod_state u (At x))
   further a m b c stage near conforming so_far x =
       let is : At x ≡ b ++ (x.later ++ x.step ∷ []) = ap (λ h. h ++ x.step ∷ []) x.begins
       ∙ append_assoc b x.later (x.step ∷ []) in
-      let up : age (pod_state u b) ≤ age (pod_state u (At x)) =
-      subst (λ (h : List Event). age (pod_state u b) ≤ age (pod_state u h)) (sym is)
+      let up : pod_progress (pod_state u b) ≤ pod_progress (pod_state u (At x)) =
+      subst (λ (h : List Event). pod_progress (pod_state u b) ≤ pod_progress (pod_state u h)) (sym is)
       (grows u b (x.later ++ x.step ∷ [])) in
       past a (pod_state u (At x)) stage (omega (arith, up, so_far, near))
       (off_place u a (At x) stage (conforms_at x conforming) x.holds)
 
   -- it didn't exist at some step, or it is past the stages so far
   abbrev Sought : List Event → ℕ → Type 0
-  Sought b m = WasPhase me old b u None ⊎ (m < age (pod_state u b))
+  Sought b m = WasPhase me old b u None ⊎ (m < pod_progress (pod_state u b))
 
-  later : {b c : List Event} {P : DirState → Type 0} (m : ℕ) (x : AtOwnStep me b c P) → m < age (pod_state u (At x)) →
-      m < age (pod_state u c)
+  later : {b c : List Event} {P : DirState → Type 0} (m : ℕ) (x : AtOwnStep me b c P) → m < pod_progress (pod_state u (At x)) →
+      m < pod_progress (pod_state u c)
   later {b} {c} {P} m x l =
-      let up : age (pod_state u (At x)) ≤ age (pod_state u c) =
-      subst (λ (h : List Event). age (pod_state u (At x)) ≤ age (pod_state u h)) (sym x.ends)
+      let up : pod_progress (pod_state u (At x)) ≤ pod_progress (pod_state u c) =
+      subst (λ (h : List Event). pod_progress (pod_state u (At x)) ≤ pod_progress (pod_state u h)) (sym x.ends)
       (grows u (At x) x.rest) in
       omega (arith, l, up)
 

@@ -10,43 +10,45 @@ use Rattle.dir_model.specs.declared.request.Request.TheVariants.{MakeFolder}
 use Rattle.dir_model.specs.Areas.{rank, is_stage}
 use Rattle.dir_model.specs.Locks.{is_exclusive}
 use Rattle.dir_model.specs.State.{spot_eq, Namespace, folder_at, stands}
-use Rattle.dir_rules.specs.Standing.{area_of, began_as, draws, draws_by, holds_gate, is_in, is_maker, is_of, standing_done}
+use Rattle.dir_rules.specs.Standing.{area_of, began_as, draws, draws_by, shares_area, is_in, is_maker, is_spot_of_pod, standing_done}
 use Rattle.dir_model.specs.Local.{is_own_of}
-use Rattle.dir_rules.specs.LockRules.{may_ask, may_make}
+use Rattle.dir_rules.specs.LockRules.{lock_rules_allow, may_make}
 use Rattle.dir_model.specs.Pods.{pod_text}
 use Rattle.lifecycle.specs.declared.machine.PodState.{PodState}
 use Rattle.lifecycle.specs.declared.machine.PodState.TheVariants.{Absent, Embryo}
-use Rattle.lifecycle.specs.PodMachine.{is_place, age_in, age_free}
+use Rattle.lifecycle.specs.PodMachine.{is_area_of_state, age_in, age_free}
 use Rattle.dir_rules.specs.declared.standing.Standing.{Standing}
 use Rattle.lifecycle.proofs.Lists.{In}
-use Rattle.lifecycle.proofs.Handles.{both, clash, nat_same}
 use Rattle.lifecycle.proofs.Invariant.{is_named, Pod, Knows, own_named, others}
 use Rattle.std.specs.Prelude.{nat_le}
-use Rattle.lifecycle.proofs.Places.{name_same, same_name, area_same, spot_name, with_folders, made_there, made_elsewhere, none_stands}
+use Rattle.std.proofs.lemmas.Bool.{and_parts}
+use Rattle.plain_laws.proofs.Booleans.{clash}
+use Rattle.plain_laws.proofs.Texts.{same_text}
+use Rattle.lifecycle.proofs.Places.{same_name, area_same, spot_name, with_folders, made_there, made_elsewhere, none_stands}
 use Rattle.dir_model.specs.declared.intent.Intent.{Intent}
-use Rattle.dir_model.proofs.Lists.{and_both, not_true, same_self}
+use Rattle.dir_model.proofs.Lists.{and_both, not_true, same_self, same_number}
 
 -- equal locations are places of the same pod
-pub of_same : (u : List ℕ) (a b : Spot) → spot_eq a b ≡ true → is_of u a ≡ is_of u b
+pub of_same : (u : List ℕ) (a b : Spot) → spot_eq a b ≡ true → is_spot_of_pod u a ≡ is_spot_of_pod u b
 of_same u a b h = ap (λ r. nat_le r 5 && bytes_eq a.name u) (area_same a b h)
     ∙ ap (λ (v : List ℕ). is_stage b.area && bytes_eq v u) (spot_name a b h)
 
-pub of_name : (u : List ℕ) (a : Spot) → is_of u a ≡ true → a.name ≡ u
-of_name u a h = name_same a.name u (both (is_stage a.area) (bytes_eq a.name u) h).1
+pub of_name : (u : List ℕ) (a : Spot) → is_spot_of_pod u a ≡ true → a.name ≡ u
+of_name u a h = same_text a.name u (and_parts (is_stage a.area) (bytes_eq a.name u) h).1
 
 pub draws_meet : (u v : List ℕ) (o : Option Intent) → draws_by u o ≡ true → draws_by v o ≡ true → u ≡ v
-draws_meet u v (Some i) h k = sym (name_same (pod_text i.draw.bytes) u h) ∙ name_same (pod_text i.draw.bytes) v k
+draws_meet u v (Some i) h k = sym (same_text (pod_text i.draw.bytes) u h) ∙ same_text (pod_text i.draw.bytes) v k
 draws_meet u v None h k = cc
 
-embryo_place : (a : Area) (p : ℕ) → is_in area.Embryo a ≡ true → is_place a (Embryo p) ≡ true
+embryo_place : (a : Area) (p : ℕ) → is_in area.Embryo a ≡ true → is_area_of_state a (Embryo p) ≡ true
 embryo_place area.Embryo p h = refl
 embryo_place a p h = cc
 
-place_embryo : (a : Area) (p : ℕ) → is_place a (Embryo p) ≡ true → is_in area.Embryo a ≡ true
+place_embryo : (a : Area) (p : ℕ) → is_area_of_state a (Embryo p) ≡ true → is_in area.Embryo a ≡ true
 place_embryo area.Embryo p h = refl
 place_embryo a p h = cc
 
-pub absent_place : (a : Area) → is_place a Absent ≡ false
+pub absent_place : (a : Area) → is_area_of_state a Absent ≡ false
 absent_place area.Embryo = refl
 absent_place a = refl
 
@@ -60,8 +62,8 @@ pod_age area.Garbage h = omega arith
 pod_age a h = cc
 
 pub named_pod : (u : List ℕ) (t : Target) → is_named u t ≡ true → is_stage (area_of t) ≡ true
-named_pod u (Own spot) h = (both (is_stage spot.area) (bytes_eq spot.name u) h).0
-named_pod u (Claim spot) h = (both (is_stage spot.area) (bytes_eq spot.name u) h).0
+named_pod u (Own spot) h = (and_parts (is_stage spot.area) (bytes_eq spot.name u) h).0
+named_pod u (Claim spot) h = (and_parts (is_stage spot.area) (bytes_eq spot.name u) h).0
 named_pod u (Gate a) h = cc
 
 -- before it is made no handle was opened on it
@@ -80,61 +82,61 @@ pub record Made (u : List ℕ) (k : Standing) (spot : Spot) : Type 0 where
   pub embryo : is_in area.Embryo spot.area ≡ true
   pub draws : draws spot.name k ≡ true
   pub first : k.made ≡ false
-  pub gate : holds_gate area.Embryo k ≡ true
+  pub gate : shares_area area.Embryo k ≡ true
 
 pub made_by : (u : List ℕ) (k : Standing) (spot : Spot) → is_stage spot.area ≡ true →
-    may_ask k (MakeFolder spot) ≡ true → Made u k spot
+    lock_rules_allow k (MakeFolder spot) ≡ true → Made u k spot
 made_by u k spot is may =
     let m : may_make k spot ≡ true = sym (ap (λ b. cond b (may_make k spot) true) is) ∙ may in
-    let x = both (is_in area.Embryo spot.area && draws spot.name k)
-    ((not k.made && began_as is_maker k) && holds_gate area.Embryo k) m in
-    let y = both (is_in area.Embryo spot.area) (draws spot.name k) x.0 in
-    let z = both (not k.made && began_as is_maker k) (holds_gate area.Embryo k) x.1 in
-    record { embryo = y.0; draws = y.1; first = not_true k.made (both (not k.made) (began_as is_maker k) z.0).0; gate = z.1 }
+    let x = and_parts (is_in area.Embryo spot.area && draws spot.name k)
+    ((not k.made && began_as is_maker k) && shares_area area.Embryo k) m in
+    let y = and_parts (is_in area.Embryo spot.area) (draws spot.name k) x.0 in
+    let z = and_parts (not k.made && began_as is_maker k) (shares_area area.Embryo k) x.1 in
+    record { embryo = y.0; draws = y.1; first = not_true k.made (and_parts (not k.made) (began_as is_maker k) z.0).0; gate = z.1 }
 
-pub make_pod : (u : List ℕ) (n : Namespace) (p : ℕ) (spot : Spot) → stands n spot ≡ false → is_of u spot ≡ true →
+pub make_pod : (u : List ℕ) (n : Namespace) (p : ℕ) (spot : Spot) → stands n spot ≡ false → is_spot_of_pod u spot ≡ true →
     is_in area.Embryo spot.area ≡ true → Pod u n Absent → Pod u (and_folder n spot) (Embryo p)
 make_pod u n p spot free of embryo pod = record {
   number = length n.folders;
   at = λ here is. by here is (spot_eq spot here) refl;
   named = λ o i h. unnamed u n pod o i h;
-  owns = λ o i h. unnamed u n pod o i (own_named u o.target (both (is_own_of u o.target) (is_exclusive o.lock) h).0);
+  owns = λ o i h. unnamed u n pod o i (own_named u o.target (and_parts (is_own_of u o.target) (is_exclusive o.lock) h).0);
   held = λ q h. absurd (cc);
 }
   where
-    absent : (here : Spot) → is_of u here ≡ true → folder_at n here ≡ None
+    absent : (here : Spot) → is_spot_of_pod u here ≡ true → folder_at n here ≡ None
     absent here is = pod.at here is ∙ ap (λ b. cond b (Some pod.number) None) (absent_place here.area)
 
-    same : (here : Spot) → is_of u here ≡ true → is_in area.Embryo here.area ≡ true → spot_eq spot here ≡ true
+    same : (here : Spot) → is_spot_of_pod u here ≡ true → is_in area.Embryo here.area ≡ true → spot_eq spot here ≡ true
     same here is e = and_both (rank spot.area == rank here.area) (bytes_eq spot.name here.name)
-        (ap (λ r. r == rank here.area) (sym (nat_same 0 (rank spot.area) embryo)) ∙ e)
+        (ap (λ r. r == rank here.area) (sym (same_number 0 (rank spot.area) embryo)) ∙ e)
         (same_name spot.name here.name (of_name u spot of ∙ sym (of_name u here is)))
 
-    off : (here : Spot) → is_of u here ≡ true → spot_eq spot here ≡ false → (b : Bool) →
-        is_place here.area (Embryo p) ≡ b → is_place here.area (Embryo p) ≡ false
+    off : (here : Spot) → is_spot_of_pod u here ≡ true → spot_eq spot here ≡ false → (b : Bool) →
+        is_area_of_state here.area (Embryo p) ≡ b → is_area_of_state here.area (Embryo p) ≡ false
     off here is e false x = x
     off here is e true x = clash (spot_eq spot here) (same here is (place_embryo here.area p x)) e
 
-    by : (here : Spot) → is_of u here ≡ true → (b : Bool) → spot_eq spot here ≡ b →
-        folder_at (and_folder n spot) here ≡ cond (is_place here.area (Embryo p)) (Some (length n.folders)) None
+    by : (here : Spot) → is_spot_of_pod u here ≡ true → (b : Bool) → spot_eq spot here ≡ b →
+        folder_at (and_folder n spot) here ≡ cond (is_area_of_state here.area (Embryo p)) (Some (length n.folders)) None
     by here is true e = made_there n here spot (none_stands n spot free) e
         ∙ sym (ap (λ b. cond b (Some (length n.folders)) None) (embryo_place here.area p
         (ap (λ r. 0 == r) (sym (area_same spot here e)) ∙ embryo)))
     by here is false e = made_elsewhere n here spot e
         ∙ (absent here is ∙ sym (ap (λ b. cond b (Some (length n.folders)) None)
-        (off here is e (is_place here.area (Embryo p)) refl)))
+        (off here is e (is_area_of_state here.area (Embryo p)) refl)))
 
-pub make_knows : (u : List ℕ) (n : Namespace) (p : ℕ) (spot : Spot) (k : Standing) → is_of u spot ≡ true →
+pub make_knows : (u : List ℕ) (n : Namespace) (p : ℕ) (spot : Spot) (k : Standing) → is_spot_of_pod u spot ≡ true →
     Made u k spot → Knows u p n Absent k → Knows u p (and_folder n spot) (Embryo p)
-    (record k { made = true; gated = holds_gate area.Embryo k })
+    (record k { made = true; embryo_under_lock = shares_area area.Embryo k })
 make_knows u n p spot k of m knows = record {
   linked = knows.linked;
-  gated = λ g d. refl;
+  embryo_under_lock = λ g d. refl;
   gates = λ g. m.gate;
   owned = λ e x. (m.gate, ap (λ (v : List ℕ). draws v k) (sym (of_name u spot of)) ∙ m.draws);
   covered = λ h i x c. let y = (knows.covered h i x c).0 in absurd (cc);
   looked = λ a x. let l : age_free a ≤ 0 = knows.looked a x in omega (arith, l);
-  cleared = λ x. let l : 4 ≤ 0 = (knows.cleared x).past in absurd (omega (arith, l));
+  seen_unowned_under_claim = λ x. let l : 4 ≤ 0 = (knows.seen_unowned_under_claim x).past in absurd (omega (arith, l));
 }
 
 pub embryo_same : (p q : ℕ) → (p == q) ≡ false → Embryo p ≡ Embryo q → ⊥
@@ -153,7 +155,7 @@ make_others u n p q spot k off knows =
     (λ e. absurd (embryo_same p q off e)) (λ c e. absurd (cc)) (λ l c r e. absurd (cc)) knows
 
 -- another folder is made
-pub make_pod_other : (u : List ℕ) (n : Namespace) (s : PodState) (spot : Spot) → is_of u spot ≡ false → Pod u n s →
+pub make_pod_other : (u : List ℕ) (n : Namespace) (s : PodState) (spot : Spot) → is_spot_of_pod u spot ≡ false → Pod u n s →
     Pod u (and_folder n spot) s
 make_pod_other u n s spot not_of pod = record {
   number = pod.number;
@@ -163,43 +165,43 @@ make_pod_other u n s spot not_of pod = record {
   held = pod.held;
 }
   where
-    off : (here : Spot) → is_of u here ≡ true → (b : Bool) → spot_eq spot here ≡ b → spot_eq spot here ≡ false
+    off : (here : Spot) → is_spot_of_pod u here ≡ true → (b : Bool) → spot_eq spot here ≡ b → spot_eq spot here ≡ false
     off here is false e = e
-    off here is true e = clash (is_of u spot) (of_same u spot here e ∙ is) not_of
+    off here is true e = clash (is_spot_of_pod u spot) (of_same u spot here e ∙ is) not_of
 
 pub knows_folders : (u : List ℕ) (n : Namespace) (p : ℕ) (s : PodState) (k : Standing) (fs : List (Option Spot)) →
     Knows u p n s k → Knows u p (with_folders n fs) s k
 knows_folders u n p s k fs knows =
     record {
       linked = knows.linked;
-      gated = knows.gated;
+      embryo_under_lock = knows.embryo_under_lock;
       gates = knows.gates;
       owned = knows.owned;
       covered =
           knows.covered;
       looked = knows.looked;
-      cleared = λ x. let c = knows.cleared x in
+      seen_unowned_under_claim = λ x. let c = knows.seen_unowned_under_claim x in
           record { claim = c.claim; remover = c.remover; past = c.past; free = c.free };
     }
 
 pub make_knows_other : (u : List ℕ) (n : Namespace) (p : ℕ) (s : PodState) (spot : Spot) (k : Standing) →
-    is_of u spot ≡ false → may_ask k (MakeFolder spot) ≡ true → Knows u p n s k →
+    is_spot_of_pod u spot ≡ false → lock_rules_allow k (MakeFolder spot) ≡ true → Knows u p n s k →
     Knows u p (and_folder n spot) s (standing_done k (MakeFolder spot))
 make_knows_other u n p s spot k not_of may knows = by (is_stage spot.area) refl
   where
     drawn : is_stage spot.area ≡ true → Made u k spot → draws u k ≡ true → ⊥
-    drawn is m d = clash (is_of u spot) (and_both (is_stage spot.area) (bytes_eq spot.name u) is
+    drawn is m d = clash (is_spot_of_pod u spot) (and_both (is_stage spot.area) (bytes_eq spot.name u) is
         (same_name spot.name u (draws_meet spot.name u k.intent m.draws d))) not_of
 
     by : (b : Bool) → is_stage spot.area ≡ b → Knows u p (and_folder n spot) s
-        (cond b (record k { made = true; gated = holds_gate area.Embryo k }) k)
+        (cond b (record k { made = true; embryo_under_lock = shares_area area.Embryo k }) k)
     by false is = knows_folders u n p s k (n.folders ++ Some spot ∷ []) knows
     by true is = let m = made_by u k spot is may in record {
       linked = knows.linked;
-      gated = λ g d. absurd (drawn is m d);
+      embryo_under_lock = λ g d. absurd (drawn is m d);
       gates = λ g. m.gate;
       owned = λ e x. absurd (drawn is m (knows.owned e x).1);
       covered = knows.covered;
       looked = knows.looked;
-      cleared = λ x. let c = knows.cleared x in record { claim = c.claim; remover = c.remover; past = c.past; free = c.free };
+      seen_unowned_under_claim = λ x. let c = knows.seen_unowned_under_claim x in record { claim = c.claim; remover = c.remover; past = c.past; free = c.free };
     }

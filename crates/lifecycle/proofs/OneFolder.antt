@@ -2,6 +2,8 @@
 use Rattle.std.proofs.Common.{arith, ◌≡◌, ◌⊎◌, inl, inr, ℕ, Bool, true, false, cond, Option, Some, None, option_map, List, [], ◌∷◌, ◌++◌, length, map, slice_get, refl, sym, ap, ◌∙◌}
 use Rattle.std.specs.Prelude.{zero, suc}
 use Rattle.std.proofs.lemmas.Option.{slice_get-map}
+use Rattle.std.proofs.lemmas.Bool.{and_parts}
+use Rattle.plain_laws.proofs.Booleans.{clash}
 use Rattle.dir_model.specs.declared.spot.Spot.{Spot}
 use Rattle.dir_model.specs.declared.event.Event.{Event}
 use Rattle.dir_model.specs.declared.request.DirError.TheVariants.{Exists}
@@ -15,7 +17,7 @@ use Rattle.dir_model.specs.Replies.{is_reply}
 use Rattle.dir_model.specs.Calls.{may_step, is_allowed, is_run_from, IsRun}
 use Rattle.dir_model.proofs.Spots.{spot_self}
 use Rattle.lifecycle.proofs.Lists.{In}
-use Rattle.lifecycle.proofs.Handles.{both, clash, none_refused, refused_if}
+use Rattle.lifecycle.proofs.Handles.{none_refused, refused_if}
 use Rattle.lifecycle.proofs.Places.{none_at, spot_right}
 use Rattle.lifecycle.proofs.Step.{stands_from}
 use Rattle.dir_model.proofs.Allowed.{allowed_parts}
@@ -127,7 +129,7 @@ single_from : (es : List Event) (n : DirState) → is_run_from n es ≡ true →
     Single (states_next n es).namespace.folders
 single_from [] n run s = s
 single_from (e ∷ es) n run s =
-    let a = both (is_allowed n e) (is_run_from (state_next n e) es) run in
+    let a = and_parts (is_allowed n e) (is_run_from (state_next n e) es) run in
     let b = allowed_parts n e a.0 in
     single_from es (state_next n e) a.1 (single_step n e.process e.request e.reply b.1 s)
 

@@ -1,6 +1,9 @@
 -- A new handle.
 use Rattle.std.proofs.Common.{◌≡◌, ◌⊎◌, inl, inr, ◌≤◌, ℕ, Bool, true, false, ◌&&◌, ◌||◌, cond, bytes_eq, Option, Some, None, is_some, List, [], ◌∷◌, ◌++◌, refl, sym, ap, subst, ◌∙◌}
 use Rattle.std.specs.List.{list_any}
+use Rattle.std.proofs.lemmas.Bool.{and_parts}
+use Rattle.plain_laws.proofs.Booleans.{clash, off_right}
+use Rattle.plain_laws.proofs.Texts.{same_text}
 use Rattle.dir_model.specs.declared.area.Area.{Area}
 use Rattle.dir_model.specs.declared.area.Area.TheVariants as area
 use Rattle.dir_model.specs.declared.spot.Spot.{Spot}
@@ -14,19 +17,18 @@ use Rattle.dir_model.specs.Locks.{is_exclusive, target_of}
 use Rattle.dir_model.specs.State.{Namespace, DirState, folder_at, stands}
 use Rattle.dir_model.specs.Trace.{namespace_replied, opened, opened_gate}
 use Rattle.dir_model.specs.Replies.{is_reply}
-use Rattle.dir_rules.specs.Standing.{area_of, holds_claim, is_claim_held, is_gate_shared, is_in, is_of, is_own_held, is_own_in_prepared, standing_replied}
+use Rattle.dir_rules.specs.Standing.{area_of, holds_claim, is_claim_held, is_gate_shared, is_in, is_spot_of_pod, is_own_held, is_own_in_prepared, standing_replied}
 use Rattle.dir_model.specs.Local.{is_own_of}
 use Rattle.dir_model.specs.Areas.{is_stage}
 use Rattle.lifecycle.specs.declared.machine.PodState.{PodState}
 use Rattle.lifecycle.specs.declared.machine.PodState.TheVariants.{Prepared}
-use Rattle.lifecycle.specs.PodMachine.{is_grip, is_place, age, age_in}
+use Rattle.lifecycle.specs.PodMachine.{is_exclusive_own, is_area_of_state, pod_progress, age_in}
 use Rattle.dir_rules.specs.declared.standing.Held.{Held}
 use Rattle.dir_rules.specs.declared.standing.Standing.{Standing}
 use Rattle.lifecycle.proofs.Lists.{In, in_push, push_in, any_in, in_any}
-use Rattle.lifecycle.proofs.Handles.{both, clash, open_stands}
+use Rattle.lifecycle.proofs.Handles.{open_stands}
 use Rattle.lifecycle.proofs.Linked.{Linked, linked_own}
 use Rattle.lifecycle.proofs.Invariant.{is_named, may_own, Pod, Ungripped, Knows, placed_age}
-use Rattle.lifecycle.proofs.Places.{name_same}
 
 pub any_unpushed : {X : Type 0} (t : X → Bool) (xs : List X) (y : X) → t y ≡ false → list_any t (xs ++ y ∷ []) ≡ true →
     list_any t xs ≡ true
@@ -51,18 +53,14 @@ any_unconsed t xs y off h = by (t y) off h
     by true off h = cc
     by false off h = h
 
-pub off_right : (a b : Bool) → b ≡ false → (a && b) ≡ false
-off_right true b h = h
-off_right false b h = refl
-
 abbrev pub and_opening : Namespace → Opening → Namespace
 and_opening n o = record n { openings = n.openings ++ o ∷ [] }
 
-unlocked : (u : List ℕ) (o : Opening) → o.lock ≡ None → is_grip u o ≡ false
+unlocked : (u : List ℕ) (o : Opening) → o.lock ≡ None → is_exclusive_own u o ≡ false
 unlocked u o free = off_right (is_own_of u o.target) (is_exclusive o.lock) (ap is_exclusive free)
 
 pub pod_opened : (u : List ℕ) (n : Namespace) (s : PodState) (o : Opening) (pod : Pod u n s) → o.lock ≡ None →
-    (is_named u o.target ≡ true → (o.folder ≡ Some pod.number) × (age_in (area_of o.target) ≤ age s)) →
+    (is_named u o.target ≡ true → (o.folder ≡ Some pod.number) × (age_in (area_of o.target) ≤ pod_progress s)) →
     Pod u (and_opening n o) s
 pod_opened u n s o pod free stands = record {
   number = pod.number;
@@ -73,22 +71,22 @@ pod_opened u n s o pod free stands = record {
 }
   where
     one : (a : Opening) → In a n.openings ⊎ (a ≡ o) → is_named u a.target ≡ true →
-        (a.folder ≡ Some pod.number) × (age_in (area_of a.target) ≤ age s)
+        (a.folder ≡ Some pod.number) × (age_in (area_of a.target) ≤ pod_progress s)
     one a (inl i) h = pod.named a i h
-    one a (inr is) h = subst (λ (x : Opening). (x.folder ≡ Some pod.number) × (age_in (area_of x.target) ≤ age s))
+    one a (inr is) h = subst (λ (x : Opening). (x.folder ≡ Some pod.number) × (age_in (area_of x.target) ≤ pod_progress s))
         (sym is) (stands (subst (λ (x : Opening). is_named u x.target ≡ true) is h))
 
-    two : (a : Opening) → In a n.openings ⊎ (a ≡ o) → is_grip u a ≡ true → may_own s a.process (area_of a.target) ≡ true
+    two : (a : Opening) → In a n.openings ⊎ (a ≡ o) → is_exclusive_own u a ≡ true → may_own s a.process (area_of a.target) ≡ true
     two a (inl i) h = pod.owns a i h
-    two a (inr is) h = clash (is_grip u a) h (ap (is_grip u) is ∙ unlocked u o free)
+    two a (inr is) h = clash (is_exclusive_own u a) h (ap (is_exclusive_own u) is ∙ unlocked u o free)
 
 pub ungripped_opened : (u : List ℕ) (n : Namespace) (o : Opening) → o.lock ≡ None → Ungripped u n →
     Ungripped u (and_opening n o)
 ungripped_opened u n o free none a i = by (in_push a n.openings o i)
   where
-    by : In a n.openings ⊎ (a ≡ o) → is_grip u a ≡ false
+    by : In a n.openings ⊎ (a ≡ o) → is_exclusive_own u a ≡ false
     by (inl j) = none a j
-    by (inr is) = ap (is_grip u) is ∙ unlocked u o free
+    by (inr is) = ap (is_exclusive_own u) is ∙ unlocked u o free
 
 abbrev pub and_held : Standing → Held → Standing
 and_held k h = record k { holdings = h ∷ k.holdings }
@@ -99,13 +97,13 @@ pub knows_opened : (u : List ℕ) (p : ℕ) (n : Namespace) (s : PodState) (k : 
     Knows u p (and_opening n o) s (and_held k h)
 knows_opened u p n s k o h free bare_free linked cover knows = record {
   linked = linked;
-  gated = knows.gated;
+  embryo_under_lock = knows.embryo_under_lock;
   gates = λ g. any_consed (is_gate_shared area.Embryo) k.holdings h (knows.gates g);
   owned = λ e x. knows.owned e (any_unconsed (is_own_held u) k.holdings h
       (off_right (is_own_of u h.target) (is_exclusive h.lock) (ap is_exclusive bare_free)) x);
   covered = λ g i x c. one g (turn i) x c;
   looked = knows.looked;
-  cleared = λ x. let c = knows.cleared x in record {
+  seen_unowned_under_claim = λ x. let c = knows.seen_unowned_under_claim x in record {
     claim = claims c.claim;
     remover = c.remover;
     past = c.past;
@@ -135,15 +133,15 @@ found_number (Some x) true k e h = (refl, e)
 found_number (Some x) false k e h = cc
 found_number None b k e h = cc
 
-pub found_pod : (u : List ℕ) (n : Namespace) (s : PodState) (pod : Pod u n s) (spot : Spot) → is_of u spot ≡ true →
-    stands n spot ≡ true → (is_place spot.area s ≡ true) × (folder_at n spot ≡ Some pod.number)
-found_pod u n s pod spot of there = found_number (folder_at n spot) (is_place spot.area s) pod.number (pod.at spot of) there
+pub found_pod : (u : List ℕ) (n : Namespace) (s : PodState) (pod : Pod u n s) (spot : Spot) → is_spot_of_pod u spot ≡ true →
+    stands n spot ≡ true → (is_area_of_state spot.area s ≡ true) × (folder_at n spot ≡ Some pod.number)
+found_pod u n s pod spot of there = found_number (folder_at n spot) (is_area_of_state spot.area s) pod.number (pod.at spot of) there
 
-pub prepared_is : (s : PodState) → is_place area.Prepared s ≡ true → s ≡ Prepared
+pub prepared_is : (s : PodState) → is_area_of_state area.Prepared s ≡ true → s ≡ Prepared
 prepared_is Prepared h = refl
 prepared_is s h = cc
 
-pub prepared_place : (s : PodState) (a : Area) → is_in area.Prepared a ≡ true → is_place a s ≡ true → s ≡ Prepared
+pub prepared_place : (s : PodState) (a : Area) → is_in area.Prepared a ≡ true → is_area_of_state a s ≡ true → s ≡ Prepared
 prepared_place s area.Prepared h k = prepared_is s k
 prepared_place s a h k = cc
 
@@ -152,14 +150,14 @@ cover_of : (u : List ℕ) (n : Namespace) (s : PodState) (k : Standing) (pod : P
     (is_own_in_prepared spot which && holds_claim spot.name k) ≡ true → (s ≡ Prepared) × (holds_claim u k ≡ true)
 cover_of u n s k pod spot which.Claim there of c = cc
 cover_of u n s k pod spot which.Own there of c =
-    let x = both (is_in area.Prepared spot.area) (holds_claim spot.name k) c in
+    let x = and_parts (is_in area.Prepared spot.area) (holds_claim spot.name k) c in
     let y = found_pod u n s pod spot of there in (
       prepared_place s spot.area x.0 y.0,
       ap (λ (v : List ℕ). holds_claim v k)
-          (sym (name_same spot.name u (both (is_stage spot.area) (bytes_eq spot.name u) of).1)) ∙ x.1,
+          (sym (same_text spot.name u (and_parts (is_stage spot.area) (bytes_eq spot.name u) of).1)) ∙ x.1,
     )
 
-opened_named : (u : List ℕ) (spot : Spot) (kind : Which) → is_named u (target_of spot kind) ≡ is_of u spot
+opened_named : (u : List ℕ) (spot : Spot) (kind : Which) → is_named u (target_of spot kind) ≡ is_spot_of_pod u spot
 opened_named u spot which.Own = refl
 opened_named u spot which.Claim = refl
 
@@ -175,7 +173,7 @@ open_pod u n s p spot which h is pod =
     (λ of. let y = found_pod u n.namespace s pod spot (sym (opened_named u spot which) ∙ of)
     (open_stands n p spot which h is) in (
       y.1,
-      subst (λ (a : Area). age_in a ≤ age s) (sym (opened_area spot which))
+      subst (λ (a : Area). age_in a ≤ pod_progress s) (sym (opened_area spot which))
           (placed_age spot.area s y.0),
     ))
 

@@ -1,5 +1,7 @@
 -- A handle on Own that stands for the folder of a pod was opened at a place of the pod.
 use Rattle.std.proofs.Common.{arith, ◌≡◌, ◌⊎◌, inl, inr, ◌<◌, ℕ, Bool, true, false, not, ◌&&◌, ◌==◌, cond, bytes_eq, Some, None, unwrap_or, List, [], ◌∷◌, length, refl, sym, ap, subst, ◌∙◌}
+use Rattle.std.proofs.lemmas.Bool.{and_parts}
+use Rattle.plain_laws.proofs.Texts.{same_text}
 use Rattle.dir_model.specs.declared.area.Area.{Area}
 use Rattle.dir_model.specs.declared.spot.Spot.{Spot}
 use Rattle.dir_model.specs.declared.spot.Handle.{Handle}
@@ -17,19 +19,19 @@ use Rattle.dir_model.specs.Locks.{is_handle, target_of, is_own}
 use Rattle.dir_model.specs.State.{spot_eq, Namespace, DirState, folder_at, stands, empty_state}
 use Rattle.dir_model.specs.Trace.{namespace_replied, opened, opened_gate, state_next, states_next, state_after}
 use Rattle.dir_model.specs.Replies.{is_reply}
-use Rattle.dir_rules.specs.Standing.{is_of, nothing_standing, stood}
+use Rattle.dir_rules.specs.Standing.{is_spot_of_pod, nothing_standing, stood}
 use Rattle.dir_model.specs.Local.{is_own_of}
 use Rattle.dir_model.specs.Areas.{is_stage}
-use Rattle.dir_rules.specs.LockRules.{may_move_between}
+use Rattle.dir_rules.specs.LockRules.{locks_allow_move}
 use Rattle.lifecycle.specs.declared.machine.PodState.{PodState}
 use Rattle.lifecycle.specs.declared.machine.PodState.TheVariants.{Absent}
 use Rattle.dir_rules.specs.declared.standing.Standing.{Standing}
 use Rattle.lifecycle.proofs.Lists.{In, in_push, in_filter}
-use Rattle.lifecycle.proofs.Handles.{Sound, both, Was, locked_in, none_refused, refused_if}
+use Rattle.lifecycle.proofs.Handles.{Sound, Was, locked_in, none_refused, refused_if}
 use Rattle.dir_model.specs.declared.event.Event.{Event}
 use Rattle.lifecycle.specs.PodMachine.{pod_state_next}
 use Rattle.lifecycle.specs.Executions.{IsConforming}
-use Rattle.lifecycle.proofs.Places.{name_same, same_name, made_there, made_elsewhere, moved_there, moved_away, moved_elsewhere, removed_there, removed_elsewhere, none_stands}
+use Rattle.lifecycle.proofs.Places.{same_name, made_there, made_elsewhere, moved_there, moved_away, moved_elsewhere, removed_there, removed_elsewhere, none_stands}
 use Rattle.lifecycle.proofs.Numbers.{one_spot}
 use Rattle.dir_model.specs.declared.request.DirError.TheVariants.{Exists}
 use Rattle.lifecycle.proofs.Makes.{of_same, of_name}
@@ -39,7 +41,7 @@ use Rattle.lifecycle.proofs.Run.{Good, ConformingFrom, given, next_good, conform
 use Rattle.dir_model.proofs.Lists.{and_both, or_last}
 
 abbrev pub Right : List ℕ → Namespace → Type 0
-Right u n = (spot : Spot) → is_of u spot ≡ true → (f : ℕ) → folder_at n spot ≡ Some f → (o : Opening) →
+Right u n = (spot : Spot) → is_spot_of_pod u spot ≡ true → (f : ℕ) → folder_at n spot ≡ Some f → (o : Opening) →
     In o n.openings → is_own o.target ≡ true → o.folder ≡ Some f → is_own_of u o.target ≡ true
 
 right_opened : (u : List ℕ) (n : DirState) (p : ℕ) (spot : Spot) (kind : Which) (h : Handle) →
@@ -81,7 +83,7 @@ right_made u n p spot is sound right here of f at o i on same = by (spot_eq spot
         absurd (omega (arith, l, g))
 
 right_fewer : (u : List ℕ) (n m : Namespace) → ((spot : Spot) (f : ℕ) → folder_at m spot ≡ Some f →
-    is_of u spot ≡ true → (here : Spot) × ((is_of u here ≡ true) × (folder_at n here ≡ Some f))) →
+    is_spot_of_pod u spot ≡ true → (here : Spot) × ((is_spot_of_pod u here ≡ true) × (folder_at n here ≡ Some f))) →
     ((o : Opening) → In o m.openings → (a : Opening) ×
     (In a n.openings × ((o.target ≡ a.target) × (o.folder ≡ a.folder)))) → Right u n → Right u m
 right_fewer u n m places less right spot of f at o i on same =
@@ -90,8 +92,8 @@ right_fewer u n m places less right spot of f at o i on same =
     subst (λ (t : Target). is_own_of u t ≡ true) (sym a.1.1.0)
     (right x.0 x.1.0 f x.1.1 a.0 a.1.0 (subst (λ (t : Target). is_own t ≡ true) a.1.1.0 on) (sym a.1.1.1 ∙ same))
 
-same_places : (u : List ℕ) (n : Namespace) (spot : Spot) (f : ℕ) → folder_at n spot ≡ Some f → is_of u spot ≡ true →
-    (here : Spot) × ((is_of u here ≡ true) × (folder_at n here ≡ Some f))
+same_places : (u : List ℕ) (n : Namespace) (spot : Spot) (f : ℕ) → folder_at n spot ≡ Some f → is_spot_of_pod u spot ≡ true →
+    (here : Spot) × ((is_spot_of_pod u here ≡ true) × (folder_at n here ≡ Some f))
 same_places u n spot f at of = (spot, (of, at))
 
 none_found : {X : Type 0} (f : ℕ) → None ≡ Some f → X
@@ -107,21 +109,21 @@ right_moved u n s σ p from to g right =
     stand : (stands n.namespace from ≡ true) × (stands n.namespace to ≡ false)
     stand = stands_from n p from to g.is
 
-    ruled : is_of u to ≡ true → is_of u from ≡ true
+    ruled : is_spot_of_pod u to ≡ true → is_spot_of_pod u from ≡ true
     ruled of =
-        let pod = both (is_stage to.area) (bytes_eq to.name u) of in
-        let r = both (bytes_eq from.name to.name) (may_move_between (σ p) from.name from.area to.area)
-        (sym (ap (λ b. cond b (bytes_eq from.name to.name && may_move_between (σ p) from.name from.area to.area)
+        let pod = and_parts (is_stage to.area) (bytes_eq to.name u) of in
+        let r = and_parts (bytes_eq from.name to.name) (locks_allow_move (σ p) from.name from.area to.area)
+        (sym (ap (λ b. cond b (bytes_eq from.name to.name && locks_allow_move (σ p) from.name from.area to.area)
         true) (or_last (is_stage from.area) (is_stage to.area) pod.0)) ∙ g.rule refl) in
         and_both (is_stage from.area) (bytes_eq from.name u) (moves_pods (σ p) from.name from.area to.area r.1).0
-        (same_name from.name u (name_same from.name to.name r.0 ∙ of_name u to of))
+        (same_name from.name u (same_text from.name to.name r.0 ∙ of_name u to of))
 
     places : (spot : Spot) (f : ℕ) → folder_at (namespace_replied n.namespace p (MoveFolder from to) Done) spot ≡ Some f
-        → is_of u spot ≡ true → (here : Spot) × ((is_of u here ≡ true) × (folder_at n.namespace here ≡ Some f))
+        → is_spot_of_pod u spot ≡ true → (here : Spot) × ((is_spot_of_pod u here ≡ true) × (folder_at n.namespace here ≡ Some f))
     places spot f at of = by (spot_eq to spot) (spot_eq from spot) refl refl
       where
         by : (b c : Bool) → spot_eq to spot ≡ b → spot_eq from spot ≡ c →
-            (here : Spot) × ((is_of u here ≡ true) × (folder_at n.namespace here ≡ Some f))
+            (here : Spot) × ((is_spot_of_pod u here ≡ true) × (folder_at n.namespace here ≡ Some f))
         by true c e h = (
           from,
           (
@@ -139,10 +141,10 @@ right_removed u n p gone right =
     right_fewer u n (namespace_replied n p (RemoveFolder gone) Done) places (λ o i. (o, (i, (refl, refl)))) right
   where
     places : (spot : Spot) (f : ℕ) → folder_at (namespace_replied n p (RemoveFolder gone) Done) spot ≡ Some f →
-        is_of u spot ≡ true → (here : Spot) × ((is_of u here ≡ true) × (folder_at n here ≡ Some f))
+        is_spot_of_pod u spot ≡ true → (here : Spot) × ((is_spot_of_pod u here ≡ true) × (folder_at n here ≡ Some f))
     places spot f at of = by (spot_eq gone spot) refl
       where
-        by : (b : Bool) → spot_eq gone spot ≡ b → (here : Spot) × ((is_of u here ≡ true) × (folder_at n here ≡ Some f))
+        by : (b : Bool) → spot_eq gone spot ≡ b → (here : Spot) × ((is_spot_of_pod u here ≡ true) × (folder_at n here ≡ Some f))
         by true e = none_found f (sym (removed_there n spot gone e) ∙ at)
         by false e = (spot, (of, sym (removed_elsewhere n spot gone e) ∙ at))
 

@@ -1,6 +1,7 @@
 -- Who holds a pod by what it knows is its owner.
 use Rattle.std.proofs.Common.{arith, ◌≡◌, ◌⊎◌, inl, inr, ◌≤◌, ℕ, Bool, true, false, not, ◌&&◌, ◌||◌, ◌==◌, cond, bytes_eq, Option, Some, None, List, [], ◌∷◌, map, refl, sym, ap, subst, ◌∙◌}
 use Rattle.std.proofs.lemmas.Bool.Decides.{nat_tests}
+use Rattle.std.proofs.lemmas.Bool.{or_left, and_parts}
 use Rattle.dir_model.specs.declared.area.Area.{Area}
 use Rattle.dir_model.specs.declared.area.Area.TheVariants as area
 use Rattle.dir_model.specs.declared.spot.Spot.{Spot}
@@ -13,8 +14,8 @@ use Rattle.dir_model.specs.declared.request.Reply.{Reply}
 use Rattle.dir_model.specs.declared.request.Reply.TheVariants.{Done, Opened, Refused}
 use Rattle.dir_model.specs.Locks.{is_exclusive}
 use Rattle.dir_model.specs.State.{Namespace, DirState, lives, empty_state}
-use Rattle.dir_rules.specs.Standing.{and_move, area_of, find_held, held_in, holds_gate, is_garbage, is_in, is_of, last_of, looked_by, nothing_standing, standing_done, standing_from, standing_of, standing_replied, stood}
-use Rattle.dir_rules.specs.LockRules.{holds_pod, may_ask, may_move_between, moved_in, on_spot}
+use Rattle.dir_rules.specs.Standing.{and_move, area_of, find_held, held_with_mode, shares_area, is_garbage, is_in, is_spot_of_pod, last_move_of, looked_by, nothing_standing, standing_done, standing_from, standing_of, standing_replied, stood}
+use Rattle.dir_rules.specs.LockRules.{holds_pod, lock_rules_allow, locks_allow_move, moved_in, on_spot}
 use Rattle.dir_model.specs.Local.{is_own_of}
 use Rattle.dir_model.specs.Areas.{is_stage}
 use Rattle.dir_model.specs.Trace.{state_next, state_after}
@@ -22,20 +23,19 @@ use Rattle.lifecycle.specs.declared.machine.PodState.{PodState}
 use Rattle.lifecycle.specs.declared.machine.PodState.TheVariants.{Absent, Embryo, Preparing, AbortedPrepare, Prepared, Running, Exited, ExitedGarbage, Garbage, Deleting, Gone}
 use Rattle.lifecycle.specs.declared.machine.Transition.{Transition}
 use Rattle.lifecycle.specs.declared.machine.Transition.TheVariants as turn
-use Rattle.lifecycle.specs.PodMachine.{enabled, leads, turned, transition, arrival, if_so, on_opening, look, is_deleter, is_grip, is_owner, is_gone, age, age_in}
+use Rattle.lifecycle.specs.PodMachine.{enabled, leads, after_transition, transition, arrival, transition_if, on_opening, find_opening, is_deleter, is_exclusive_own, is_owner, is_gone, pod_progress, age_in}
 use Rattle.dir_rules.specs.declared.standing.Held.{Held}
 use Rattle.dir_rules.specs.declared.standing.Standing.{Standing}
-use Rattle.lifecycle.proofs.Lists.{In, or_left}
-use Rattle.lifecycle.proofs.Handles.{both, nat_same}
+use Rattle.lifecycle.proofs.Lists.{In}
 use Rattle.lifecycle.proofs.Linked.{own}
 use Rattle.lifecycle.proofs.Invariant.{may_own, own_named, holding, held_by, grip_of}
 use Rattle.dir_model.specs.declared.event.Event.{Event}
-use Rattle.lifecycle.specs.PodMachine.{pod_state_next, pod_state_from, pod_state, exists, is_deleting}
+use Rattle.lifecycle.specs.PodMachine.{pod_state_next, pod_state_from, pod_state, exists, is_being_deleted}
 use Rattle.lifecycle.specs.Executions.{IsConforming}
 use Rattle.lifecycle.proofs.Lives.{saw_other, saw_me}
-use Rattle.lifecycle.proofs.Step.{Given, stepped}
+use Rattle.lifecycle.proofs.Step.{Given, stepped, no_turn}
 use Rattle.lifecycle.proofs.Run.{Good, ConformingFrom, given, next_good, conforming_tail, good_start, conforming_from, good}
-use Rattle.dir_model.proofs.Lists.{and_both, or_last, same_self}
+use Rattle.dir_model.proofs.Lists.{and_both, or_last, same_self, same_number}
 
 -- the states in which this process moved it last to prepare, and to run
 abbrev pub after_prepare : PodState → ℕ → Bool
@@ -62,8 +62,8 @@ may_last s p area.Run = after_run s p
 may_last s p a = true
 
 pub record Traced (u : List ℕ) (p : ℕ) (s : PodState) (k : Standing) : Type 0 where
-  pub last : (spot : Spot) → last_of u k.moves ≡ Some spot → may_last s p spot.area ≡ true
-  pub mover : is_owner p s ≡ true → (is_deleting s || moved_in u k) ≡ true
+  pub last : (spot : Spot) → last_move_of u k.moves ≡ Some spot → may_last s p spot.area ≡ true
+  pub mover : is_owner p s ≡ true → (is_being_deleted s || moved_in u k) ≡ true
 
 apart : {X : Type 0} (p q o : ℕ) → (p == q) ≡ false → (p == o) ≡ true → (q == o) ≡ true → X
 apart p q o off h k = absurd (grind (arith, nat_tests))
@@ -152,7 +152,7 @@ own_last x p s area.Run i e h = own_run x p s i e h
 own_last x p s a i e h = refl
 
 own_owner : (x : Transition) (p : ℕ) (s : PodState) → is_stay x ≡ true → enabled x p s ≡ true →
-    is_owner p (leads x p s) ≡ true → is_deleting (leads x p s) ≡ true
+    is_owner p (leads x p s) ≡ true → is_being_deleted (leads x p s) ≡ true
 own_owner turn.BeginDelete p s i e h = refl
 own_owner turn.End p (Deleting o area.ExitedGarbage) i e h = cc
 own_owner turn.End p (Deleting o f) i e h = cc
@@ -163,7 +163,7 @@ abbrev Turns : Option Transition → ℕ → PodState → PodState → Type 0
 Turns o p s t = (t ≡ s) ⊎ ((x : Transition) × ((o ≡ Some x) × ((enabled x p s ≡ true) × (t ≡ leads x p s))))
 
 turns : (o : Option Transition) (p : ℕ) (s : PodState) → ((x : Transition) → o ≡ Some x → enabled x p s ≡ true) →
-    Turns o p s (turned o p s)
+    Turns o p s (after_transition o p s)
 turns None p s has = inl refl
 turns (Some x) p s has = inr (x, (refl, (has x refl, ap (λ b. cond b (leads x p s) s) (has x refl))))
 
@@ -179,14 +179,14 @@ traced_other u o p q s t k off (inr (y, (is, (able, e)))) x =
     })
 
 pub traced_stay : (u : List ℕ) (o : Option Transition) (p : ℕ) (s t : PodState) (k l : Standing) →
-    ((x : Transition) → o ≡ Some x → is_stay x ≡ true) → last_of u l.moves ≡ last_of u k.moves → Turns o p s t →
+    ((x : Transition) → o ≡ Some x → is_stay x ≡ true) → last_move_of u l.moves ≡ last_move_of u k.moves → Turns o p s t →
     Traced u p s k → Traced u p t l
 traced_stay u o p s t k l stay same (inl e) x =
     subst (λ (z : PodState). Traced u p z l) (sym e)
     (record {
       last = λ spot h. x.last spot (sym same ∙ h);
       mover =
-          λ h. ap (λ (m : Option Spot). is_deleting s || on_spot (λ spot. is_in area.Prepare spot.area || is_in area.Run
+          λ h. ap (λ (m : Option Spot). is_being_deleted s || on_spot (λ spot. is_in area.Prepare spot.area || is_in area.Run
           spot.area) m) same ∙ x.mover h;
     })
 traced_stay u o p s t k l stay same (inr (y, (is, (able, e)))) x =
@@ -194,7 +194,7 @@ traced_stay u o p s t k l stay same (inr (y, (is, (able, e)))) x =
     (record {
       last = λ spot h. own_last y p s spot.area (stay y is) able (x.last spot (sym same ∙ h));
       mover =
-          λ h. or_left (is_deleting (leads y p s)) (moved_in u l) (own_owner y p s (stay y is) able h);
+          λ h. or_left (is_being_deleted (leads y p s)) (moved_in u l) (own_owner y p s (stay y is) able h);
     })
 
 -- a move of the pod
@@ -239,74 +239,71 @@ arrived_in area.Garbage x p s is own = none turn.Sweep x is (λ (y : Transition)
         out e = cc
 arrived_in a x p s is own = cc
 
-pub traced_move : (u : List ℕ) (p : ℕ) (s t : PodState) (k : Standing) (from to : Spot) → is_of u to ≡ true →
+pub traced_move : (u : List ℕ) (p : ℕ) (s t : PodState) (k : Standing) (from to : Spot) → is_spot_of_pod u to ≡ true →
     (x : Transition) → arrival to.area ≡ Some x → t ≡ leads x p s → Traced u p t (standing_done k (MoveFolder from to))
 traced_move u p s t k from to of x is e =
     subst (λ (z : PodState). Traced u p z (standing_done k (MoveFolder from to))) (sym e) (record {
       last = λ spot h. subst (λ (z : Spot). may_last (leads x p s) p z.area ≡ true) (out spot (sym newest ∙ h))
           (arrived to.area x p s is);
-      mover = λ h. or_last (is_deleting (leads x p s)) (moved_in u (standing_done k (MoveFolder from to)))
+      mover = λ h. or_last (is_being_deleted (leads x p s)) (moved_in u (standing_done k (MoveFolder from to)))
           (ap (λ (m : Option Spot). on_spot (λ spot. is_in area.Prepare spot.area || is_in area.Run spot.area) m) newest
           ∙ arrived_in to.area x p s is h);
     })
   where
-    newest : last_of u (and_move to k.moves) ≡ Some to
-    newest = ap (λ b. last_of u (cond b (to ∷ k.moves) k.moves)) (both (is_stage to.area) (bytes_eq to.name u) of).0
-        ∙ ap (λ b. cond b (Some to) (last_of u k.moves)) of
+    newest : last_move_of u (and_move to k.moves) ≡ Some to
+    newest = ap (λ b. last_move_of u (cond b (to ∷ k.moves) k.moves)) (and_parts (is_stage to.area) (bytes_eq to.name u) of).0
+        ∙ ap (λ b. cond b (Some to) (last_move_of u k.moves)) of
 
     out : (spot : Spot) → Some to ≡ Some spot → to ≡ spot
     out spot e = cc
 
-so : (b : Bool) (a x : Transition) → if_so b a ≡ Some x → a ≡ x
+so : (b : Bool) (a x : Transition) → transition_if b a ≡ Some x → a ≡ x
 so true a x e = cc
 so false a x e = cc
 
-stays_so : (b : Bool) (a x : Transition) → is_stay a ≡ true → if_so b a ≡ Some x → is_stay x ≡ true
+stays_so : (b : Bool) (a x : Transition) → is_stay a ≡ true → transition_if b a ≡ Some x → is_stay x ≡ true
 stays_so b a x h e = subst (λ (y : Transition). is_stay y ≡ true) (so b a x e) h
 
 abbrev pub is_move_of : List ℕ → Request → Reply → Bool
-is_move_of u (MoveFolder from to) Done = is_of u to
+is_move_of u (MoveFolder from to) Done = is_spot_of_pod u to
 is_move_of u request reply = false
-
-not_stay : {X : Type 0} (x : Transition) → None ≡ Some x → X
-not_stay x e = absurd (cc)
 
 pub stay_turn : (u : List ℕ) (n : Namespace) (s : PodState) (p : ℕ) (request : Request) (reply : Reply) →
     is_move_of u request reply ≡ false → (x : Transition) → transition u n s p request reply ≡ Some x → is_stay x ≡ true
-stay_turn u n s p (MakeFolder spot) Done off x e = stays_so (is_of u spot) turn.Make x refl e
-stay_turn u n s p (MoveFolder from to) Done off x e = not_stay x (sym (ap (λ b. cond b (arrival to.area) None) off) ∙ e)
+stay_turn u n s p (MakeFolder spot) Done off x e = stays_so (is_spot_of_pod u spot) turn.Make x refl e
+stay_turn u n s p (MoveFolder from to) Done off x e = no_turn x (sym (ap (λ b. cond b (arrival to.area) None) off) ∙ e)
 stay_turn u n s p (TryLock h Exclusive) Done off x e =
-    stays_so (not (is_gone s) && on_opening (is_deleter u) (look n p h)) turn.BeginDelete x refl e
-stay_turn u n s p (TryLock h Shared) Done off x e = not_stay x e
-stay_turn u n s p (Close h) Done off x e = stays_so (is_owner p s && on_opening (is_grip u) (look n p h)) turn.End x refl e
-stay_turn u n s p (RemoveFolder spot) Done off x e = stays_so (is_of u spot) turn.Remove x refl e
+    stays_so (not (is_gone s) && on_opening (is_deleter u) (find_opening n p h)) turn.BeginDelete x refl e
+stay_turn u n s p (TryLock h Shared) Done off x e = no_turn x e
+stay_turn u n s p (Close h) Done off x e = stays_so (is_owner p s && on_opening (is_exclusive_own u) (find_opening n p h)) turn.End x refl e
+stay_turn u n s p (RemoveFolder spot) Done off x e = stays_so (is_spot_of_pod u spot) turn.Remove x refl e
 stay_turn u n s p request.Finish Done off x e = stays_so (is_owner p s) turn.End x refl e
 stay_turn u n s p Kill Done off x e = stays_so (is_owner p s) turn.End x refl e
-stay_turn u n s p (TryLock h Exclusive) reply off x e = not_stay x e
-stay_turn u n s p (TryLock h Shared) reply off x e = not_stay x e
-stay_turn u n s p request reply off x e = not_stay x e
+stay_turn u n s p (TryLock h Exclusive) reply off x e = no_turn x e
+stay_turn u n s p (TryLock h Shared) reply off x e = no_turn x e
+stay_turn u n s p request reply off x e = no_turn x e
 
 pub same_moves : (u : List ℕ) (k : Standing) (request : Request) (reply : Reply) → is_move_of u request reply ≡ false →
-    last_of u (standing_replied k request reply).moves ≡ last_of u k.moves
+    last_move_of u (standing_replied k request reply).moves ≡ last_move_of u k.moves
 same_moves u k request (Refused e left) off = refl
 same_moves u k (Open spot which) (Opened h) off = refl
 same_moves u k (OpenArea a) (Opened h) off = refl
 same_moves u k request (Opened h) off = refl
 same_moves u k (MakeFolder spot) Done off = by (is_stage spot.area)
   where
-    by : (b : Bool) → last_of u (cond b (record k { made = true; gated = holds_gate area.Embryo k }) k).moves ≡ last_of
+    by : (b : Bool) → last_move_of u (cond b (record k { made = true; embryo_under_lock = shares_area area.Embryo k }) k).moves ≡ last_move_of
         u k.moves
     by true = refl
     by false = refl
 same_moves u k (MoveFolder from to) Done off = by (is_stage to.area)
   where
-    by : (b : Bool) → last_of u (cond b (to ∷ k.moves) k.moves) ≡ last_of u k.moves
-    by true = ap (λ b. cond b (Some to) (last_of u k.moves)) off
+    by : (b : Bool) → last_move_of u (cond b (to ∷ k.moves) k.moves) ≡ last_move_of u k.moves
+    by true = ap (λ b. cond b (Some to) (last_move_of u k.moves)) off
     by false = refl
 same_moves u k (TryLock h Shared) Done off = by (find_held h k)
   where
-    by : (o : Option Held) → last_of u (looked_by o (record k { holdings = map (held_in h Shared) k.holdings })).moves ≡
-        last_of u k.moves
+    by : (o : Option Held) → last_move_of u (looked_by o (record k { holdings = map (held_with_mode h Shared) k.holdings })).moves ≡
+        last_move_of u k.moves
     by None = refl
     by (Some x) = refl
 same_moves u k (TryLock h Exclusive) Done off = refl
@@ -315,13 +312,13 @@ same_moves u k request reply off = refl
 
 -- a move of a pod that the rules allow is a transition
 some_arrival : (u : List ℕ) (n : DirState) (s : PodState) (σ : ℕ → Standing) (p : ℕ) (from to : Spot) →
-    is_of u to ≡ true → may_ask (σ p) (MoveFolder from to) ≡ true → (x : Transition) × (arrival to.area ≡ Some x)
+    is_spot_of_pod u to ≡ true → lock_rules_allow (σ p) (MoveFolder from to) ≡ true → (x : Transition) × (arrival to.area ≡ Some x)
 some_arrival u n s σ p from to of may =
-    by from.area to.area (both (bytes_eq from.name to.name) (may_move_between (σ p) from.name from.area to.area)
-    (sym (ap (λ b. cond b (bytes_eq from.name to.name && may_move_between (σ p) from.name from.area to.area) true)
-    (or_last (is_stage from.area) (is_stage to.area) (both (is_stage to.area) (bytes_eq to.name u) of).0)) ∙ may)).1
+    by from.area to.area (and_parts (bytes_eq from.name to.name) (locks_allow_move (σ p) from.name from.area to.area)
+    (sym (ap (λ b. cond b (bytes_eq from.name to.name && locks_allow_move (σ p) from.name from.area to.area) true)
+    (or_last (is_stage from.area) (is_stage to.area) (and_parts (is_stage to.area) (bytes_eq to.name u) of).0)) ∙ may)).1
   where
-    by : (a b : Area) → may_move_between (σ p) from.name a b ≡ true → (x : Transition) × (arrival b ≡ Some x)
+    by : (a b : Area) → locks_allow_move (σ p) from.name a b ≡ true → (x : Transition) × (arrival b ≡ Some x)
     by area.Embryo area.Prepare h = (turn.BeginPrepare, refl)
     by area.Embryo area.Garbage h = (turn.Sweep, refl)
     by area.Prepare area.Prepared h = (turn.Finish, refl)
@@ -350,14 +347,14 @@ traced_step u n s σ e g q x = by (e.process == q) refl
     moves : (request : Request) (reply : Reply) → Given u n s σ e.process request reply →
         is_move_of u request reply ≡ true → ((x : Transition) → transition u n.namespace s e.process request reply ≡
         Some x → enabled x e.process s ≡ true) → Traced u e.process
-        (turned (transition u n.namespace s e.process request reply) e.process s)
+        (after_transition (transition u n.namespace s e.process request reply) e.process s)
         (standing_replied (σ e.process) request reply)
     moves (MoveFolder from to) Done g of has =
         let x = some_arrival u n s σ e.process from to of (g.rule refl) in
         let is : transition u n.namespace s e.process (MoveFolder from to) Done ≡ Some x.0 =
         ap (λ b. cond b (arrival to.area) None) of ∙ x.1 in
-        traced_move u e.process s (turned (transition u n.namespace s e.process (MoveFolder from to) Done) e.process s)
-        (σ e.process) from to of x.0 x.1 (ap (λ (o : Option Transition). turned o e.process s) is
+        traced_move u e.process s (after_transition (transition u n.namespace s e.process (MoveFolder from to) Done) e.process s)
+        (σ e.process) from to of x.0 x.1 (ap (λ (o : Option Transition). after_transition o e.process s) is
         ∙ ap (λ b. cond b (leads x.0 e.process s) s) (has x.0 is))
     moves (MoveFolder from to) (Refused er left) g of has = cc
     moves (MoveFolder from to) (Opened h) g of has = cc
@@ -373,9 +370,9 @@ traced_step u n s σ e g q x = by (e.process == q) refl
     by : (b : Bool) → (e.process == q) ≡ b → Traced u q t (stood q (σ q) e)
     by false off = subst (λ (k : Standing). Traced u q t k) (sym (saw_other e.process q (σ q) e.request e.reply off))
         (traced_other u (transition u n.namespace s e.process e.request e.reply) e.process q s t (σ q) off turning x)
-    by true on = subst (λ (r : ℕ). Traced u r t (stood r (σ r) e)) (nat_same e.process q on)
+    by true on = subst (λ (r : ℕ). Traced u r t (stood r (σ r) e)) (same_number e.process q on)
         (subst (λ (k : Standing). Traced u e.process t k) (sym (saw_me e.process (σ e.process) e.request e.reply))
-        (own (subst (λ (r : ℕ). Traced u r s (σ r)) (sym (nat_same e.process q on)) x) (is_move_of u e.request e.reply)
+        (own (subst (λ (r : ℕ). Traced u r s (σ r)) (sym (same_number e.process q on)) x) (is_move_of u e.request e.reply)
         refl))
 
 traced_from : (u : List ℕ) (es : List Event) (n : DirState) (s : PodState) (σ : ℕ → Standing) → Good u n s σ →
@@ -398,24 +395,24 @@ owner_holds u h p conforming own = (
   living,
   held_by p (state_after h).namespace (standing_of p h)
       (λ b. grip_of u b && (moved_in u (standing_of p h) || is_garbage (area_of b.target))) (g.inv.knows p living).linked
-      o.0 o.1.0 o.1.1.1 (and_both (is_grip u o.0) (moved_in u (standing_of p h) || is_garbage (area_of o.0.target)) o.1.1.0
-      (by (pod_state u h) (is_deleting (pod_state u h)) (moved_in u (standing_of p h)) refl
+      o.0 o.1.0 o.1.1.1 (and_both (is_exclusive_own u o.0) (moved_in u (standing_of p h) || is_garbage (area_of o.0.target)) o.1.1.0
+      (by (pod_state u h) (is_being_deleted (pod_state u h)) (moved_in u (standing_of p h)) refl
       ((traced u h conforming p).mover own) (g.inv.pod.owns o.0 o.1.0 o.1.1.0))),
 )
   where
     g : Good u (state_after h) (pod_state u h) (λ q. standing_of q h)
     g = good u h conforming
 
-    o : (o : Opening) × (In o (state_after h).namespace.openings × ((is_grip u o ≡ true) × (o.process ≡ p)))
+    o : (o : Opening) × (In o (state_after h).namespace.openings × ((is_exclusive_own u o ≡ true) × (o.process ≡ p)))
     o = g.inv.pod.held p own
 
     living : lives (state_after h).namespace p ≡ true
     living = subst (λ (q : ℕ). lives (state_after h).namespace q ≡ true) o.1.1.1 (g.inv.sound.living o.0 o.1.0)
 
-    by : (s : PodState) (d m : Bool) → is_deleting s ≡ d → (d || m) ≡ true →
+    by : (s : PodState) (d m : Bool) → is_being_deleted s ≡ d → (d || m) ≡ true →
         may_own s o.0.process (area_of o.0.target) ≡ true → (m || is_garbage (area_of o.0.target)) ≡ true
     by s d true e f may = refl
-    by (Deleting w f) true false e x may = (both (o.0.process == w) (is_garbage (area_of o.0.target)) may).1
+    by (Deleting w f) true false e x may = (and_parts (o.0.process == w) (is_garbage (area_of o.0.target)) may).1
     by s true false e x may = cc
     by s false false e x may = cc
 
@@ -424,14 +421,14 @@ hold_moved : (s : PodState) (p : ℕ) (a : Area) → exists s ≡ true → may_o
     (after_prepare s p || after_run s p) ≡ true → is_owner p s ≡ true
 hold_moved (Preparing o) p a e may m = may
 hold_moved (Running o) p a e may m = may
-hold_moved (Deleting o f) p a e may m = (both (p == o) (is_garbage a) may).0
+hold_moved (Deleting o f) p a e may m = (and_parts (p == o) (is_garbage a) may).0
 hold_moved s p a e may m = cc
 
 hold_garbage : (s : PodState) (p : ℕ) (a : Area) → exists s ≡ true → may_own s p a ≡ true → is_garbage a ≡ true →
-    age_in a ≤ age s → is_owner p s ≡ true
+    age_in a ≤ pod_progress s → is_owner p s ≡ true
 hold_garbage (Preparing o) p a e may g l = may
 hold_garbage (Running o) p a e may g l = may
-hold_garbage (Deleting o f) p a e may g l = (both (p == o) (is_garbage a) may).0
+hold_garbage (Deleting o f) p a e may g l = (and_parts (p == o) (is_garbage a) may).0
 hold_garbage (Embryo m) p area.ExitedGarbage e may g l = absurd (omega (arith, l))
 hold_garbage (Embryo m) p area.Garbage e may g l = absurd (omega (arith, l))
 hold_garbage Prepared p area.ExitedGarbage e may g l = absurd (omega (arith, l))
@@ -453,8 +450,8 @@ holder_owns u h p conforming e living holds = by (moved_in u (standing_of p h)) 
         (λ b. grip_of u b && (moved_in u (standing_of p h) || is_garbage (area_of b.target)))
         (g.inv.knows p living).linked holds
 
-    x : (is_grip u o.0 ≡ true) × ((moved_in u (standing_of p h) || is_garbage (area_of o.0.target)) ≡ true)
-    x = both (is_grip u o.0) (moved_in u (standing_of p h) || is_garbage (area_of o.0.target)) o.1.1.1
+    x : (is_exclusive_own u o.0 ≡ true) × ((moved_in u (standing_of p h) || is_garbage (area_of o.0.target)) ≡ true)
+    x = and_parts (is_exclusive_own u o.0) (moved_in u (standing_of p h) || is_garbage (area_of o.0.target)) o.1.1.1
 
     may : may_own (pod_state u h) p (area_of o.0.target) ≡ true
     may = ap (λ q. may_own (pod_state u h) q (area_of o.0.target)) (sym o.1.1.0) ∙ g.inv.pod.owns o.0 o.1.0 x.0
@@ -465,7 +462,7 @@ holder_owns u h p conforming e living holds = by (moved_in u (standing_of p h)) 
     places area.Run i m = or_last (after_prepare (pod_state u h) p) (after_run (pod_state u h) p) m
     places a i m = cc
 
-    last : (m : Option Spot) → last_of u (standing_of p h).moves ≡ m →
+    last : (m : Option Spot) → last_move_of u (standing_of p h).moves ≡ m →
         on_spot (λ spot. is_in area.Prepare spot.area || is_in area.Run spot.area) m ≡ true →
         (after_prepare (pod_state u h) p || after_run (pod_state u h) p) ≡ true
     last (Some spot) f m = places spot.area m ((traced u h conforming p).last spot f)
@@ -473,7 +470,7 @@ holder_owns u h p conforming e living holds = by (moved_in u (standing_of p h)) 
 
     by : (b : Bool) → moved_in u (standing_of p h) ≡ b → (b || is_garbage (area_of o.0.target)) ≡ true →
         is_owner p (pod_state u h) ≡ true
-    by true m k = hold_moved (pod_state u h) p (area_of o.0.target) e may (last (last_of u (standing_of p h).moves) refl m)
+    by true m k = hold_moved (pod_state u h) p (area_of o.0.target) e may (last (last_move_of u (standing_of p h).moves) refl m)
     by false m k = hold_garbage (pod_state u h) p (area_of o.0.target) e may k
-        (g.inv.pod.named o.0 o.1.0 (own_named u o.0.target (both (is_own_of u o.0.target) (is_exclusive o.0.lock)
+        (g.inv.pod.named o.0 o.1.0 (own_named u o.0.target (and_parts (is_own_of u o.0.target) (is_exclusive o.0.lock)
         x.0).0)).1

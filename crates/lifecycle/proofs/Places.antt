@@ -1,15 +1,18 @@
 -- Which folder stands at a location after a make, a move or a removal.
-use Rattle.std.proofs.Common.{arith, ◌≡◌, ◌⊎◌, inl, inr, ◌+◌, ℕ, Bool, true, false, ◌&&◌, ◌==◌, cond, bytes_eq, Option, Some, None, is_some, List, [], ◌∷◌, ◌++◌, length, map, refl, sym, ap, ◌∙◌}
+use Rattle.std.proofs.Common.{arith, ◌≡◌, ◌⊎◌, inl, inr, ◌+◌, ℕ, Bool, true, false, ◌&&◌, ◌==◌, cond, bytes_eq, Option, Some, None, List, [], ◌∷◌, ◌++◌, length, map, refl, sym, ap, ◌∙◌}
 use Rattle.std.specs.List.{position_from}
 use Rattle.std.proofs.lemmas.Slice.Eq.{bytes_eq-Decides}
 use Rattle.std.proofs.lemmas.Iterator.Adapters.{position_from-zero}
+use Rattle.std.proofs.lemmas.Bool.{and_parts}
+use Rattle.plain_laws.proofs.Texts.{same_text}
+use Rattle.plain_laws.proofs.Numbers.{no_number}
 use Rattle.dir_model.specs.declared.spot.Spot.{Spot}
 use Rattle.dir_model.specs.Areas.{rank}
 use Rattle.dir_model.specs.State.{spot_eq, Namespace, folder_at, stands, is_at}
 use Rattle.dir_model.specs.Trace.{moved, removed}
 use Rattle.lifecycle.proofs.Lists.{In}
-use Rattle.lifecycle.proofs.Handles.{both, nat_same}
 use Rattle.dir_model.proofs.Spots.{spot_self}
+use Rattle.dir_model.proofs.Lists.{same_number}
 
 push_none : {X : Type 0} (t : X → Bool) (i : ℕ) (xs : List X) (y : X) → position_from t i xs ≡ None → t y ≡ true →
     position_from t i (xs ++ y ∷ []) ≡ Some (i + length xs)
@@ -54,16 +57,13 @@ all_none t i (x ∷ xs) off = rw (off x (inl refl), all_none t (i + 1) xs (λ z 
 
 -- two equal locations are equal to the same
 pub area_same : (a b : Spot) → spot_eq a b ≡ true → rank a.area ≡ rank b.area
-area_same a b h = nat_same (rank a.area) (rank b.area) (both (rank a.area == rank b.area) (bytes_eq a.name b.name) h).0
-
-pub name_same : (a b : List ℕ) → bytes_eq a b ≡ true → a ≡ b
-name_same a b h = (bytes_eq-Decides a b).0 h
+area_same a b h = same_number (rank a.area) (rank b.area) (and_parts (rank a.area == rank b.area) (bytes_eq a.name b.name) h).0
 
 pub same_name : (a b : List ℕ) → a ≡ b → bytes_eq a b ≡ true
 same_name a b h = (bytes_eq-Decides a b).1 h
 
 pub spot_name : (a b : Spot) → spot_eq a b ≡ true → a.name ≡ b.name
-spot_name a b h = name_same a.name b.name (both (rank a.area == rank b.area) (bytes_eq a.name b.name) h).1
+spot_name a b h = same_text a.name b.name (and_parts (rank a.area == rank b.area) (bytes_eq a.name b.name) h).1
 
 pub spot_right : (a b c : Spot) → spot_eq b c ≡ true → spot_eq a b ≡ spot_eq a c
 spot_right a b c h = ap (λ k. (rank a.area == k) && bytes_eq a.name b.name) (area_same b c h)
@@ -81,10 +81,6 @@ place n spot = position_from (is_at spot) 0 n.folders
 
 placed : (n : Namespace) (spot : Spot) → folder_at n spot ≡ place n spot
 placed n spot = position_from-zero (is_at spot) n.folders
-
-no_number : (o : Option ℕ) → is_some o ≡ false → o ≡ None
-no_number None h = refl
-no_number (Some k) h = cc
 
 pub none_stands : (n : Namespace) (spot : Spot) → stands n spot ≡ false → folder_at n spot ≡ None
 none_stands n spot h = no_number (folder_at n spot) h

@@ -1,5 +1,7 @@
 -- The invariant holds of every conforming execution.
 use Rattle.std.proofs.Common.{◌≡◌, ◌⊎◌, inl, inr, ℕ, Bool, true, false, not, ◌||◌, ◌==◌, cond, Option, Some, None, List, [], ◌∷◌, ◌++◌, map, refl, sym, ap, subst, ◌∙◌}
+use Rattle.std.proofs.lemmas.Bool.{and_parts}
+use Rattle.plain_laws.proofs.Booleans.{clash}
 use Rattle.dir_model.specs.declared.area.Area.TheVariants as area
 use Rattle.dir_model.specs.declared.spot.Mode.TheVariants.{Shared, Exclusive}
 use Rattle.dir_model.specs.declared.request.Request.{Request}
@@ -9,15 +11,15 @@ use Rattle.dir_model.specs.declared.request.Reply.TheVariants.{Done, Opened, Ref
 use Rattle.dir_model.specs.State.{DirState, lives, has_begun, empty_state}
 use Rattle.dir_model.specs.Replies.{is_reply}
 use Rattle.dir_model.specs.Calls.{may_step, is_kill, is_begin, is_foreign, is_allowed, is_run_from, event}
-use Rattle.dir_rules.specs.Standing.{draws, find_held, held_in, holds_gate, looked_by, nothing_standing, standing_from, standing_of, standing_replied, stood}
+use Rattle.dir_rules.specs.Standing.{draws, find_held, held_with_mode, shares_area, looked_by, nothing_standing, standing_from, standing_of, standing_replied, stood}
 use Rattle.dir_model.specs.Areas.{is_stage}
-use Rattle.dir_rules.specs.LockRules.{keeps_from, may_ask}
+use Rattle.dir_rules.specs.LockRules.{keeps_lock_rules_from, lock_rules_allow}
 use Rattle.dir_model.specs.Trace.{state_next, states_next, state_after}
 use Rattle.lifecycle.specs.declared.machine.PodState.{PodState}
 use Rattle.lifecycle.specs.declared.machine.PodState.TheVariants.{Absent}
 use Rattle.dir_rules.specs.declared.standing.Held.{Held}
 use Rattle.dir_rules.specs.declared.standing.Standing.{Standing}
-use Rattle.lifecycle.proofs.Handles.{is_due, both, clash, nat_same}
+use Rattle.lifecycle.proofs.Handles.{is_due}
 use Rattle.lifecycle.proofs.Invariant.{Knows, Invariant}
 use Rattle.dir_model.specs.declared.event.Event.{Event}
 use Rattle.lifecycle.specs.PodMachine.{pod_state_next, pod_state_from, pod_state}
@@ -30,7 +32,7 @@ use Rattle.dir_model.specs.Paths.{is_well_formed}
 use Rattle.lifecycle.proofs.Makes.{absent_place}
 use Rattle.lifecycle.proofs.Lives.{begun_me, unborn_before, lived, saw_other, saw_me}
 use Rattle.lifecycle.proofs.Step.{Given, Stepped, stepped}
-use Rattle.dir_model.proofs.Lists.{not_true, same_self}
+use Rattle.dir_model.proofs.Lists.{not_true, same_self, same_number}
 use Rattle.dir_model.proofs.Allowed.{allowed_parts}
 
 -- the invariant, and that who hasn't begun knows nothing
@@ -49,14 +51,14 @@ kept_draw u k request (Opened g) on h = h
 kept_draw u k (Begin intent) Done on h = cc
 kept_draw u k (MakeFolder spot) Done on h = by (is_stage spot.area)
   where
-    by : (b : Bool) → (draws u (cond b (record k { made = true; gated = holds_gate area.Embryo k }) k) ≡ true) ×
-        ((cond b (record k { made = true; gated = holds_gate area.Embryo k }) k).made ≡ true)
+    by : (b : Bool) → (draws u (cond b (record k { made = true; embryo_under_lock = shares_area area.Embryo k }) k) ≡ true) ×
+        ((cond b (record k { made = true; embryo_under_lock = shares_area area.Embryo k }) k).made ≡ true)
     by true = (h.0, refl)
     by false = h
 kept_draw u k (TryLock g Shared) Done on h = by (find_held g k)
   where
-    by : (o : Option Held) → (draws u (looked_by o (record k { holdings = map (held_in g Shared) k.holdings })) ≡ true)
-        × ((looked_by o (record k { holdings = map (held_in g Shared) k.holdings })).made ≡ true)
+    by : (o : Option Held) → (draws u (looked_by o (record k { holdings = map (held_with_mode g Shared) k.holdings })) ≡ true)
+        × ((looked_by o (record k { holdings = map (held_with_mode g Shared) k.holdings })).made ≡ true)
     by None = h
     by (Some x) = h
 kept_draw u k (TryLock g Exclusive) Done on h = h
@@ -89,12 +91,12 @@ next_maker u n s σ p request reply g x t (inl stays) = by g.inv.maker
         ((stood q (σ q) (event p request reply)).made ≡ true)
     kept q false e d c f = subst (λ (k : Standing). (draws u k ≡ true) × (k.made ≡ true))
         (sym (saw_other p q (σ q) request reply e)) d
-    kept q true e d true f = absurd (new_born q (sym (nat_same p q e)) f d)
+    kept q true e d true f = absurd (new_born q (sym (same_number p q e)) f d)
     kept q true e d false f = subst (λ (r : ℕ). (draws u (stood r (σ r) (event p request reply)) ≡ true) ×
-        ((stood r (σ r) (event p request reply)).made ≡ true)) (nat_same p q e)
+        ((stood r (σ r) (event p request reply)).made ≡ true)) (same_number p q e)
         (subst (λ (k : Standing). (draws u k ≡ true) × (k.made ≡ true)) (sym (saw_me p (σ p) request reply))
         (kept_draw u (σ p) request reply f (subst (λ (r : ℕ). (draws u (σ r) ≡ true) × ((σ r).made ≡ true))
-        (sym (nat_same p q e)) d)))
+        (sym (same_number p q e)) d)))
 
     by : (s ≡ Absent) ⊎ Maker u σ → (t ≡ Absent) ⊎ Maker u (λ q. stood q (σ q) (event p request reply))
     by (inl e) = inl (stays e)
@@ -122,51 +124,51 @@ next_good u n s σ e g =
         (sym (saw_other e.process q (σ q) e.request e.reply off))
         (x.others q off (g.inv.knows q (lived n.namespace e.process q e.request e.reply off living)))
     knows x q living true on = subst (λ (r : ℕ). Knows u r (state_next n e).namespace x.state (stood r (σ r) e))
-        (nat_same e.process q on) (subst (λ (k : Standing). Knows u e.process (state_next n e).namespace x.state k)
+        (same_number e.process q on) (subst (λ (k : Standing). Knows u e.process (state_next n e).namespace x.state k)
         (sym (saw_me e.process (σ e.process) e.request e.reply))
-        (x.me (subst (λ (r : ℕ). lives (state_next n e).namespace r ≡ true) (sym (nat_same e.process q on)) living)))
+        (x.me (subst (λ (r : ℕ). lives (state_next n e).namespace r ≡ true) (sym (same_number e.process q on)) living)))
 
     unborn : (q : ℕ) → has_begun (state_next n e).namespace q ≡ false → (b : Bool) → (e.process == q) ≡ b →
         stood q (σ q) e ≡ nothing_standing
     unborn q un false off = saw_other e.process q (σ q) e.request e.reply off
         ∙ g.unborn q (unborn_before n.namespace e.process q e.request e.reply un)
     unborn q un true on = clash (has_begun (state_next n e).namespace q)
-        (subst (λ (r : ℕ). has_begun (state_next n e).namespace r ≡ true) (nat_same e.process q on)
+        (subst (λ (r : ℕ). has_begun (state_next n e).namespace r ≡ true) (same_number e.process q on)
         (begun_me n e.process e.request e.reply g.may g.is)) un
 
 -- what is left of a conforming execution, from a state
 pub record ConformingFrom (u : List ℕ) (n : DirState) (σ : ℕ → Standing) (es : List Event) : Type 0 where
   pub run : is_run_from n es ≡ true
-  pub rules : (p : ℕ) → keeps_from p (σ p) es ≡ true
+  pub rules : (p : ℕ) → keeps_lock_rules_from p (σ p) es ≡ true
   pub distinct : (before later : List Event) → es ≡ before ++ later → (p q : ℕ) →
       draws u (standing_from p (σ p) before) ≡ true → draws u (standing_from q (σ q) before) ≡ true → p ≡ q
 
 pub given : (u : List ℕ) (n : DirState) (s : PodState) (σ : ℕ → Standing) (e : Event) (es : List Event) → Good u n s σ →
     ConformingFrom u n σ (e ∷ es) → Given u n s σ e.process e.request e.reply
 given u n s σ e es good conforming =
-    let a = both (is_allowed n e) (is_run_from (state_next n e) es) conforming.run in
+    let a = and_parts (is_allowed n e) (is_run_from (state_next n e) es) conforming.run in
     let b = allowed_parts n e a.0 in
-    let c = both (is_well_formed e.request) (is_due n.namespace e.process e.request) b.0 in
+    let c = and_parts (is_well_formed e.request) (is_due n.namespace e.process e.request) b.0 in
     record {
       inv = good.inv;
       unborn = good.unborn;
       may = c.1;
       is = b.1;
-      rule = λ alive. ruled (both (is_foreign e.process e || may_ask (σ e.process) e.request)
-          (keeps_from e.process (stood e.process (σ e.process) e) es) (conforming.rules e.process)).0
+      rule = λ alive. ruled (and_parts (is_foreign e.process e || lock_rules_allow (σ e.process) e.request)
+          (keeps_lock_rules_from e.process (stood e.process (σ e.process) e) es) (conforming.rules e.process)).0
           (ap (λ c. not c || is_kill e.request) (same_self e.process) ∙ alive);
       distinct = conforming.distinct [] (e ∷ es) refl;
     }
   where
-    ruled : (is_foreign e.process e || may_ask (σ e.process) e.request) ≡ true → is_foreign e.process e ≡ false →
-        may_ask (σ e.process) e.request ≡ true
-    ruled h off = ap (λ c. c || may_ask (σ e.process) e.request) (sym off) ∙ h
+    ruled : (is_foreign e.process e || lock_rules_allow (σ e.process) e.request) ≡ true → is_foreign e.process e ≡ false →
+        lock_rules_allow (σ e.process) e.request ≡ true
+    ruled h off = ap (λ c. c || lock_rules_allow (σ e.process) e.request) (sym off) ∙ h
 
 pub conforming_tail : (u : List ℕ) (n : DirState) (σ : ℕ → Standing) (e : Event) (es : List Event) →
     ConformingFrom u n σ (e ∷ es) → ConformingFrom u (state_next n e) (λ q. stood q (σ q) e) es
 conforming_tail u n σ e es conforming = record {
-  run = (both (is_allowed n e) (is_run_from (state_next n e) es) conforming.run).1;
-  rules = λ p. (both (is_foreign p e || may_ask (σ p) e.request) (keeps_from p (stood p (σ p) e) es) (conforming.rules p)).1;
+  run = (and_parts (is_allowed n e) (is_run_from (state_next n e) es) conforming.run).1;
+  rules = λ p. (and_parts (is_foreign p e || lock_rules_allow (σ p) e.request) (keeps_lock_rules_from p (stood p (σ p) e) es) (conforming.rules p)).1;
   distinct = λ before later is. conforming.distinct (e ∷ before) later (ap (λ (l : List Event). e ∷ l) is);
 }
 

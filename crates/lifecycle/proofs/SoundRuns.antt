@@ -2,6 +2,7 @@
 use Rattle.std.proofs.Common.{arith, ◌≡◌, ◌<◌, ◌≤◌, ℕ, Bool, true, false, not, ◌||◌, ◌==◌, Some, List, [], ◌∷◌, ◌++◌, length, map, filter, refl, ap}
 use Rattle.std.specs.List.{list_any}
 use Rattle.std.proofs.lemmas.Bool.Decides.{nat_tests}
+use Rattle.std.proofs.lemmas.Bool.{and_parts}
 use Rattle.dir_model.specs.declared.spot.Spot.{Spot}
 use Rattle.dir_model.specs.declared.request.Request.{Request}
 use Rattle.dir_model.specs.declared.request.Request.TheVariants.{Begin, MakeFolder, MoveFolder, Open, OpenArea, TryLock, Close, RemoveFolder, Finish, Kill}
@@ -13,7 +14,7 @@ use Rattle.dir_model.specs.Trace.{namespace_replied, opened, opened_gate, moved,
 use Rattle.dir_model.specs.Replies.{is_reply}
 use Rattle.dir_model.specs.declared.intent.Start.{Start}
 use Rattle.lifecycle.proofs.Lists.{in_filter, no_less}
-use Rattle.lifecycle.proofs.Handles.{Sound, fewer, more, lock_sound, lock_free, open_fresh, gate_fresh, is_due, both}
+use Rattle.lifecycle.proofs.Handles.{Sound, fewer, more, lock_sound, lock_free, open_fresh, gate_fresh, is_due}
 use Rattle.dir_model.proofs.Lists.{and_both, any_push, not_true}
 
 pub grown_by : {X : Type 0} (xs : List X) (y : X) → length xs ≤ length (xs ++ y ∷ [])
@@ -39,14 +40,14 @@ none_more t (x ∷ xs) y h k = by (t x) h (λ l. none_more t xs y l k)
 
 lives_begun : (n : Namespace) (b : Start) (q : ℕ) → lives n q ≡ true → lives (record n { begun = n.begun ++ b ∷ [] }) q ≡ true
 lives_begun n b q h =
-    let k = both (has_begun n q) (not (has_ended n q)) h in
+    let k = and_parts (has_begun n q) (not (has_ended n q)) h in
     and_both (list_any (λ start. start.process == q) (n.begun ++ b ∷ [])) (not (has_ended n q))
     (any_push (λ start. start.process == q) n.begun b k.0) k.1
 
 pub lives_on : (n : Namespace) (p q : ℕ) → lives n q ≡ true → (q == p) ≡ false →
     lives (record n { openings = filter (λ o. not (o.process == p)) n.openings; ended = n.ended ++ p ∷ [] }) q ≡ true
 lives_on n p q h apart =
-    let k = both (has_begun n q) (not (has_ended n q)) h in
+    let k = and_parts (has_begun n q) (not (has_ended n q)) h in
     and_both (has_begun n q) (not (list_any (λ r. r == q) (n.ended ++ p ∷ []))) k.0
     (ap not (none_more (λ r. r == q) n.ended p (not_true (has_ended n q) k.1) (turn p q apart)))
   where

@@ -5,20 +5,19 @@ use Rattle.dir_model.specs.declared.area.Area.TheVariants as area
 use Rattle.dir_model.specs.declared.spot.Spot.{Spot}
 use Rattle.dir_model.specs.Areas.{rank, is_stage, phase_in}
 use Rattle.dir_model.specs.State.{spot_eq, DirState, folder_at, stands, empty_state}
-use Rattle.dir_rules.specs.Standing.{is_of, standing_of, stood}
-use Rattle.dir_rules.specs.LockRules.{keeps_from, may_ask}
+use Rattle.dir_rules.specs.Standing.{is_spot_of_pod, standing_of, stood}
+use Rattle.dir_rules.specs.LockRules.{keeps_lock_rules_from, lock_rules_allow}
 use Rattle.dir_model.specs.Trace.{state_next, states_next, state_after}
 use Rattle.dir_model.specs.Between.{IsOwnedAt, StaysBetween}
 use Rattle.dir_model.specs.Calls.{is_foreign}
 use Rattle.lifecycle.specs.declared.machine.PodState.{PodState}
 use Rattle.lifecycle.specs.declared.machine.PodState.TheVariants.{Absent}
-use Rattle.lifecycle.specs.PodMachine.{age, age_in}
+use Rattle.lifecycle.specs.PodMachine.{pod_progress, age_in}
 use Rattle.dir_rules.specs.declared.standing.Standing.{Standing}
-use Rattle.lifecycle.proofs.Handles.{both}
 use Rattle.lifecycle.proofs.Invariant.{placed_age}
 use Rattle.std.proofs.Common.{append_assoc}
-use Rattle.std.specs.Prelude.{nat_le}
-use Rattle.std.proofs.lemmas.Bool.Decides.{nat_tests}
+use Rattle.std.proofs.lemmas.Bool.{and_parts}
+use Rattle.plain_laws.proofs.Numbers.{at_most}
 use Rattle.dir_model.specs.declared.event.Event.{Event}
 use Rattle.dir_model.proofs.Chains.{states_next-append, run_from-left}
 use Rattle.lifecycle.specs.PodMachine.{pod_state_next, pod_state_from, pod_state, phase_of_state}
@@ -45,39 +44,36 @@ shorter u es rest n σ l = record {
       (ap (λ (x : List Event). x ++ rest) is ∙ append_assoc before later rest);
 }
   where
-    keeps_left : (p : ℕ) (xs : List Event) (k : Standing) → keeps_from p k (xs ++ rest) ≡ true → keeps_from p k xs ≡ true
+    keeps_left : (p : ℕ) (xs : List Event) (k : Standing) → keeps_lock_rules_from p k (xs ++ rest) ≡ true → keeps_lock_rules_from p k xs ≡ true
     keeps_left p [] k h = refl
     keeps_left p (x ∷ xs) k h =
-        let y = both (is_foreign p x || may_ask k x.request) (keeps_from p (stood p k x) (xs ++ rest)) h in
-        and_both (is_foreign p x || may_ask k x.request) (keeps_from p (stood p k x) xs) y.0
+        let y = and_parts (is_foreign p x || lock_rules_allow k x.request) (keeps_lock_rules_from p (stood p k x) (xs ++ rest)) h in
+        and_both (is_foreign p x || lock_rules_allow k x.request) (keeps_lock_rules_from p (stood p k x) xs) y.0
         (keeps_left p xs (stood p k x) y.1)
-
-at_most : (n m : ℕ) → n ≤ m → nat_le n m ≡ true
-at_most n m l = grind (arith, nat_tests)
 
 -- a folder that is found twice at a stage of a pod's life stood there between
 pub stays_between : (h : List Event) → IsConforming h → StaysBetween h
 stays_between h conforming spot folder a b c d stage whole at again =
     let u : List ℕ = spot.name in
     let is : is_stage spot.area ≡ true = at_most (rank spot.area) 5 stage in
-    let of : is_of u spot ≡ true = and_both (is_stage spot.area) (bytes_eq spot.name u) is (same_name u u refl) in
+    let of : is_spot_of_pod u spot ≡ true = and_both (is_stage spot.area) (bytes_eq spot.name u) is (same_name u u refl) in
     let law : IsConforming (((a ++ b) ++ c) ++ d) = subst (λ (x : List Event). IsConforming x) whole conforming in
     let last = reached u ((a ++ b) ++ c) d law in
     let first = reached u a (b ++ (c ++ d)) (subst (λ (x : List Event). IsConforming x)
     (append_assoc (a ++ b) c d ∙ append_assoc a b (c ++ d)) law) in
     let there = found_pod u (state_after ((a ++ b) ++ c)).namespace (pod_state u ((a ++ b) ++ c)) last.good.inv.pod spot
     of again in
-    let top : age (pod_state u ((a ++ b) ++ c)) ≤ age_out spot.area = out_age spot.area (pod_state u ((a ++ b) ++ c)) there.0 in
+    let top : pod_progress (pod_state u ((a ++ b) ++ c)) ≤ age_out spot.area = out_age spot.area (pod_state u ((a ++ b) ++ c)) there.0 in
     let split : pod_state u ((a ++ b) ++ c) ≡ pod_state_from u (state_after (a ++ b)) (pod_state u (a ++ b)) c =
     machine_append u (a ++ b) c empty_state Absent in
-    let up : age (pod_state u (a ++ b)) ≤ age (pod_state u ((a ++ b) ++ c)) =
-    subst (λ (x : PodState). age (pod_state u (a ++ b)) ≤ age x) (sym split)
+    let up : pod_progress (pod_state u (a ++ b)) ≤ pod_progress (pod_state u ((a ++ b) ++ c)) =
+    subst (λ (x : PodState). pod_progress (pod_state u (a ++ b)) ≤ pod_progress x) (sym split)
     (ages u c (state_after (a ++ b)) (pod_state u (a ++ b))) in
-    let bound : age (pod_state u (a ++ b)) ≤ age_out spot.area = omega (arith, top, up) in
+    let bound : pod_progress (pod_state u (a ++ b)) ≤ age_out spot.area = omega (arith, top, up) in
     let part : ConformingFrom u (state_after a) (λ q. standing_of q a) b = left first.conforming in
     ap (λ (x : DirState). folder_at x.namespace spot) (states_next-append empty_state a b)
     ∙ stays_from u b (state_after a) (pod_state u a) (λ q. standing_of q a) spot folder first.good part of at
-    (subst (λ (x : PodState). age x ≤ age_out spot.area) (machine_append u a b empty_state Absent) bound)
+    (subst (λ (x : PodState). pod_progress x ≤ age_out spot.area) (machine_append u a b empty_state Absent) bound)
   where
     left : {u : List ℕ} → ConformingFrom u (state_after a) (λ q. standing_of q a) (b ++ (c ++ d)) →
         ConformingFrom u (state_after a) (λ q. standing_of q a) b
@@ -142,8 +138,8 @@ forward h more a b conforming p q same x y =
     (and_both (is_stage a.area) (bytes_eq a.name u) p (same_name u u refl)) x in
     let j = found_pod u (state_after (h ++ more)).namespace (pod_state u (h ++ more)) g.inv.pod b
     (and_both (is_stage b.area) (bytes_eq b.name u) q (same_name b.name u (sym same))) y in
-    let low : age_in a.area ≤ age (pod_state u h) = placed_age a.area (pod_state u h) i.0 in
-    let up : age (pod_state u h) ≤ age (pod_state u (h ++ more)) = subst (λ (z : PodState). age (pod_state u h) ≤ age z)
+    let low : age_in a.area ≤ pod_progress (pod_state u h) = placed_age a.area (pod_state u h) i.0 in
+    let up : pod_progress (pod_state u h) ≤ pod_progress (pod_state u (h ++ more)) = subst (λ (z : PodState). pod_progress (pod_state u h) ≤ pod_progress z)
     (sym (machine_append u h more empty_state Absent)) (ages u more (state_after h) (pod_state u h)) in
-    let top : age (pod_state u (h ++ more)) ≤ age_out b.area = out_age b.area (pod_state u (h ++ more)) j.0 in
+    let top : pod_progress (pod_state u (h ++ more)) ≤ age_out b.area = out_age b.area (pod_state u (h ++ more)) j.0 in
     rank_ages a.area b.area p q (omega (arith, low, up, top))

@@ -1,6 +1,9 @@
 -- One event of a conforming execution.
 use Rattle.std.proofs.Common.{◌≡◌, ◌⊎◌, inl, inr, ℕ, Bool, true, false, not, ◌&&◌, ◌||◌, ◌==◌, cond, bytes_eq, Option, Some, None, is_some, List, [], ◌∷◌, ◌++◌, map, refl, sym, ap, subst, ◌∙◌}
 use Rattle.std.specs.List.{list_any}
+use Rattle.std.proofs.lemmas.Bool.{and_parts}
+use Rattle.plain_laws.proofs.Booleans.{clash}
+use Rattle.plain_laws.proofs.Texts.{same_text}
 use Rattle.dir_model.specs.declared.area.Area.{Area}
 use Rattle.dir_model.specs.declared.area.Area.TheVariants as area
 use Rattle.dir_model.specs.declared.spot.Spot.{Spot}
@@ -19,23 +22,24 @@ use Rattle.dir_model.specs.State.{folder_at, spot_eq, Namespace, DirState, stand
 use Rattle.dir_model.specs.Trace.{without_process, namespace_replied, opened, opened_gate, moved, removed}
 use Rattle.dir_model.specs.Replies.{is_reply, refused_in, folder_refusal}
 use Rattle.dir_model.specs.Calls.{is_kill}
-use Rattle.dir_rules.specs.LockRules.{is_removal_held, is_removal_target, may_ask, may_move_between, may_remove}
-use Rattle.dir_rules.specs.Standing.{area_of, draws, find_held, holds_gate, holds_own, is_garbage, is_in, is_of, is_own_held, nothing_standing, standing_done, standing_replied}
+use Rattle.dir_rules.specs.LockRules.{is_removal_held, is_removal_target, lock_rules_allow, locks_allow_move, may_remove}
+use Rattle.dir_rules.specs.Standing.{area_of, draws, find_held, shares_area, holds_own, is_garbage, is_in, is_spot_of_pod, is_own_held, nothing_standing, standing_done, standing_replied}
 use Rattle.dir_model.specs.Local.{is_own_of}
 use Rattle.dir_model.specs.Areas.{is_stage}
 use Rattle.lifecycle.specs.declared.machine.PodState.{PodState}
 use Rattle.lifecycle.specs.declared.machine.PodState.TheVariants.{Absent, Embryo, Deleting, Gone}
 use Rattle.lifecycle.specs.declared.machine.Transition.{Transition}
 use Rattle.lifecycle.specs.declared.machine.Transition.TheVariants as turn
-use Rattle.lifecycle.specs.PodMachine.{enabled, turned, transition, arrival, if_so, on_opening, look, is_deleter, is_grip, is_owner, is_gone, is_place}
+use Rattle.lifecycle.specs.PodMachine.{enabled, after_transition, transition, arrival, transition_if, on_opening, find_opening, is_deleter, is_exclusive_own, is_owner, is_gone, is_area_of_state}
 use Rattle.dir_rules.specs.declared.standing.Standing.{Standing}
+use Rattle.dir_rules.proofs.Standings.{looked_holdings}
 use Rattle.lifecycle.proofs.Lists.{last_in, any_in, in_any}
-use Rattle.lifecycle.proofs.Handles.{both, clash, lock_free, none_refused, refused_if, is_due}
-use Rattle.lifecycle.proofs.Linked.{bare, mine, Linked, linked_own, linked_other, looked_holdings}
+use Rattle.lifecycle.proofs.Handles.{lock_free, none_refused, refused_if, is_due}
+use Rattle.lifecycle.proofs.Linked.{bare, mine, Linked, linked_own, linked_other}
 use Rattle.lifecycle.proofs.Invariant.{may_own, Pod, Knows, Invariant, holding, grip_of, others, others_still}
 use Rattle.dir_model.specs.declared.request.DirError.{DirError}
 use Rattle.dir_model.specs.declared.request.DirError.TheVariants.{Missing, Exists}
-use Rattle.lifecycle.proofs.Places.{name_same, same_name}
+use Rattle.lifecycle.proofs.Places.{same_name}
 use Rattle.lifecycle.proofs.Opens.{open_pod, open_knows, gate_pod, gate_knows, found_pod, ungripped_opened}
 use Rattle.lifecycle.proofs.Ends.{end_pod, end_others, close_pod, close_others, enabled_end, ends_or_not, either}
 use Rattle.lifecycle.proofs.Closes.{close_knows}
@@ -53,7 +57,7 @@ use Rattle.dir_model.proofs.Lists.{and_both, not_true, or_last, same_self}
 pub record Stepped (u : List ℕ) (n : Namespace) (s : PodState) (σ : ℕ → Standing) (p : ℕ) (request : Request)
     (reply : Reply) : Type 0 where
   pub state : PodState
-  pub turns : turned (transition u n s p request reply) p s ≡ state
+  pub turns : after_transition (transition u n s p request reply) p s ≡ state
   pub has : (x : Transition) → transition u n s p request reply ≡ Some x → enabled x p s ≡ true
   pub pod : Pod u (namespace_replied n p request reply) state
   pub me : lives (namespace_replied n p request reply) p ≡ true → Knows u p (namespace_replied n p request reply) state
@@ -69,10 +73,10 @@ pub record Given (u : List ℕ) (n : DirState) (s : PodState) (σ : ℕ → Stan
   pub unborn : (q : ℕ) → has_begun n.namespace q ≡ false → σ q ≡ nothing_standing
   pub may : is_due n.namespace p request ≡ true
   pub is : is_reply n p request reply ≡ true
-  pub rule : is_kill request ≡ false → may_ask (σ p) request ≡ true
+  pub rule : is_kill request ≡ false → lock_rules_allow (σ p) request ≡ true
   pub distinct : (a b : ℕ) → draws u (σ a) ≡ true → draws u (σ b) ≡ true → a ≡ b
 
-no_turn : {X : Type 0} (x : Transition) → None ≡ Some x → X
+pub no_turn : {X : Type 0} (x : Transition) → None ≡ Some x → X
 no_turn x e = absurd (cc)
 
 refused : (u : List ℕ) (n : Namespace) (s : PodState) (p : ℕ) (request : Request) (e : DirError) (left : ℕ) →
@@ -96,7 +100,7 @@ still : (u : List ℕ) (n : Namespace) (s : PodState) (σ : ℕ → Standing) (p
     Stepped u n s σ p request reply
 still u n s σ p request reply none pod me others = record {
   state = s;
-  turns = ap (λ (t : Option Transition). turned t p s) none;
+  turns = ap (λ (t : Option Transition). after_transition t p s) none;
   has = λ x e. no_turn x (sym none ∙ e);
   pod = pod;
   me = me;
@@ -118,7 +122,7 @@ stands_from n p from to is = by (stands n.namespace from) (stands n.namespace to
 
 move : (u : List ℕ) (n : DirState) (s : PodState) (σ : ℕ → Standing) (p : ℕ) (from to : Spot) →
     Given u n s σ p (MoveFolder from to) Done → Stepped u n.namespace s σ p (MoveFolder from to) Done
-move u n s σ p from to g = by (is_of u to) (is_stage from.area) (is_stage to.area) refl refl refl
+move u n s σ p from to g = by (is_spot_of_pod u to) (is_stage from.area) (is_stage to.area) refl refl refl
   where
     k : Standing
     k = σ p
@@ -127,40 +131,40 @@ move u n s σ p from to g = by (is_of u to) (is_stage from.area) (is_stage to.ar
     knows = g.inv.knows p g.may
 
     ruled : (b : Bool) → (is_stage from.area || is_stage to.area) ≡ b → b ≡ true →
-        (bytes_eq from.name to.name ≡ true) × (may_move_between k from.name from.area to.area ≡ true)
-    ruled true e h = both (bytes_eq from.name to.name) (may_move_between k from.name from.area to.area)
-        (sym (ap (λ b. cond b (bytes_eq from.name to.name && may_move_between k from.name from.area to.area) true) e)
+        (bytes_eq from.name to.name ≡ true) × (locks_allow_move k from.name from.area to.area ≡ true)
+    ruled true e h = and_parts (bytes_eq from.name to.name) (locks_allow_move k from.name from.area to.area)
+        (sym (ap (λ b. cond b (bytes_eq from.name to.name && locks_allow_move k from.name from.area to.area) true) e)
         ∙ g.rule refl)
     ruled false e h = cc
 
-    mine_moves : is_of u to ≡ true → (bytes_eq from.name to.name ≡ true) ×
-        (may_move_between k from.name from.area to.area ≡ true) → Stepped u n.namespace s σ p (MoveFolder from to) Done
+    mine_moves : is_spot_of_pod u to ≡ true → (bytes_eq from.name to.name ≡ true) ×
+        (locks_allow_move k from.name from.area to.area ≡ true) → Stepped u n.namespace s σ p (MoveFolder from to) Done
     mine_moves of_to r =
-        let name : from.name ≡ u = name_same from.name to.name r.0 ∙ of_name u to of_to in
+        let name : from.name ≡ u = same_text from.name to.name r.0 ∙ of_name u to of_to in
         let pods = moves_pods k from.name from.area to.area r.1 in
-        let of_from : is_of u from ≡ true = and_both (is_stage from.area) (bytes_eq from.name u) pods.0
+        let of_from : is_spot_of_pod u from ≡ true = and_both (is_stage from.area) (bytes_eq from.name u) pods.0
         (same_name from.name u name) in
         let stand = stands_from n p from to g.is in
         let at = found_pod u n.namespace s g.inv.pod from of_from stand.0 in
         let a = arrives u n.namespace s p σ from.area to.area g.inv.sound g.inv.pod g.inv.knows knows
-        (subst (λ (v : List ℕ). may_move_between k v from.area to.area ≡ true) name r.1) at.0 in
+        (subst (λ (v : List ℕ). locks_allow_move k v from.area to.area ≡ true) name r.1) at.0 in
         record {
           state = a.0;
-          turns = ap (λ b. turned (cond b (arrival to.area) None) p s) of_to ∙ a.1.turns;
+          turns = ap (λ b. after_transition (cond b (arrival to.area) None) p s) of_to ∙ a.1.turns;
           has = λ x e. a.1.has x (ap (λ b. cond b (arrival to.area) None) (sym of_to) ∙ e);
           pod = move_pod u n.namespace s a.0 p from to g.inv.pod of_from of_to at.0 stand.1 a.1;
           me = λ living. move_knows u n.namespace s a.0 p from to k of_from of_to at.0 a.1 knows;
           others = λ q off other. move_others u n.namespace s a.0 p q from to (σ q) off a.1 other;
-          absent = inl (λ e. clash (is_place from.area Absent) (subst (λ (x : PodState). is_place from.area x ≡ true) e
+          absent = inl (λ e. clash (is_area_of_state from.area Absent) (subst (λ (x : PodState). is_area_of_state from.area x ≡ true) e
               at.0) (absent_place from.area));
         }
 
-    not_mine : is_of u to ≡ false → is_of u from ≡ false → Stepped u n.namespace s σ p (MoveFolder from to) Done
+    not_mine : is_spot_of_pod u to ≡ false → is_spot_of_pod u from ≡ false → Stepped u n.namespace s σ p (MoveFolder from to) Done
     not_mine not_to not_from =
         still u n.namespace s σ p (MoveFolder from to) Done (ap (λ b. cond b (arrival to.area) None) not_to)
         (move_pod_other u n.namespace s from to not_from not_to g.inv.pod)
         (λ living. move_knows_other u n.namespace s p from to k
-        (λ e d f. clash (is_of u from) (and_both (is_stage from.area) (bytes_eq from.name u) (embryo_pod from.area e)
+        (λ e d f. clash (is_spot_of_pod u from) (and_both (is_stage from.area) (bytes_eq from.name u) (embryo_pod from.area e)
         (same_name from.name u (draws_meet from.name u k.intent d f))) not_from) knows)
         (λ q off other. knows_folders u n.namespace q s (σ q) (map (moved from to) n.namespace.folders) other)
       where
@@ -168,66 +172,66 @@ move u n s σ p from to g = by (is_of u to) (is_stage from.area) (is_stage to.ar
         embryo_pod area.Embryo h = refl
         embryo_pod a h = cc
 
-    from_not : is_of u to ≡ false → (bytes_eq from.name to.name ≡ true) ×
-        (may_move_between k from.name from.area to.area ≡ true) → (b : Bool) → is_of u from ≡ b → is_of u from ≡ false
+    from_not : is_spot_of_pod u to ≡ false → (bytes_eq from.name to.name ≡ true) ×
+        (locks_allow_move k from.name from.area to.area ≡ true) → (b : Bool) → is_spot_of_pod u from ≡ b → is_spot_of_pod u from ≡ false
     from_not not_to r false e = e
-    from_not not_to r true e = clash (is_of u to) (and_both (is_stage to.area) (bytes_eq to.name u)
+    from_not not_to r true e = clash (is_spot_of_pod u to) (and_both (is_stage to.area) (bytes_eq to.name u)
         (moves_pods k from.name from.area to.area r.1).1
-        (same_name to.name u (sym (name_same from.name to.name r.0) ∙ of_name u from e))) not_to
+        (same_name to.name u (sym (same_text from.name to.name r.0) ∙ of_name u from e))) not_to
 
-    by : (b c d : Bool) → is_of u to ≡ b → is_stage from.area ≡ c → is_stage to.area ≡ d →
+    by : (b c d : Bool) → is_spot_of_pod u to ≡ b → is_stage from.area ≡ c → is_stage to.area ≡ d →
         Stepped u n.namespace s σ p (MoveFolder from to) Done
     by true c d e f h = mine_moves e (ruled (is_stage from.area || is_stage to.area) refl
-        (or_last (is_stage from.area) (is_stage to.area) (both (is_stage to.area) (bytes_eq to.name u) e).0))
+        (or_last (is_stage from.area) (is_stage to.area) (and_parts (is_stage to.area) (bytes_eq to.name u) e).0))
     by false true d e f h = not_mine e
         (from_not e (ruled (is_stage from.area || is_stage to.area) refl (ap (λ b. b || is_stage to.area) f))
-        (is_of u from) refl)
+        (is_spot_of_pod u from) refl)
     by false false d e f h = not_mine e (ap (λ b. b && bytes_eq from.name u) f)
 
 make : (u : List ℕ) (n : DirState) (s : PodState) (σ : ℕ → Standing) (p : ℕ) (spot : Spot) →
     Given u n s σ p (MakeFolder spot) Done → Stepped u n.namespace s σ p (MakeFolder spot) Done
-make u n s σ p spot g = by (is_of u spot) refl
+make u n s σ p spot g = by (is_spot_of_pod u spot) refl
   where
     knows : Knows u p n.namespace s (σ p)
     knows = g.inv.knows p g.may
 
-    absent : is_of u spot ≡ true → Made u (σ p) spot →
+    absent : is_spot_of_pod u spot ≡ true → Made u (σ p) spot →
         (s ≡ Absent) ⊎ ((q : ℕ) × ((draws u (σ q) ≡ true) × ((σ q).made ≡ true))) → s ≡ Absent
     absent of m (inl e) = e
     absent of m (inr (q, (d, made))) =
         clash (σ p).made (subst (λ (r : ℕ). (σ r).made ≡ true)
         (g.distinct q p d (ap (λ (v : List ℕ). draws v (σ p)) (sym (of_name u spot of)) ∙ m.draws)) made) m.first
 
-    first : is_of u spot ≡ true → Made u (σ p) spot → s ≡ Absent → Stepped u n.namespace s σ p (MakeFolder spot) Done
+    first : is_spot_of_pod u spot ≡ true → Made u (σ p) spot → s ≡ Absent → Stepped u n.namespace s σ p (MakeFolder spot) Done
     first of m e = record {
       state = Embryo p;
-      turns = ap (λ b. turned (if_so b turn.Make) p s) of ∙ ap (λ (x : PodState). turned (Some turn.Make) p x) e;
-      has = λ x f. subst (λ (t : Transition). enabled t p s ≡ true) (out x (ap (λ b. if_so b turn.Make) (sym of) ∙ f))
+      turns = ap (λ b. after_transition (transition_if b turn.Make) p s) of ∙ ap (λ (x : PodState). after_transition (Some turn.Make) p x) e;
+      has = λ x f. subst (λ (t : Transition). enabled t p s ≡ true) (out x (ap (λ b. transition_if b turn.Make) (sym of) ∙ f))
           (ap (λ (z : PodState). enabled turn.Make p z) e);
       pod = make_pod u n.namespace p spot (refused_if (stands n.namespace spot) _
           (none_refused n p (MakeFolder spot) refl g.is)) of m.embryo
           (subst (λ (x : PodState). Pod u n.namespace x) e g.inv.pod);
       me = λ living. subst (λ b. Knows u p (and_folder n.namespace spot) (Embryo p)
-          (cond b (record (σ p) { made = true; gated = holds_gate area.Embryo (σ p) }) (σ p)))
-          (sym (both (is_stage spot.area) (bytes_eq spot.name u) of).0)
+          (cond b (record (σ p) { made = true; embryo_under_lock = shares_area area.Embryo (σ p) }) (σ p)))
+          (sym (and_parts (is_stage spot.area) (bytes_eq spot.name u) of).0)
           (make_knows u n.namespace p spot (σ p) of m (subst (λ (x : PodState). Knows u p n.namespace x (σ p)) e
           knows));
       others = λ q off other. make_others u n.namespace p q spot (σ q) off
           (subst (λ (x : PodState). Knows u q n.namespace x (σ q)) e other);
-      absent = inr (subst (λ b. (draws u (cond b (record (σ p) { made = true; gated = holds_gate area.Embryo (σ p) })
-          (σ p)) ≡ true) × ((cond b (record (σ p) { made = true; gated = holds_gate area.Embryo (σ p) }) (σ p)).made ≡
-          true)) (sym (both (is_stage spot.area) (bytes_eq spot.name u) of).0)
+      absent = inr (subst (λ b. (draws u (cond b (record (σ p) { made = true; embryo_under_lock = shares_area area.Embryo (σ p) })
+          (σ p)) ≡ true) × ((cond b (record (σ p) { made = true; embryo_under_lock = shares_area area.Embryo (σ p) }) (σ p)).made ≡
+          true)) (sym (and_parts (is_stage spot.area) (bytes_eq spot.name u) of).0)
           (ap (λ (v : List ℕ). draws v (σ p)) (sym (of_name u spot of)) ∙ m.draws, refl));
     }
       where
         out : (x : Transition) → Some turn.Make ≡ Some x → turn.Make ≡ x
         out x f = cc
 
-    by : (b : Bool) → is_of u spot ≡ b → Stepped u n.namespace s σ p (MakeFolder spot) Done
+    by : (b : Bool) → is_spot_of_pod u spot ≡ b → Stepped u n.namespace s σ p (MakeFolder spot) Done
     by true of =
-        let m = made_by u (σ p) spot (both (is_stage spot.area) (bytes_eq spot.name u) of).0 (g.rule refl) in
+        let m = made_by u (σ p) spot (and_parts (is_stage spot.area) (bytes_eq spot.name u) of).0 (g.rule refl) in
         first of m (absent of m g.inv.maker)
-    by false off = still u n.namespace s σ p (MakeFolder spot) Done (ap (λ b. if_so b turn.Make) off)
+    by false off = still u n.namespace s σ p (MakeFolder spot) Done (ap (λ b. transition_if b turn.Make) off)
         (make_pod_other u n.namespace s spot off g.inv.pod)
         (λ living. make_knows_other u n.namespace p s spot (σ p) off (g.rule refl) knows)
         (λ q apart other. knows_folders u n.namespace q s (σ q) (n.namespace.folders ++ Some spot ∷ []) other)
@@ -237,7 +241,7 @@ pub removal_own : (k : Standing) (spot : Spot) → is_stage spot.area ≡ true �
     (is_garbage spot.area ≡ true) × (holds_own spot.name k ≡ true)
 removal_own k spot pod may =
     let e = any_in (is_removal_held spot) k.holdings may in
-    let x = both (is_exclusive e.0.lock) (is_removal_target spot e.0.target) e.1.1 in
+    let x = and_parts (is_exclusive e.0.lock) (is_removal_target spot e.0.target) e.1.1 in
     let y = on e.0.target x.1 in (
       y.0,
       in_any (is_own_held spot.name) e.0 k.holdings e.1.0
@@ -250,17 +254,17 @@ removal_own k spot pod may =
 
     on : (t : Target) → is_removal_target spot t ≡ true → (is_garbage spot.area ≡ true) × (is_own_of spot.name t ≡ true)
     on (Own here) h =
-        let x = both (is_garbage spot.area) (spot_eq here spot) h in (
+        let x = and_parts (is_garbage spot.area) (spot_eq here spot) h in (
           x.0,
           of_same spot.name here spot x.1 ∙ and_both (is_stage spot.area) (bytes_eq spot.name spot.name) pod
               (same_name spot.name spot.name refl),
         )
     on (Claim here) h = cc
-    on (Gate gate) h = apart spot.area (both (is_in area.Removed spot.area) (is_in area.Removed gate) h).0 pod
+    on (Gate gate) h = apart spot.area (and_parts (is_in area.Removed spot.area) (is_in area.Removed gate) h).0 pod
 
 remove : (u : List ℕ) (n : DirState) (s : PodState) (σ : ℕ → Standing) (p : ℕ) (spot : Spot) →
     Given u n s σ p (RemoveFolder spot) Done → Stepped u n.namespace s σ p (RemoveFolder spot) Done
-remove u n s σ p spot g = by (is_of u spot) refl
+remove u n s σ p spot g = by (is_spot_of_pod u spot) refl
   where
     knows : Knows u p n.namespace s (σ p)
     knows = g.inv.knows p g.may
@@ -269,18 +273,18 @@ remove u n s σ p spot g = by (is_of u spot) refl
     standing_by (Some folder) h = refl
     standing_by None h = cc
 
-    there : is_of u spot ≡ true → is_place spot.area s ≡ true
+    there : is_spot_of_pod u spot ≡ true → is_area_of_state spot.area s ≡ true
     there of = (found_pod u n.namespace s g.inv.pod spot of
         (standing_by (folder_at n.namespace spot) (none_refused n p (RemoveFolder spot) refl g.is))).0
 
-    ruled : is_of u spot ≡ true → (is_garbage spot.area ≡ true) × (holds_own spot.name (σ p) ≡ true)
-    ruled of = removal_own (σ p) spot (both (is_stage spot.area) (bytes_eq spot.name u) of).0 (g.rule refl)
+    ruled : is_spot_of_pod u spot ≡ true → (is_garbage spot.area ≡ true) × (holds_own spot.name (σ p) ≡ true)
+    ruled of = removal_own (σ p) spot (and_parts (is_stage spot.area) (bytes_eq spot.name u) of).0 (g.rule refl)
 
-    removes : is_of u spot ≡ true → (f : Area) × (s ≡ Deleting p f) → Stepped u n.namespace s σ p (RemoveFolder spot) Done
+    removes : is_spot_of_pod u spot ≡ true → (f : Area) × (s ≡ Deleting p f) → Stepped u n.namespace s σ p (RemoveFolder spot) Done
     removes of (f, e) = record {
       state = Gone;
-      turns = ap (λ b. turned (if_so b turn.Remove) p s) of ∙ ap (λ b. cond b Gone s) (able e);
-      has = λ x h. subst (λ (t : Transition). enabled t p s ≡ true) (out x (ap (λ b. if_so b turn.Remove) (sym of) ∙ h))
+      turns = ap (λ b. after_transition (transition_if b turn.Remove) p s) of ∙ ap (λ b. cond b Gone s) (able e);
+      has = λ x h. subst (λ (t : Transition). enabled t p s ≡ true) (out x (ap (λ b. transition_if b turn.Remove) (sym of) ∙ h))
           (able e);
       pod = remove_pod u n.namespace s spot of (there of) g.inv.pod;
       me = λ living. remove_knows u n.namespace p p f spot (σ p)
@@ -299,19 +303,19 @@ remove u n s σ p spot g = by (is_of u spot) refl
         out : (x : Transition) → Some turn.Remove ≡ Some x → turn.Remove ≡ x
         out x f = cc
 
-    by : (b : Bool) → is_of u spot ≡ b → Stepped u n.namespace s σ p (RemoveFolder spot) Done
+    by : (b : Bool) → is_spot_of_pod u spot ≡ b → Stepped u n.namespace s σ p (RemoveFolder spot) Done
     by true of =
         let r = ruled of in
         let o = holding p n.namespace (σ p) (grip_of u) knows.linked
         (ap (λ (v : List ℕ). holds_own v (σ p)) (sym (of_name u spot of)) ∙ r.1) in
         removes of (deleting p s spot.area (area_of o.0.target) r.0 (there of)
         (ap (λ q. may_own s q (area_of o.0.target)) (sym o.1.1.0) ∙ g.inv.pod.owns o.0 o.1.0 o.1.1.1))
-    by false off = still u n.namespace s σ p (RemoveFolder spot) Done (ap (λ b. if_so b turn.Remove) off)
+    by false off = still u n.namespace s σ p (RemoveFolder spot) Done (ap (λ b. transition_if b turn.Remove) off)
         (remove_pod_other u n.namespace s spot off g.inv.pod)
         (λ living. knows_folders u n.namespace p s (σ p) (map (removed spot) n.namespace.folders) knows)
         (λ q apart other. knows_folders u n.namespace q s (σ q) (map (removed spot) n.namespace.folders) other)
 
-deletes_nothing : (p : ℕ) (b : Bool) → turned (if_so b turn.BeginDelete) p Absent ≡ Absent
+deletes_nothing : (p : ℕ) (b : Bool) → after_transition (transition_if b turn.BeginDelete) p Absent ≡ Absent
 deletes_nothing p true = refl
 deletes_nothing p false = refl
 
@@ -339,8 +343,8 @@ lock u n s σ p h m g = by m (lock_of p n.namespace (σ p) h m g.inv.sound knows
           others = λ q off other. lock_others u n.namespace s x.state p q (σ p) (σ q) h Exclusive off (same q off)
               x.locking other;
           absent = inl (λ e. sym x.turns ∙
-              (ap (λ (y : PodState). turned (transition u n.namespace y p (TryLock h Exclusive) Done) p y) e
-              ∙ deletes_nothing p (not (is_gone Absent) && on_opening (is_deleter u) (look n.namespace p h))));
+              (ap (λ (y : PodState). after_transition (transition u n.namespace y p (TryLock h Exclusive) Done) p y) e
+              ∙ deletes_nothing p (not (is_gone Absent) && on_opening (is_deleter u) (find_opening n.namespace p h))));
         }
     by Shared l linked same =
         let x = lock_still u p n.namespace s (σ p) h g.inv.sound g.inv.pod knows l in
@@ -350,24 +354,24 @@ lock u n s σ p h m g = by m (lock_of p n.namespace (σ p) h m g.inv.sound knows
         (sym (ap (map bare) (looked_holdings (find_held h (σ p)) (and_held_in (σ p) h Shared))) ∙ linked) x knows))
         (λ q off other. lock_others u n.namespace s s p q (σ p) (σ q) h Shared off (same q off) x other)
 
-end_has : (p : ℕ) (s : PodState) (c : Bool) (x : Transition) → if_so (is_owner p s && c) turn.End ≡ Some x →
+end_has : (p : ℕ) (s : PodState) (c : Bool) (x : Transition) → transition_if (is_owner p s && c) turn.End ≡ Some x →
     enabled x p s ≡ true
 end_has p s c x e = by (is_owner p s && c) refl e
   where
     out : Some turn.End ≡ Some x → turn.End ≡ x
     out f = cc
 
-    by : (b : Bool) → (is_owner p s && c) ≡ b → if_so b turn.End ≡ Some x → enabled x p s ≡ true
-    by true f e = subst (λ (t : Transition). enabled t p s ≡ true) (out e) (enabled_end p s ∙ (both (is_owner p s) c f).0)
+    by : (b : Bool) → (is_owner p s && c) ≡ b → transition_if b turn.End ≡ Some x → enabled x p s ≡ true
+    by true f e = subst (λ (t : Transition). enabled t p s ≡ true) (out e) (enabled_end p s ∙ (and_parts (is_owner p s) c f).0)
     by false f e = no_turn x e
 
-end_has_own : (p : ℕ) (s : PodState) (x : Transition) → if_so (is_owner p s) turn.End ≡ Some x → enabled x p s ≡ true
+end_has_own : (p : ℕ) (s : PodState) (x : Transition) → transition_if (is_owner p s) turn.End ≡ Some x → enabled x p s ≡ true
 end_has_own p s x e = by (is_owner p s) refl e
   where
     out : Some turn.End ≡ Some x → turn.End ≡ x
     out f = cc
 
-    by : (b : Bool) → is_owner p s ≡ b → if_so b turn.End ≡ Some x → enabled x p s ≡ true
+    by : (b : Bool) → is_owner p s ≡ b → transition_if b turn.End ≡ Some x → enabled x p s ≡ true
     by true f e = subst (λ (t : Transition). enabled t p s ≡ true) (out e) (enabled_end p s ∙ f)
     by false f e = no_turn x e
 
@@ -376,44 +380,44 @@ dead : (n : Namespace) (p : ℕ) → lives (without_process n p) p ≡ true → 
 dead n p h = clash (list_any (λ r. r == p) (n.ended ++ p ∷ []))
     (in_any (λ r. r == p) p (n.ended ++ p ∷ []) (last_in n.ended p) (same_self p))
     (not_true (list_any (λ r. r == p) (n.ended ++ p ∷ []))
-    (both (has_begun n p) (not (list_any (λ r. r == p) (n.ended ++ p ∷ []))) h).1)
+    (and_parts (has_begun n p) (not (list_any (λ r. r == p) (n.ended ++ p ∷ []))) h).1)
 
 ends : (u : List ℕ) (n : Namespace) (s : PodState) (σ : ℕ → Standing) (p : ℕ) → Pod u n s →
     Stepped u n s σ p request.Finish Done
 ends u n s σ p pod = record {
-  state = turned (if_so (is_owner p s) turn.End) p s;
+  state = after_transition (transition_if (is_owner p s) turn.End) p s;
   turns = refl;
   has = λ x e. end_has_own p s x e;
   pod = end_pod u n s p pod;
   me = λ living. absurd (dead n p living);
   others = λ q off other. end_others u n s p q (σ q) (linked_other q p n request.Finish Done off) other;
-  absent = inl (λ e. ap (λ (x : PodState). turned (if_so (is_owner p x) turn.End) p x) e);
+  absent = inl (λ e. ap (λ (x : PodState). after_transition (transition_if (is_owner p x) turn.End) p x) e);
 }
 
 is_killed : (u : List ℕ) (n : Namespace) (s : PodState) (σ : ℕ → Standing) (p : ℕ) → Pod u n s → Stepped u n s σ p Kill Done
 is_killed u n s σ p pod = record {
-  state = turned (if_so (is_owner p s) turn.End) p s;
+  state = after_transition (transition_if (is_owner p s) turn.End) p s;
   turns = refl;
   has = λ x e. end_has_own p s x e;
   pod = end_pod u n s p pod;
   me = λ living. absurd (dead n p living);
   others = λ q off other. end_others u n s p q (σ q) (linked_other q p n Kill Done off) other;
-  absent = inl (λ e. ap (λ (x : PodState). turned (if_so (is_owner p x) turn.End) p x) e);
+  absent = inl (λ e. ap (λ (x : PodState). after_transition (transition_if (is_owner p x) turn.End) p x) e);
 }
 
 close : (u : List ℕ) (n : DirState) (s : PodState) (σ : ℕ → Standing) (p : ℕ) (h : Handle) →
     Given u n s σ p (Close h) Done → Stepped u n.namespace s σ p (Close h) Done
 close u n s σ p h g = record {
-  state = turned (if_so (is_owner p s && on_opening (is_grip u) (look n.namespace p h)) turn.End) p s;
+  state = after_transition (transition_if (is_owner p s && on_opening (is_exclusive_own u) (find_opening n.namespace p h)) turn.End) p s;
   turns = refl;
-  has = λ x e. end_has p s (on_opening (is_grip u) (look n.namespace p h)) x e;
+  has = λ x e. end_has p s (on_opening (is_exclusive_own u) (find_opening n.namespace p h)) x e;
   pod = close_pod u n.namespace s p h g.inv.sound g.inv.pod;
   me = λ living. close_knows u n.namespace s
-      (turned (if_so (is_owner p s && on_opening (is_grip u) (look n.namespace p h)) turn.End) p s) p h (σ p)
-      g.inv.sound (g.rule refl) (either p s (on_opening (is_grip u) (look n.namespace p h))
-      (ends_or_not p s (on_opening (is_grip u) (look n.namespace p h)))) (g.inv.knows p g.may);
+      (after_transition (transition_if (is_owner p s && on_opening (is_exclusive_own u) (find_opening n.namespace p h)) turn.End) p s) p h (σ p)
+      g.inv.sound (g.rule refl) (either p s (on_opening (is_exclusive_own u) (find_opening n.namespace p h))
+      (ends_or_not p s (on_opening (is_exclusive_own u) (find_opening n.namespace p h)))) (g.inv.knows p g.may);
   others = λ q off other. close_others u n.namespace s p q h (σ q) (linked_other q p n.namespace (Close h) Done off) other;
-  absent = inl (λ e. ap (λ (x : PodState). turned (if_so (is_owner p x && on_opening (is_grip u) (look n.namespace p h))
+  absent = inl (λ e. ap (λ (x : PodState). after_transition (transition_if (is_owner p x && on_opening (is_exclusive_own u) (find_opening n.namespace p h))
       turn.End) p x) e);
 }
 

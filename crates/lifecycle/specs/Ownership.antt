@@ -12,26 +12,26 @@ use Rattle.dir_model.specs.State.{Namespace, folder_at, stands, is_owned, lives}
 use Rattle.dir_model.specs.Trace.{state_after}
 use Rattle.dir_model.specs.Calls.{event}
 use Rattle.dir_rules.specs.declared.seen.Seen.{Seen}
-use Rattle.dir_rules.specs.Standing.{is_of}
-use Rattle.dir_rules.specs.Rules.{owns, is_asked}
+use Rattle.dir_rules.specs.Standing.{is_spot_of_pod}
+use Rattle.dir_rules.specs.Rules.{owns_pod, has_asked_for_removal}
 use Rattle.dir_rules.specs.Conforms.{seen_of}
 use Rattle.lifecycle.specs.declared.machine.PodState.{PodState}
 use Rattle.lifecycle.specs.declared.machine.PodState.TheVariants.{Prepared}
 use Rattle.lifecycle.specs.declared.machine.Transition.{Transition}
 use Rattle.lifecycle.specs.declared.machine.Transition.TheVariants.{Sweep}
-use Rattle.lifecycle.specs.PodMachine.{enabled, transition, exists, is_place, is_owner, is_deleting, phase_of_state, owner_of, pod_state}
+use Rattle.lifecycle.specs.PodMachine.{enabled, transition, exists, is_area_of_state, is_owner, is_being_deleted, phase_of_state, owner_of, pod_state}
 
 -- a prepared pod is swept only where the process asks for it
-abbrev pub is_wanted : Transition → PodState → Seen → List ℕ → Bool
-is_wanted Sweep Prepared seen name = is_asked seen name
-is_wanted t s seen name = true
+abbrev pub is_requested_if_discarded : Transition → PodState → Seen → List ℕ → Bool
+is_requested_if_discarded Sweep Prepared seen name = has_asked_for_removal seen name
+is_requested_if_discarded t s seen name = true
 
 -- an event that is a transition of the pod is one that the pod's state has and its process wants
 abbrev pub TransitionsAreEnabled : List ℕ → List Event → Type 0
 TransitionsAreEnabled name trace =
     (before : List Event) (e : Event) (later : List Event) (t : Transition) → trace ≡ before ++ e ∷ later →
     transition name (state_after before).namespace (pod_state name before) e.process e.request e.reply ≡ Some t →
-    (enabled t e.process (pod_state name before) && is_wanted t (pod_state name before) (seen_of e.process before) name) ≡ true
+    (enabled t e.process (pod_state name before) && is_requested_if_discarded t (pod_state name before) (seen_of e.process before) name) ≡ true
 
 -- where the pod of this name would stand in an area
 abbrev pub place_in : List ℕ → Area → Spot
@@ -40,17 +40,17 @@ place_in name area = record { area = area; name = name }
 -- the pod's folder stands exactly where the pod exists, and in the area of its state
 pub record StandsWhereItExists (name : List ℕ) (n : Namespace) (s : PodState) : Type 0 where
   pub somewhere : exists s ≡ true → (area : Area) × (is_stage area ≡ true) × (stands n (place_in name area) ≡ true)
-  pub only : (spot : Spot) → is_of name spot ≡ true → stands n spot ≡ true → (exists s && is_place spot.area s) ≡ true
+  pub only : (spot : Spot) → is_spot_of_pod name spot ≡ true → stands n spot ≡ true → (exists s && is_area_of_state spot.area s) ≡ true
 
 -- the phase that follows from the folder's area and lock is that of the state
 abbrev pub PlaceTellsPhase : List ℕ → Namespace → PodState → Type 0
 PlaceTellsPhase name n s =
-    (spot : Spot) (folder : ℕ) → is_of name spot ≡ true → folder_at n spot ≡ Some folder →
+    (spot : Spot) (folder : ℕ) → is_spot_of_pod name spot ≡ true → folder_at n spot ≡ Some folder →
     phase_in spot.area (is_owned n folder) ≡ phase_of_state s
 
 -- the process lives, and by what it knows it holds the pod
 abbrev pub holds : ℕ → List ℕ → List Event → Bool
-holds p name trace = lives (state_after trace).namespace p && owns (seen_of p trace) name
+holds p name trace = lives (state_after trace).namespace p && owns_pod (seen_of p trace) name
 
 -- of a pod that exists, a process holds it exactly where the process is its owner
 abbrev pub IsHeldByItsOwner : List ℕ → List Event → PodState → Type 0
@@ -72,9 +72,9 @@ GoesForward trace =
 
 -- the request removes something in the pod's folder, or that folder
 abbrev pub is_removal_of : List ℕ → Request → Bool
-is_removal_of name (RemoveFileIn inner) = is_of name inner.spot
-is_removal_of name (RemoveDirIn inner) = is_of name inner.spot
-is_removal_of name (RemoveFolder spot) = is_of name spot
+is_removal_of name (RemoveFileIn inner) = is_spot_of_pod name inner.spot
+is_removal_of name (RemoveDirIn inner) = is_spot_of_pod name inner.spot
+is_removal_of name (RemoveFolder spot) = is_spot_of_pod name spot
 is_removal_of name request = false
 
 -- what is removed of a pod, its owner removes, who deletes the pod
@@ -82,13 +82,13 @@ abbrev pub IsRemovedByItsOwner : List ℕ → List Event → Type 0
 IsRemovedByItsOwner name trace =
     (before : List Event) (e : Event) (later : List Event) → trace ≡ before ++ e ∷ later →
     is_removal_of name e.request ≡ true → e.reply ≡ Done →
-    (is_deleting (pod_state name before) && is_owner e.process (pod_state name before)) ≡ true
+    (is_being_deleted (pod_state name before) && is_owner e.process (pod_state name before)) ≡ true
 
 -- each prepared pod that is moved to garbage is asked for
 abbrev pub SweepsAreAsked : List Event → Type 0
 SweepsAreAsked trace =
     (before : List Event) (p : ℕ) (from to : Spot) (later : List Event) → trace ≡ before ++ event p (MoveFolder from to) Done ∷ later →
-    from.area ≡ area.Prepared → to.area ≡ area.Garbage → is_asked (seen_of p before) from.name ≡ true
+    from.area ≡ area.Prepared → to.area ≡ area.Garbage → has_asked_for_removal (seen_of p before) from.name ≡ true
 
 -- the state is what the trace shows of the pod: where its folder stands, its phase, and who holds it
 pub record ShowsPod (name : List ℕ) (trace : List Event) (s : PodState) : Type 0 where

@@ -15,7 +15,7 @@ use Rattle.dir_model.specs.declared.request.Reply.TheVariants.{Done}
 use Rattle.dir_model.specs.Locks.{is_handle, is_exclusive}
 use Rattle.dir_model.specs.State.{Namespace, DirState, empty_state}
 use Rattle.dir_model.specs.Trace.{state_next}
-use Rattle.dir_rules.specs.Standing.{is_of, is_garbage, area_of}
+use Rattle.dir_rules.specs.Standing.{is_spot_of_pod, is_garbage, area_of}
 use Rattle.dir_model.specs.Local.{is_own_of}
 use Rattle.lifecycle.specs.declared.machine.PodState.{PodState}
 use Rattle.lifecycle.specs.declared.machine.PodState.TheVariants.{Absent, Embryo, Preparing, AbortedPrepare, Prepared, Running, Exited, ExitedGarbage, Garbage, Deleting, Gone}
@@ -47,11 +47,11 @@ undeleted area.ExitedGarbage = ExitedGarbage
 undeleted _ = Garbage
 
 -- the state without its owner
-abbrev pub ended : PodState → PodState
-ended (Preparing owner) = AbortedPrepare
-ended (Running owner) = Exited
-ended (Deleting owner from) = undeleted from
-ended s = s
+abbrev pub without_owner : PodState → PodState
+without_owner (Preparing owner) = AbortedPrepare
+without_owner (Running owner) = Exited
+without_owner (Deleting owner from) = undeleted from
+without_owner s = s
 
 -- the area that a deletion begins in
 abbrev pub deleted_from : PodState → Area
@@ -64,16 +64,16 @@ leads turn.Make p s = Embryo p
 leads turn.BeginPrepare p s = Preparing p
 leads turn.Finish p s = Prepared
 leads turn.Start p s = Running p
-leads turn.End p s = ended s
+leads turn.End p s = without_owner s
 leads turn.Mark p s = ExitedGarbage
 leads turn.Sweep p s = Garbage
 leads turn.BeginDelete p s = Deleting p (deleted_from s)
 leads turn.Remove p s = Gone
 
 -- after a transition, if there is one; one that the state doesn't have changes nothing
-abbrev pub turned : Option Transition → ℕ → PodState → PodState
-turned None p s = s
-turned (Some t) p s = cond (enabled t p s) (leads t p s) s
+abbrev pub after_transition : Option Transition → ℕ → PodState → PodState
+after_transition None p s = s
+after_transition (Some t) p s = cond (enabled t p s) (leads t p s) s
 
 -- the pod's owner
 abbrev pub owner_of : PodState → Option ℕ
@@ -95,9 +95,9 @@ is_gone Gone = true
 is_gone _ = false
 
 -- the pod's owner deletes it
-abbrev pub is_deleting : PodState → Bool
-is_deleting (Deleting owner from) = true
-is_deleting s = false
+abbrev pub is_being_deleted : PodState → Bool
+is_being_deleted (Deleting owner from) = true
+is_being_deleted s = false
 
 -- the pod was made, and isn't gone
 abbrev pub exists : PodState → Bool
@@ -129,9 +129,9 @@ arrival area.Garbage = Some turn.Sweep
 arrival _ = None
 
 -- the transition, where the test passes
-abbrev pub if_so : Bool → Transition → Option Transition
-if_so true t = Some t
-if_so false t = None
+abbrev pub transition_if : Bool → Transition → Option Transition
+transition_if true t = Some t
+transition_if false t = None
 
 -- there is an open handle, and it passes the test
 abbrev pub on_opening : (Opening → Bool) → Option Opening → Bool
@@ -139,31 +139,31 @@ on_opening test None = false
 on_opening test (Some o) = test o
 
 -- the open handle that the process means
-abbrev pub look : Namespace → ℕ → Handle → Option Opening
-look n p handle = find (is_handle p handle) n.openings
+abbrev pub find_opening : Namespace → ℕ → Handle → Option Opening
+find_opening n p handle = find (is_handle p handle) n.openings
 
 -- the handle was opened on the pod's lock, in a garbage area
 abbrev pub is_deleter : List ℕ → Opening → Bool
 is_deleter name o = is_own_of name o.target && is_garbage (area_of o.target)
 
 -- the handle holds the pod's lock exclusively
-abbrev pub is_grip : List ℕ → Opening → Bool
-is_grip name o = is_own_of name o.target && is_exclusive o.lock
+abbrev pub is_exclusive_own : List ℕ → Opening → Bool
+is_exclusive_own name o = is_own_of name o.target && is_exclusive o.lock
 
 -- the transition of the pod that an event is, if it is one: only Ok answers count
 abbrev pub transition : List ℕ → Namespace → PodState → ℕ → Request → Reply → Option Transition
-transition name n s p (MakeFolder spot) Done = if_so (is_of name spot) turn.Make
-transition name n s p (MoveFolder from to) Done = cond (is_of name to) (arrival to.area) None
-transition name n s p (TryLock handle Exclusive) Done = if_so (not (is_gone s) && on_opening (is_deleter name) (look n p handle)) turn.BeginDelete
-transition name n s p (Close handle) Done = if_so (is_owner p s && on_opening (is_grip name) (look n p handle)) turn.End
-transition name n s p (RemoveFolder spot) Done = if_so (is_of name spot) turn.Remove
-transition name n s p Finish Done = if_so (is_owner p s) turn.End
-transition name n s p Kill Done = if_so (is_owner p s) turn.End
+transition name n s p (MakeFolder spot) Done = transition_if (is_spot_of_pod name spot) turn.Make
+transition name n s p (MoveFolder from to) Done = cond (is_spot_of_pod name to) (arrival to.area) None
+transition name n s p (TryLock handle Exclusive) Done = transition_if (not (is_gone s) && on_opening (is_deleter name) (find_opening n p handle)) turn.BeginDelete
+transition name n s p (Close handle) Done = transition_if (is_owner p s && on_opening (is_exclusive_own name) (find_opening n p handle)) turn.End
+transition name n s p (RemoveFolder spot) Done = transition_if (is_spot_of_pod name spot) turn.Remove
+transition name n s p Finish Done = transition_if (is_owner p s) turn.End
+transition name n s p Kill Done = transition_if (is_owner p s) turn.End
 transition name n s p request reply = None
 
 -- the pod's state after one event
 abbrev pub pod_state_next : List ℕ → Namespace → PodState → Event → PodState
-pod_state_next name n s e = turned (transition name n s e.process e.request e.reply) e.process s
+pod_state_next name n s e = after_transition (transition name n s e.process e.request e.reply) e.process s
 
 -- after several, the oldest first
 abbrev pub pod_state_from : List ℕ → DirState → PodState → List Event → PodState
@@ -183,34 +183,34 @@ abbrev pub pod_owner : List ℕ → List Event → Option ℕ
 pod_owner name trace = owner_of (pod_state name trace)
 
 -- a pod in this state stands in this area
-abbrev pub is_place : Area → PodState → Bool
-is_place area.Embryo (Embryo maker) = true
-is_place area.Prepare (Preparing owner) = true
-is_place area.Prepare AbortedPrepare = true
-is_place area.Prepared Prepared = true
-is_place area.Run (Running owner) = true
-is_place area.Run Exited = true
-is_place area.ExitedGarbage ExitedGarbage = true
-is_place area.Garbage Garbage = true
-is_place area.ExitedGarbage (Deleting owner area.ExitedGarbage) = true
-is_place area.Garbage (Deleting owner area.ExitedGarbage) = false
-is_place area.Garbage (Deleting owner from) = true
-is_place area s = false
+abbrev pub is_area_of_state : Area → PodState → Bool
+is_area_of_state area.Embryo (Embryo maker) = true
+is_area_of_state area.Prepare (Preparing owner) = true
+is_area_of_state area.Prepare AbortedPrepare = true
+is_area_of_state area.Prepared Prepared = true
+is_area_of_state area.Run (Running owner) = true
+is_area_of_state area.Run Exited = true
+is_area_of_state area.ExitedGarbage ExitedGarbage = true
+is_area_of_state area.Garbage Garbage = true
+is_area_of_state area.ExitedGarbage (Deleting owner area.ExitedGarbage) = true
+is_area_of_state area.Garbage (Deleting owner area.ExitedGarbage) = false
+is_area_of_state area.Garbage (Deleting owner from) = true
+is_area_of_state area s = false
 
 -- how far along its life the pod is. No transition lowers it
-abbrev pub age : PodState → ℕ
-age Absent = 0
-age (Embryo maker) = 1
-age (Preparing owner) = 2
-age AbortedPrepare = 3
-age Prepared = 4
-age (Running owner) = 5
-age Exited = 6
-age ExitedGarbage = 7
-age (Deleting owner area.ExitedGarbage) = 7
-age (Deleting owner _) = 8
-age Garbage = 8
-age Gone = 9
+abbrev pub pod_progress : PodState → ℕ
+pod_progress Absent = 0
+pod_progress (Embryo maker) = 1
+pod_progress (Preparing owner) = 2
+pod_progress AbortedPrepare = 3
+pod_progress Prepared = 4
+pod_progress (Running owner) = 5
+pod_progress Exited = 6
+pod_progress ExitedGarbage = 7
+pod_progress (Deleting owner area.ExitedGarbage) = 7
+pod_progress (Deleting owner _) = 8
+pod_progress Garbage = 8
+pod_progress Gone = 9
 
 -- how far along a pod is at least that was found in this area
 abbrev pub age_in : Area → ℕ

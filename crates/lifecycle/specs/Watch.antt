@@ -15,10 +15,10 @@ use Rattle.lifecycle.specs.declared.grip.Grip.{Grip}
 use Rattle.lifecycle.specs.declared.pods.PodEntry.{PodEntry}
 use Rattle.lifecycle.specs.declared.machine.Transition.{Transition}
 use Rattle.lifecycle.specs.declared.machine.Transition.TheVariants as turn
-use Rattle.lifecycle.specs.PodMachine.{turned, is_owner, is_gone, arrival, if_so, pod_state}
+use Rattle.lifecycle.specs.PodMachine.{after_transition, is_owner, is_gone, arrival, transition_if, pod_state}
 use Rattle.lifecycle.specs.Ownership.{ShowsPod}
 use Rattle.dir_model.specs.Areas.{is_stage}
-use Rattle.dir_rules.specs.Standing.{is_garbage, is_of}
+use Rattle.dir_rules.specs.Standing.{is_garbage, is_spot_of_pod}
 
 -- a pod's state, and the open handles on its lock
 pub record Watch : Type 0 where
@@ -45,18 +45,18 @@ is_exclusive_mode Exclusive = true
 
 -- an exclusive lock by a handle that was opened in a garbage area begins a deletion
 abbrev pub begun_delete : PodState → List Grip → ℕ → Handle → Mode → Option Transition
-begun_delete s gs p handle Exclusive = if_so (not (is_gone s) && on_grip (λ g. g.in_garbage) (find (is_this p handle) gs)) turn.BeginDelete
+begun_delete s gs p handle Exclusive = transition_if (not (is_gone s) && on_grip (λ g. g.in_garbage) (find (is_this p handle) gs)) turn.BeginDelete
 begun_delete s gs p handle Shared = None
 
 -- the transition that a request is which was answered Ok
 abbrev pub watched_done : List ℕ → PodState → List Grip → ℕ → Request → Option Transition
-watched_done name s gs p (MakeFolder spot) = if_so (is_of name spot) turn.Make
-watched_done name s gs p (MoveFolder from to) = cond (is_of name to) (arrival to.area) None
+watched_done name s gs p (MakeFolder spot) = transition_if (is_spot_of_pod name spot) turn.Make
+watched_done name s gs p (MoveFolder from to) = cond (is_spot_of_pod name to) (arrival to.area) None
 watched_done name s gs p (TryLock handle mode) = begun_delete s gs p handle mode
-watched_done name s gs p (Close handle) = if_so (is_owner p s && on_grip (λ g. g.exclusive) (find (is_this p handle) gs)) turn.End
-watched_done name s gs p (RemoveFolder spot) = if_so (is_of name spot) turn.Remove
-watched_done name s gs p Finish = if_so (is_owner p s) turn.End
-watched_done name s gs p Kill = if_so (is_owner p s) turn.End
+watched_done name s gs p (Close handle) = transition_if (is_owner p s && on_grip (λ g. g.exclusive) (find (is_this p handle) gs)) turn.End
+watched_done name s gs p (RemoveFolder spot) = transition_if (is_spot_of_pod name spot) turn.Remove
+watched_done name s gs p Finish = transition_if (is_owner p s) turn.End
+watched_done name s gs p Kill = transition_if (is_owner p s) turn.End
 watched_done name s gs p request = None
 
 -- the transition that an event is, if it is one: only Ok answers count
@@ -74,7 +74,7 @@ grips_done gs p request = gs
 
 -- after one that was answered with a handle
 abbrev pub grips_opened : List ℕ → List Grip → ℕ → Request → Handle → List Grip
-grips_opened name gs p (Open spot which.Own) handle = cond (is_of name spot) (gs ++ record { process = p; handle = handle; in_garbage = is_garbage spot.area; exclusive = false } ∷ []) gs
+grips_opened name gs p (Open spot which.Own) handle = cond (is_spot_of_pod name spot) (gs ++ record { process = p; handle = handle; in_garbage = is_garbage spot.area; exclusive = false } ∷ []) gs
 grips_opened name gs p request handle = gs
 
 -- after a reply; a refusal changes nothing
@@ -85,7 +85,7 @@ grips_replied name gs p request _ = gs
 
 -- after one event
 abbrev pub watch_next : List ℕ → Watch → Event → Watch
-watch_next name w e = record { state = turned (watched name w.state w.grips e.process e.request e.reply) e.process w.state; grips = grips_replied name w.grips e.process e.request e.reply }
+watch_next name w e = record { state = after_transition (watched name w.state w.grips e.process e.request e.reply) e.process w.state; grips = grips_replied name w.grips e.process e.request e.reply }
 
 -- after several, the oldest first
 abbrev pub watch_from : List ℕ → Watch → List Event → Watch
@@ -97,27 +97,27 @@ abbrev pub watch : List ℕ → List Event → Watch
 watch name trace = watch_from name (record { state = Absent; grips = [] }) trace
 
 -- the name of the pod that was made, if one was
-abbrev pub made_by : Request → Reply → Option (List ℕ)
-made_by (MakeFolder spot) Done = cond (is_stage spot.area) (Some spot.name) None
-made_by request reply = None
+abbrev pub pod_made_by : Request → Reply → Option (List ℕ)
+pod_made_by (MakeFolder spot) Done = cond (is_stage spot.area) (Some spot.name) None
+pod_made_by request reply = None
 
 -- a pod with its state after the trace
-abbrev pub entry_of : List Event → List ℕ → PodEntry
-entry_of trace name = record { name = name; state = (watch name trace).state }
+abbrev pub pod_entry_of : List Event → List ℕ → PodEntry
+pod_entry_of trace name = record { name = name; state = (watch name trace).state }
 
 -- that pod with its state, if one was made
 abbrev pub entry_for : List Event → Option (List ℕ) → List PodEntry
 entry_for trace None = []
-entry_for trace (Some name) = entry_of trace name ∷ []
+entry_for trace (Some name) = pod_entry_of trace name ∷ []
 
 -- the pods that some events made, with their states after the trace
-abbrev pub entries_of : List Event → List Event → List PodEntry
-entries_of trace [] = []
-entries_of trace (e ∷ es) = entry_for trace (made_by e.request e.reply) ++ entries_of trace es
+abbrev pub made_pod_entries : List Event → List Event → List PodEntry
+made_pod_entries trace [] = []
+made_pod_entries trace (e ∷ es) = entry_for trace (pod_made_by e.request e.reply) ++ made_pod_entries trace es
 
 -- it is the pod of this name
-abbrev pub is_entry : List ℕ → PodEntry → Bool
-is_entry name entry = bytes_eq entry.name name
+abbrev pub is_pod_entry : List ℕ → PodEntry → Bool
+is_pod_entry name entry = bytes_eq entry.name name
 
 -- the state of a pod that is among them, and absent for any other
 abbrev pub state_of_entry : Option PodEntry → PodState
@@ -126,7 +126,7 @@ state_of_entry (Some entry) = entry.state
 
 -- the state of the pod of this name among them
 abbrev pub state_in : List ℕ → List PodEntry → PodState
-state_in name entries = state_of_entry (find (is_entry name) entries)
+state_in name entries = state_of_entry (find (is_pod_entry name) entries)
 
 -- each pod's state among them is the one that the trace brings it to
 abbrev pub TellsStates : List PodEntry → List Event → Type 0

@@ -1,6 +1,6 @@
 // One pod's state after a trace.
 ghost use Rattle.std.specs.Prelude.{◌≡◌, cond, IfOk, None};
-ghost use Rattle.lifecycle.specs.PodMachine.{arrival, if_so};
+ghost use Rattle.lifecycle.specs.PodMachine.{arrival, transition_if};
 ghost use Rattle.lifecycle.specs.Watch.{watch, watched, watched_done, begun_delete};
 
 use crate::grip::{Grip, grips_replied, held_exclusively, opened_in_garbage};
@@ -10,7 +10,7 @@ use dir_model::{Area, Event, Handle, Mode, Name, NoMemory, Reply, Request};
 use std::alloc::Global;
 
 fn if_so(so: bool, transition: Transition) -> Option<Transition>
-    ensures { result ≡ if_so so transition }
+    ensures { result ≡ transition_if so transition }
 {
     if so { Some(transition) } else { None }
 }

@@ -1,7 +1,7 @@
 // Places of pods.
 ghost use Rattle.std.specs.Prelude.{◌≡◌};
 ghost use Rattle.dir_model.specs.Areas.{is_stage};
-ghost use Rattle.dir_rules.specs.Standing.{is_garbage, is_of};
+ghost use Rattle.dir_rules.specs.Standing.{is_garbage, is_spot_of_pod};
 
 use dir_model::{Area, Name, Spot};
 
@@ -27,7 +27,7 @@ pub fn is_garbage(area: Area) -> bool
 
 /// It is a place of the pod of this name.
 pub fn is_of(name: &Name, spot: &Spot) -> bool
-    ensures { result ≡ is_of name.now spot.now }
+    ensures { result ≡ is_spot_of_pod name.now spot.now }
 {
     is_stage(spot.area) && spot.name == *name
 }

@@ -4,7 +4,7 @@ ghost use Rattle.dir_model.specs.Pods.{pod_text};
 ghost use Rattle.dir_model.specs.Calls.{IsRun};
 ghost use Rattle.lifecycle.specs.PodMachine.{owner_of, phase_of_state};
 ghost use Rattle.lifecycle.specs.Executions.{IsConforming};
-ghost use Rattle.lifecycle.specs.Watch.{made_by, entries_of, state_in, TellsStates, ShowsPods};
+ghost use Rattle.lifecycle.specs.Watch.{pod_made_by, made_pod_entries, state_in, TellsStates, ShowsPods};
 
 use crate::machine::PodState;
 use crate::one_pod::replay_pod;
@@ -37,7 +37,7 @@ impl Model for PodMachine {
 
 // The name of the pod that the event made, if it made one.
 fn made_by(event: &Event) -> Option<Name>
-    ensures { result ≡ made_by event.now.request event.now.reply }
+    ensures { result ≡ pod_made_by event.now.request event.now.reply }
 {
     match (&event.request, &event.reply) {
         (Request::MakeFolder(spot), Reply::Done) => {
@@ -52,7 +52,7 @@ fn made_by(event: &Event) -> Option<Name>
 }
 
 fn entries(alloc: Global, events: &[Event]) -> Result<Vec<PodEntry>, NoMemory>
-    ensures { IfOk result (λ pods. pods.items ≡ entries_of events.now events.now) }
+    ensures { IfOk result (λ pods. pods.items ≡ made_pod_entries events.now events.now) }
 {
     let mut pods: Vec<PodEntry> = Vec::new(alloc);
     'events: for event in events {
@@ -67,7 +67,7 @@ fn entries(alloc: Global, events: &[Event]) -> Result<Vec<PodEntry>, NoMemory>
 /// The states of the pods after a trace: those that the machine gives them and, where the execution
 /// conforms, what the data folder shows of them. Refused only where memory ran out.
 pub fn pods_after(alloc: Global, history: &History) -> Result<PodMachine, NoMemory>
-    ensures told { IfOk result (λ machine. machine ≡ entries_of history.now.items history.now.items) }
+    ensures told { IfOk result (λ machine. machine ≡ made_pod_entries history.now.items history.now.items) }
     ensures states { IsRun history.now.items → IfOk result (λ machine. TellsStates machine history.now.items) }
     ensures shown { IsConforming history.now.items → IfOk result (λ machine. ShowsPods machine history.now.items) }
 {

@@ -2,15 +2,15 @@
 ghost use Rattle.std.specs.Prelude.{◌≡◌, ◌++◌, ◌&&◌, not, cond, map, filter, [], OnOk};
 ghost use Rattle.dir_model.specs.Areas.{is_stage};
 ghost use Rattle.dir_model.specs.Local.{is_own_of};
-ghost use Rattle.dir_rules.specs.Standing.{is_claim_held, is_number, held_in, uncover, gives_up, recover, own_spot, prepared_name, and_move};
+ghost use Rattle.dir_rules.specs.Standing.{is_claim_held, is_handle_held, held_with_mode, uncover, gives_up, uncovered_by_close, own_spot, prepared_name, and_move};
 
 use crate::held::{gives_up_claim, gives_up_cover, is_number};
 use dir_model::{Area, Handle, Mode, Name, NoMemory, Spot, Target};
 use dir_rules::Held;
-use rule_marks::{is_in, is_of, is_stage, push_front};
+use marks::{is_in, is_of, is_stage, push_front};
 
 fn held_in(held: Held, handle: Handle, mode: Mode) -> Held
-    ensures { result ≡ held_in handle mode held }
+    ensures { result ≡ held_with_mode handle mode held }
 {
     if is_number(handle, &held) {
         Held {
@@ -26,7 +26,7 @@ fn held_in(held: Held, handle: Handle, mode: Mode) -> Held
 
 /// The handle holds its lock in this mode.
 pub fn lock_held(holdings: &mut [Held], handle: Handle, mode: Mode)
-    ensures { holdings.new ≡ map (held_in handle mode) holdings.old }
+    ensures { holdings.new ≡ map (held_with_mode handle mode) holdings.old }
 {
     for held in holdings.iter_mut() {
         *held = held_in(*held, handle, mode);
@@ -65,7 +65,7 @@ pub fn uncover_all(holdings: &mut [Held], from: &Spot)
 }
 
 fn recover(held: Held, handle: Handle, before: &[Held]) -> Held
-    ensures { result ≡ recover handle before.now held }
+    ensures { result ≡ uncovered_by_close handle before.now held }
 {
     let covered = !gives_up_cover(handle, before, &held.target) && held.covered;
     Held {
@@ -78,7 +78,7 @@ fn recover(held: Held, handle: Handle, before: &[Held]) -> Held
 
 /// What covers a handle is given up with this one.
 pub fn recover_all(holdings: &mut [Held], handle: Handle, before: &[Held])
-    ensures { holdings.new ≡ map (recover handle before.now) holdings.old }
+    ensures { holdings.new ≡ map (uncovered_by_close handle before.now) holdings.old }
 {
     for held in holdings.iter_mut() {
         *held = recover(*held, handle, before);
@@ -87,16 +87,16 @@ pub fn recover_all(holdings: &mut [Held], handle: Handle, before: &[Held])
 
 /// The handle is closed.
 pub fn drop_held(holdings: &mut Vec<Held>, handle: Handle)
-    ensures { holdings.new.items ≡ filter (λ h. not (is_number handle h)) holdings.old.items }
+    ensures { holdings.new.items ≡ filter (λ h. not (is_handle_held handle h)) holdings.old.items }
 {
     holdings.retain(|held| !is_number(handle, held))
 }
 
 /// The pods whose activation lock is given up with this handle are no longer cleared.
-pub fn drop_cleared(cleared: &mut Vec<Name>, handle: Handle, before: &[Held])
-    ensures { cleared.new.items ≡ filter (λ u. not (gives_up (is_claim_held u) handle before.now)) cleared.old.items }
+pub fn drop_cleared(seen_unowned_under_claim: &mut Vec<Name>, handle: Handle, before: &[Held])
+    ensures { seen_unowned_under_claim.new.items ≡ filter (λ u. not (gives_up (is_claim_held u) handle before.now)) seen_unowned_under_claim.old.items }
 {
-    cleared.retain(|name| !gives_up_claim(name, handle, before))
+    seen_unowned_under_claim.retain(|name| !gives_up_claim(name, handle, before))
 }
 
 /// Where a pod's own lock was opened is noted. Refused only where memory ran out.
@@ -109,21 +109,24 @@ pub fn note_place(looked: &mut Vec<Spot>, target: &Target) -> Result<(), NoMemor
     }
 }
 
-fn note_name(cleared: &mut Vec<Name>, target: &Target) -> Result<(), NoMemory>
-    ensures { OnOk result (cleared.new.items ≡ prepared_name target.now ++ cleared.old.items) }
+fn note_name(seen_unowned_under_claim: &mut Vec<Name>, target: &Target) -> Result<(), NoMemory>
+    ensures { OnOk result (seen_unowned_under_claim.new.items ≡ prepared_name target.now ++ seen_unowned_under_claim.old.items) }
 {
     match target {
-        Target::Own(spot) if is_in(Area::Prepared, spot.area) => push_front(cleared, spot.name),
+        Target::Own(spot) if is_in(Area::Prepared, spot.area) => push_front(
+            seen_unowned_under_claim,
+            spot.name,
+        ),
         _ => Ok(()),
     }
 }
 
 /// A pod in prepared is cleared by a covered handle. Refused only where memory ran out.
-pub fn note_cleared(cleared: &mut Vec<Name>, held: &Held) -> Result<(), NoMemory>
-    ensures { OnOk result (cleared.new.items ≡ cond held.now.covered (prepared_name held.now.target) [] ++ cleared.old.items) }
+pub fn note_cleared(seen_unowned_under_claim: &mut Vec<Name>, held: &Held) -> Result<(), NoMemory>
+    ensures { OnOk result (seen_unowned_under_claim.new.items ≡ cond held.now.covered (prepared_name held.now.target) [] ++ seen_unowned_under_claim.old.items) }
 {
     if held.covered {
-        return note_name(cleared, &held.target);
+        return note_name(seen_unowned_under_claim, &held.target);
     }
     Ok(())
 }

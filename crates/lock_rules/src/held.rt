@@ -3,12 +3,12 @@ ghost use Rattle.std.specs.Prelude.{◌≡◌};
 ghost use Rattle.std.specs.List.{list_any};
 ghost use Rattle.dir_model.specs.Local.{is_own_of};
 ghost use Rattle.dir_model.specs.Locks.{is_exclusive, target_of};
-ghost use Rattle.dir_rules.specs.Standing.{is_claim_of, is_gate_of, area_of, is_shared, is_own_held, is_claim_held, is_gate_shared, is_gate_exclusive, is_number, gives_up, gives_up_cover, is_own_in_prepared};
+ghost use Rattle.dir_rules.specs.Standing.{is_claim_of, is_gate_of, area_of, is_shared, is_own_held, is_claim_held, is_gate_shared, is_gate_exclusive, is_handle_held, gives_up, gives_up_cover, is_own_in_prepared};
 ghost use Rattle.dir_rules.specs.LockRules.{is_same_target, is_second, is_alone, is_removal_target, is_removal_held};
 
 use dir_model::{Area, Handle, Mode, Name, Spot, Target, Which};
 use dir_rules::Held;
-use rule_marks::{is_garbage, is_in, is_of, same_spot};
+use marks::{is_garbage, is_in, is_of, same_spot};
 
 fn is_exclusive(lock: &Option<Mode>) -> bool
     ensures { result ≡ is_exclusive lock.now }
@@ -118,7 +118,7 @@ pub fn is_gate_exclusive(area: Area, held: &Held) -> bool
 
 /// Whether it is this handle.
 pub fn is_number(handle: Handle, held: &Held) -> bool
-    ensures { result ≡ is_number handle held.now }
+    ensures { result ≡ is_handle_held handle held.now }
 {
     held.handle.number == handle.number
 }

@@ -2,7 +2,7 @@
 ghost use Rattle.std.specs.Prelude.{◌≡◌, bytes_eq};
 ghost use Rattle.dir_model.specs.Pods.{pod_text};
 ghost use Rattle.dir_rules.specs.Standing.{intends, draws_by, is_maker, is_remover, is_prepare, is_run, is_run_prepared, is_image_rm, is_image_remover, is_gc};
-ghost use Rattle.dir_rules.specs.LockRules.{may_hold_gate};
+ghost use Rattle.dir_rules.specs.LockRules.{may_exclude_area};
 ghost use Rattle.dir_rules.specs.Rules.{is_import};
 
 use dir_model::{Area, Intent, Kind, Name};
@@ -62,7 +62,7 @@ fn is_import(kind: Kind) -> bool
 }
 
 fn may_hold_gate(kind: Kind, area: Area) -> bool
-    ensures { result ≡ may_hold_gate kind area }
+    ensures { result ≡ may_exclude_area kind area }
 {
     match area {
         Area::Embryo => is_gc(kind),
@@ -75,7 +75,7 @@ fn may_hold_gate(kind: Kind, area: Area) -> bool
 
 /// Whether a process that began so may hold this area's lock exclusively.
 pub fn may_close_area(intent: &Option<Intent>, area: Area) -> bool
-    ensures { result ≡ intends (λ i. may_hold_gate i.kind area) intent.now }
+    ensures { result ≡ intends (λ i. may_exclude_area i.kind area) intent.now }
 {
     match intent {
         None => false,

@@ -10,7 +10,7 @@ use crate::kind::{
 use crate::standing::StandingTable;
 use dir_model::{Area, Handle, Mode, Name, Request, Spot, Target, Which};
 use dir_rules::Held;
-use rule_marks::{is_in, is_stage};
+use marks::{is_in, is_stage};
 
 // The activation lock is opened only in prepared.
 fn may_open(spot: &Spot, which: Which) -> bool
@@ -26,7 +26,7 @@ impl StandingTable {
     ghost use Rattle.std.specs.Prelude.{◌≡◌};
     ghost use Rattle.dir_model.specs.Pods.{pod_text};
     ghost use Rattle.dir_rules.specs.Standing.{intends, holds_own};
-    ghost use Rattle.dir_rules.specs.LockRules.{may_make, may_move_between, may_move, may_lock_own, may_lock_gate, may_lock_target, may_lock_by, may_close, may_remove, may_ask};
+    ghost use Rattle.dir_rules.specs.LockRules.{may_make, locks_allow_move, may_move_by_locks, may_lock_own, may_lock_gate, may_lock_target, may_lock_by, may_close, may_remove, lock_rules_allow};
     ghost use Rattle.lock_rules.specs.Tables.{table_standing};
 
     // A pod is made once, by its maker, with the drawn name, under the lock of embryo.
@@ -38,17 +38,17 @@ impl StandingTable {
     }
 
     fn may_leave_embryo(&self, name: &Name, to: Area) -> bool
-        ensures { result ≡ may_move_between (table_standing self.now) name.now Area.Embryo to }
+        ensures { result ≡ locks_allow_move (table_standing self.now) name.now Area.Embryo to }
     {
         match to {
-            Area::Prepare => (self.gated && self.draws(name)) && self.holds_own(name),
+            Area::Prepare => (self.embryo_under_lock && self.draws(name)) && self.holds_own(name),
             Area::Garbage => began_as_gc(&self.intent) && self.closes_gate(Area::Embryo),
             _ => false,
         }
     }
 
     fn may_leave_prepare(&self, name: &Name, to: Area) -> bool
-        ensures { result ≡ may_move_between (table_standing self.now) name.now Area.Prepare to }
+        ensures { result ≡ locks_allow_move (table_standing self.now) name.now Area.Prepare to }
     {
         match to {
             Area::Prepared => began_as_prepare(&self.intent) && self.holds_own(name),
@@ -61,7 +61,7 @@ impl StandingTable {
     }
 
     fn may_leave_prepared(&self, name: &Name, to: Area) -> bool
-        ensures { result ≡ may_move_between (table_standing self.now) name.now Area.Prepared to }
+        ensures { result ≡ locks_allow_move (table_standing self.now) name.now Area.Prepared to }
     {
         match to {
             Area::Run => {
@@ -74,7 +74,7 @@ impl StandingTable {
     }
 
     fn may_leave_run(&self, name: &Name, to: Area) -> bool
-        ensures { result ≡ may_move_between (table_standing self.now) name.now Area.Run to }
+        ensures { result ≡ locks_allow_move (table_standing self.now) name.now Area.Run to }
     {
         match to {
             Area::ExitedGarbage => {
@@ -85,7 +85,7 @@ impl StandingTable {
     }
 
     fn may_move_between(&self, name: &Name, from: Area, to: Area) -> bool
-        ensures { result ≡ may_move_between (table_standing self.now) name.now from to }
+        ensures { result ≡ locks_allow_move (table_standing self.now) name.now from to }
     {
         match from {
             Area::Embryo => self.may_leave_embryo(name, to),
@@ -98,7 +98,7 @@ impl StandingTable {
 
     // A pod keeps its name, and stays among the places of pods.
     fn may_move(&self, from: &Spot, to: &Spot) -> bool
-        ensures { result ≡ may_move (table_standing self.now) from.now to.now }
+        ensures { result ≡ may_move_by_locks (table_standing self.now) from.now to.now }
     {
         if is_stage(from.area) || is_stage(to.area) {
             return from.name == to.name && self.may_move_between(&from.name, from.area, to.area);
@@ -110,7 +110,7 @@ impl StandingTable {
         ensures { result ≡ may_lock_own (table_standing self.now) covered name.now area Mode.Exclusive }
     {
         match area {
-            Area::Embryo => self.gated && self.draws(name),
+            Area::Embryo => self.embryo_under_lock && self.draws(name),
             Area::Prepared => began_as_run_prepared(&self.intent) && covered,
             Area::ExitedGarbage => began_as_remover(&self.intent),
             Area::Garbage => began_as_remover(&self.intent),
@@ -186,7 +186,7 @@ impl StandingTable {
     fn may_close(&self, handle: Handle) -> bool
         ensures { result ≡ may_close (table_standing self.now) handle }
     {
-        !((gives_up_shared_gate(Area::Embryo, handle, &self.holdings) && self.gated)
+        !((gives_up_shared_gate(Area::Embryo, handle, &self.holdings) && self.embryo_under_lock)
             && self.holds_drawn())
     }
 
@@ -199,7 +199,7 @@ impl StandingTable {
 
     /// Whether the rules on locks and places allow the request.
     pub fn may_ask(&self, request: &Request) -> bool
-        ensures { result ≡ may_ask (table_standing self.now) request.now }
+        ensures { result ≡ lock_rules_allow (table_standing self.now) request.now }
     {
         match request {
             Request::MakeFolder(spot) => !is_stage(spot.area) || self.may_make(spot),

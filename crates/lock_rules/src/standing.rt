@@ -1,7 +1,7 @@
 // What a process knows of locks and places, as it changes.
 ghost use Rattle.std.specs.Prelude.{◌≡◌, find};
 ghost use Rattle.std.specs.Option.{option_copied};
-ghost use Rattle.dir_rules.specs.Standing.{is_of, is_number};
+ghost use Rattle.dir_rules.specs.Standing.{is_spot_of_pod, is_handle_held};
 
 use crate::change::{
     drop_cleared, drop_held, lock_held, note_cleared, note_move, note_place, recover_all,
@@ -14,7 +14,7 @@ use crate::held::{
 use crate::kind::{began_as_import, began_as_remover, draws};
 use dir_model::{Area, Handle, Intent, Mode, Name, NoMemory, Reply, Request, Spot, Target, Which};
 use dir_rules::Held;
-use rule_marks::{is_in, is_of, is_stage, push_front};
+use marks::{is_in, is_of, is_stage, push_front};
 use std::alloc::Global;
 
 /// What a process knows of locks and places by its own answers, as lists that change.
@@ -22,28 +22,28 @@ use std::alloc::Global;
 pub struct StandingTable {
     pub intent: Option<Intent>,
     pub made: bool,
-    pub gated: bool,
+    pub embryo_under_lock: bool,
     pub holdings: Vec<Held>,
     pub moves: Vec<Spot>,
     pub looked: Vec<Spot>,
-    pub cleared: Vec<Name>,
+    pub seen_unowned_under_claim: Vec<Name>,
 }
 
 fn find_move<'a>(moves: &'a [Spot], name: &Name) -> Option<&'a Spot>
-    ensures { option_copied result ≡ find (is_of name.now) moves.now }
+    ensures { option_copied result ≡ find (is_spot_of_pod name.now) moves.now }
 {
     moves.iter().find(|spot| is_of(name, spot))
 }
 
 fn find_open<'a>(holdings: &'a [Held], handle: Handle) -> Option<&'a Held>
-    ensures { option_copied result ≡ find (is_number handle) holdings.now }
+    ensures { option_copied result ≡ find (is_handle_held handle) holdings.now }
 {
     holdings.iter().find(|held| is_number(handle, held))
 }
 
 impl StandingTable {
     ghost use Rattle.std.specs.Prelude.{◌≡◌, OnOk};
-    ghost use Rattle.dir_rules.specs.Standing.{nothing_standing, draws, began_as, is_remover, holds_own, holds_claim, holds_gate, closes_gate, has_name, has_place, last_of, find_held, looked_by, given_up, standing_done, standing_opened, standing_replied};
+    ghost use Rattle.dir_rules.specs.Standing.{nothing_standing, draws, began_as, is_remover, holds_own, holds_claim, shares_area, excludes_area, is_name_among, has_place, last_move_of, find_held, looked_by, given_up, standing_done, standing_opened, standing_replied};
     ghost use Rattle.dir_rules.specs.Rules.{is_import};
     ghost use Rattle.lock_rules.specs.Tables.{table_standing};
 
@@ -54,11 +54,11 @@ impl StandingTable {
         StandingTable {
             intent: None,
             made: false,
-            gated: false,
+            embryo_under_lock: false,
             holdings: Vec::new(alloc),
             moves: Vec::new(alloc),
             looked: Vec::new(alloc),
-            cleared: Vec::new(alloc),
+            seen_unowned_under_claim: Vec::new(alloc),
         }
     }
 
@@ -99,14 +99,14 @@ impl StandingTable {
 
     /// Whether it holds the area's lock shared.
     pub fn holds_gate(&self, area: Area) -> bool
-        ensures { result ≡ holds_gate area (table_standing self.now) }
+        ensures { result ≡ shares_area area (table_standing self.now) }
     {
         self.holdings.iter().any(|held| is_gate_shared(area, held))
     }
 
     /// Whether it holds the area's lock exclusively.
     pub fn closes_gate(&self, area: Area) -> bool
-        ensures { result ≡ closes_gate area (table_standing self.now) }
+        ensures { result ≡ excludes_area area (table_standing self.now) }
     {
         self.holdings
             .iter()
@@ -116,9 +116,10 @@ impl StandingTable {
     /// Whether it had the pod's own lock shared in prepared, covered by the activation lock that it
     /// holds.
     pub fn has_cleared(&self, name: &Name) -> bool
-        ensures { result ≡ has_name name.now (table_standing self.now).cleared }
+        ensures { result ≡ is_name_among name.now (table_standing self.now).seen_unowned_under_claim }
     {
-        self.cleared.iter().any(|cleared| cleared == name)
+        self.seen_unowned_under_claim.iter().any(|seen_unowned_under_claim| seen_unowned_under_claim
+            == name)
     }
 
     /// Whether it had the own lock shared that it opened there.
@@ -132,7 +133,7 @@ impl StandingTable {
 
     /// Where its last move of the pod led.
     pub fn last_of(&self, name: &Name) -> Option<Spot>
-        ensures { result ≡ last_of name.now (table_standing self.now).moves }
+        ensures { result ≡ last_move_of name.now (table_standing self.now).moves }
     {
         find_move(&self.moves, name).copied()
     }
@@ -148,7 +149,7 @@ impl StandingTable {
         ensures { OnOk result (table_standing self.new ≡ looked_by (Some held.now) (table_standing self.old)) }
     {
         note_place(&mut self.looked, &held.target)?;
-        note_cleared(&mut self.cleared, held)
+        note_cleared(&mut self.seen_unowned_under_claim, held)
     }
 
     fn lock_shared(&mut self, handle: Handle) -> Result<(), NoMemory>
@@ -178,10 +179,11 @@ impl StandingTable {
         ensures { OnOk result (table_standing self.new ≡ given_up handle (table_standing self.old)) }
     {
         let before = Vec::from_slice(*self.holdings.allocator(), &self.holdings)?;
-        self.gated = !gives_up_shared_gate(Area::Embryo, handle, &before) && self.gated;
+        self.embryo_under_lock = !gives_up_shared_gate(Area::Embryo, handle, &before)
+            && self.embryo_under_lock;
         drop_held(&mut self.holdings, handle);
         recover_all(&mut self.holdings, handle, &before);
-        drop_cleared(&mut self.cleared, handle, &before);
+        drop_cleared(&mut self.seen_unowned_under_claim, handle, &before);
         Ok(())
     }
 
@@ -189,7 +191,7 @@ impl StandingTable {
         ensures { table_standing self.new ≡ standing_done (table_standing self.old) (Request.MakeFolder spot.now) }
     {
         if is_stage(spot.area) {
-            self.gated = self.holds_gate(Area::Embryo);
+            self.embryo_under_lock = self.holds_gate(Area::Embryo);
             self.made = true;
         }
     }
@@ -198,7 +200,7 @@ impl StandingTable {
         ensures { OnOk result (table_standing self.new ≡ standing_done (table_standing self.old) (Request.MoveFolder from.now to.now)) }
     {
         let own = is_in(Area::Embryo, from.area) && self.draws(&from.name);
-        self.gated = !own && self.gated;
+        self.embryo_under_lock = !own && self.embryo_under_lock;
         note_move(&mut self.moves, to)?;
         uncover_all(&mut self.holdings, from);
         Ok(())
@@ -208,8 +210,8 @@ impl StandingTable {
         ensures { table_standing self.new ≡ standing_done (table_standing self.old) Request.Finish }
     {
         self.holdings.clear();
-        self.gated = false;
-        self.cleared.clear();
+        self.embryo_under_lock = false;
+        self.seen_unowned_under_claim.clear();
     }
 
     fn done(&mut self, request: &Request) -> Result<(), NoMemory>

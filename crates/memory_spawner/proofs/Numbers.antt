@@ -9,7 +9,7 @@ use Rattle.spawner.specs.declared.call.SpawnReply.TheVariants.{Done, Started, En
 use Rattle.spawner.specs.declared.call.SpawnCall.{SpawnCall}
 use Rattle.spawner.specs.Calls.{answers, has_started}
 use Rattle.dir_model.proofs.Lists.{and_left, and_right, and_both, filter_past, filter_push, or_none}
-use Rattle.memory_spawner.specs.SpawnerMemories.{is_started, is_start, starts_of, is_below, AreNumbered}
+use Rattle.memory_spawner.specs.SpawnerMemories.{is_started, is_start, ok_starts_of, is_below, AreNumbered}
 
 below_more : (n m : ℕ) (reply : SpawnReply) → n ≤ m → is_below n reply ≡ true → is_below m reply ≡ true
 below_more n m (Started child) more h = grind (arith, nat_tests, more, h)
@@ -30,20 +30,20 @@ length_push [] y = refl
 length_push (x ∷ xs) y = let rest : length (xs ++ y ∷ []) ≡ length xs + 1 = length_push xs y in omega (arith, rest)
 
 -- the new call's child has the next number at most
-pub numbered_more : (calls : List SpawnCall) (c : SpawnCall) → AreNumbered calls → is_below (length (starts_of calls) + 1) c.reply ≡ true → AreNumbered (calls ++ c ∷ [])
+pub numbered_more : (calls : List SpawnCall) (c : SpawnCall) → AreNumbered calls → is_below (length (ok_starts_of calls) + 1) c.reply ≡ true → AreNumbered (calls ++ c ∷ [])
 numbered_more calls c h last = by c.reply refl
   where
     n : ℕ
-    n = length (starts_of calls)
+    n = length (ok_starts_of calls)
 
-    with_bound : (k : ℕ) → length (starts_of (calls ++ c ∷ [])) ≡ k → n ≤ k → is_below k c.reply ≡ true → AreNumbered (calls ++ c ∷ [])
+    with_bound : (k : ℕ) → length (ok_starts_of (calls ++ c ∷ [])) ≡ k → n ≤ k → is_below k c.reply ≡ true → AreNumbered (calls ++ c ∷ [])
     with_bound k e more below = subst (λ b. list_all (λ (x : SpawnCall). is_below b x.reply) (calls ++ c ∷ []) ≡ true) (sym e) (all_push (λ (x : SpawnCall). is_below k x.reply) calls c (all_more n k calls more h) below)
 
     same : is_start c ≡ false → is_below n c.reply ≡ true → AreNumbered (calls ++ c ∷ [])
     same other below = with_bound n (ap length (filter_past is_start calls c other)) (omega arith) below
 
     by : (reply : SpawnReply) → c.reply ≡ reply → AreNumbered (calls ++ c ∷ [])
-    by (Started child) e = with_bound (n + 1) (ap length (filter_push is_start calls c (ap is_started e)) ∙ length_push (starts_of calls) c) (omega arith) last
+    by (Started child) e = with_bound (n + 1) (ap length (filter_push is_start calls c (ap is_started e)) ∙ length_push (ok_starts_of calls) c) (omega arith) last
     by Done e = same (ap is_started e) (ap (is_below n) e)
     by (Ended status) e = same (ap is_started e) (ap (is_below n) e)
     by (Refused error) e = same (ap is_started e) (ap (is_below n) e)

@@ -3,7 +3,7 @@ use Rattle.std.proofs.Common.{◌≡◌, ◌≢◌, ℕ, zero, suc, ◌+◌, ◌
 use Rattle.std.specs.List.{slice_get}
 use Rattle.std.proofs.lemmas.Option.{slice_get_past}
 use Rattle.spawner.specs.declared.call.SpawnCall.{SpawnCall}
-use Rattle.memory_spawner.specs.SpawnerMemories.{is_start, starts_of, start_at}
+use Rattle.memory_spawner.specs.SpawnerMemories.{is_start, ok_starts_of, start_at}
 
 same_item : {X : Type 0} (x y : X) → Some y ≡ Some x → y ≡ x
 same_item x y e = cc
@@ -23,16 +23,16 @@ passes_at p (y ∷ ys) (suc i) x at passes = by (p y) (passes_at p ys i x at pas
     by false rest = rest
 
 -- the next start is the one after those before it
-pub start_here : (calls : List SpawnCall) (i start count : ℕ) (c : SpawnCall) → slice_get calls i ≡ Some c → is_start c ≡ true → count ≡ length (starts_of (take i calls)) → start ≡ count + 1 → start_at calls start ≡ Some c
+pub start_here : (calls : List SpawnCall) (i start count : ℕ) (c : SpawnCall) → slice_get calls i ≡ Some c → is_start c ≡ true → count ≡ length (ok_starts_of (take i calls)) → start ≡ count + 1 → start_at calls start ≡ Some c
 start_here calls i zero count c at passes counted is = absurd (lacks count is)
   where
     lacks : (n : ℕ) → 0 ≡ n + 1 → ⊥
     lacks n e = omega (arith, e)
 start_here calls i (suc before) count c at passes counted is =
-    let same : before ≡ length (starts_of (take i calls)) = omega (arith, is, counted) in
-    ap (slice_get (starts_of calls)) same ∙ passes_at is_start calls i c at passes
+    let same : before ≡ length (ok_starts_of (take i calls)) = omega (arith, is, counted) in
+    ap (slice_get (ok_starts_of calls)) same ∙ passes_at is_start calls i c at passes
 
 -- there are no more
-pub start_past : (calls : List SpawnCall) (start : ℕ) → (start ≢ 0 → length (starts_of calls) < start) → start_at calls start ≡ None
+pub start_past : (calls : List SpawnCall) (start : ℕ) → (start ≢ 0 → length (ok_starts_of calls) < start) → start_at calls start ≡ None
 start_past calls zero few = refl
-start_past calls (suc before) few = slice_get_past (starts_of calls) before (omega (arith, few (λ e. cc)))
+start_past calls (suc before) few = slice_get_past (ok_starts_of calls) before (omega (arith, few (λ e. cc)))

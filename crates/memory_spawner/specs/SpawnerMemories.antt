@@ -22,12 +22,12 @@ pub record SpawnerMemory : Type 0 where
   pub failing : List ℕ
 
 -- the status of the child that the start behind so many others answered: 0, unless another was told
-abbrev pub status_of : List End → ℕ → ℕ
-status_of ends number = option_map_or (λ (end : End). end.status) (find (λ end. end.start == number + 1) ends) 0
+abbrev pub end_status_of : List End → ℕ → ℕ
+end_status_of ends number = option_map_or (λ (end : End). end.status) (find (λ end. end.start == number + 1) ends) 0
 
 -- as every spawner is seen
-abbrev pub shown_of : SpawnerMemory → SpawnerAt
-shown_of m = record { faults = m.faults; calls = m.calls; status = status_of m.ends }
+abbrev pub spawner_of_memory : SpawnerMemory → SpawnerAt
+spawner_of_memory m = record { faults = m.faults; calls = m.calls; status = end_status_of m.ends }
 
 -- a program was started
 abbrev pub is_started : SpawnReply → Bool
@@ -38,18 +38,18 @@ abbrev pub is_start : SpawnCall → Bool
 is_start c = is_started c.reply
 
 -- the Ok starts in order
-abbrev pub starts_of : List SpawnCall → List SpawnCall
-starts_of calls = filter is_start calls
+abbrev pub ok_starts_of : List SpawnCall → List SpawnCall
+ok_starts_of calls = filter is_start calls
 
 -- the Ok start of a number, counted from 1
 abbrev pub start_at : List SpawnCall → ℕ → Option SpawnCall
 start_at calls zero = None
-start_at calls (suc before) = slice_get (starts_of calls) before
+start_at calls (suc before) = slice_get (ok_starts_of calls) before
 
 -- what a start was given
-abbrev pub argv_of : SpawnRequest → Option (List (List ℕ))
-argv_of (Start root argv env cwd) = Some argv
-argv_of _ = None
+abbrev pub argv_of_start : SpawnRequest → Option (List (List ℕ))
+argv_of_start (Start root argv env cwd) = Some argv
+argv_of_start _ = None
 
 abbrev pub env_of : SpawnRequest → Option (List (List ℕ))
 env_of (Start root argv env cwd) = Some env
@@ -69,7 +69,7 @@ is_below bound (Started child) = nat_lt child.number bound
 is_below bound _ = true
 
 abbrev pub AreNumbered : List SpawnCall → Type 0
-AreNumbered calls = list_all (λ (c : SpawnCall). is_below (length (starts_of calls)) c.reply) calls ≡ true
+AreNumbered calls = list_all (λ (c : SpawnCall). is_below (length (ok_starts_of calls)) c.reply) calls ≡ true
 
 abbrev pub is_refusal : SpawnReply → Bool
 is_refusal (Refused error) = true
@@ -80,8 +80,8 @@ abbrev pub raised : ℕ → ℕ
 raised n = min (n + 1) (2 ^ 64 - 1)
 
 -- the next call was listed to fail
-abbrev pub is_call_to_fail : SpawnerMemory → Bool
-is_call_to_fail m = list_any (λ number. number == m.counted + 1) m.failing
+abbrev pub is_spawner_failure_due : SpawnerMemory → Bool
+is_spawner_failure_due m = list_any (λ number. number == m.counted + 1) m.failing
 
 -- a call is counted
 abbrev pub with_count : SpawnerMemory → SpawnerMemory
@@ -103,13 +103,13 @@ IsReply fails told (Refused Failed) = fails ≡ true
 IsReply fails told reply = (fails ≡ false) × (reply ≡ told)
 
 -- a call was answered and noted
-pub record Answers (fails : Bool) (old : SpawnerMemory) (request : SpawnRequest) (told reply : SpawnReply) (new : SpawnerMemory) : Type 0 where
+pub record SpawnerMemoryAnswers (fails : Bool) (old : SpawnerMemory) (request : SpawnRequest) (told reply : SpawnReply) (new : SpawnerMemory) : Type 0 where
   pub replied : IsReply fails told reply
   pub after : new ≡ after_reply old request reply
 
 -- one call: it was counted, and has this reply where it wasn't listed to fail
 abbrev pub Spawns : SpawnerMemory → SpawnRequest → SpawnReply → SpawnReply → SpawnerMemory → Type 0
-Spawns old request told reply new = Answers (is_call_to_fail old) (with_count old) request told reply new
+Spawns old request told reply new = SpawnerMemoryAnswers (is_spawner_failure_due old) (with_count old) request told reply new
 
 -- the reply that an answer stands for
 abbrev pub reply_or : SpawnReply → Result (Unit {0}) SpawnError → SpawnReply

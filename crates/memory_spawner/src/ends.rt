@@ -2,7 +2,7 @@
 ghost use Rattle.std.specs.Prelude.{◌≡◌, ◌+◌, ◌==◌, find};
 ghost use Rattle.std.specs.List.{list_any};
 ghost use Rattle.std.specs.Option.{option_copied};
-ghost use Rattle.memory_spawner.specs.SpawnerMemories.{status_of};
+ghost use Rattle.memory_spawner.specs.SpawnerMemories.{end_status_of};
 
 /// The status with which the child of a start ends. Starts are counted from 1.
 #[derive(Clone, Copy)]
@@ -19,7 +19,7 @@ fn find_end(ends: &[End], number: u32) -> Option<&End>
 
 /// The status with which the child of a number ends: 0, unless another was told for its start.
 pub fn status_of(ends: &[End], number: u32) -> u8
-    ensures { result ≡ status_of ends.now number }
+    ensures { result ≡ end_status_of ends.now number }
 {
     match find_end(ends, number) {
         Some(end) => end.status,

@@ -79,7 +79,7 @@ impl MemorySpawner {
     ghost use Rattle.std.specs.Prelude.{◌≡◌, ◌+◌, ◌++◌, ◌∷◌, ◌≤◌, [], true, false, length, IfOk, IsErrOf};
     ghost use Rattle.std.specs.Option.{option_copied};
     ghost use Rattle.dir_model.specs.Causes.{Rose};
-    ghost use Rattle.memory_spawner.specs.SpawnerMemories.{starts_of, given_at, argv_of, env_of, cwd_of, is_call_to_fail, is_below, is_refusal, with_count, reply_or, Answers};
+    ghost use Rattle.memory_spawner.specs.SpawnerMemories.{ok_starts_of, given_at, argv_of_start, env_of, cwd_of, is_spawner_failure_due, is_below, is_refusal, with_count, reply_or, SpawnerMemoryAnswers};
 
     /// Nothing was asked for, no call is to fail, and every program ends with 0. Takes no memory.
     pub fn new(alloc: Global) -> MemorySpawner
@@ -118,7 +118,7 @@ impl MemorySpawner {
 
     /// The number of Ok starts.
     pub fn starts(&self) -> u64
-        ensures { result ≡ length (starts_of self.now.calls) }
+        ensures { result ≡ length (ok_starts_of self.now.calls) }
     {
         count_starts(&self.calls) as u64
     }
@@ -126,7 +126,7 @@ impl MemorySpawner {
     /// The words that the Ok start of that number, counted from 1, was given. None where there was no
     /// such start.
     pub fn argv(&self, start: u64) -> Option<&Words>
-        ensures { option_copied result ≡ given_at argv_of self.now.calls start }
+        ensures { option_copied result ≡ given_at argv_of_start self.now.calls start }
     {
         argv_at(&self.calls, start)
     }
@@ -149,7 +149,7 @@ impl MemorySpawner {
 
     /// Counts a call, and tells whether it is to fail.
     fn count(&mut self) -> bool
-        ensures fails { result ≡ is_call_to_fail self.old }
+        ensures fails { result ≡ is_spawner_failure_due self.old }
         ensures after { self.new ≡ with_count self.old }
         ensures faultless { self.new.faults ≡ self.old.faults }
     {
@@ -165,11 +165,11 @@ impl MemorySpawner {
         request: SpawnRequest,
         reply: SpawnReply,
     ) -> Result<(), SpawnError>
-        requires next { is_below (length (starts_of self.old.calls) + 1) reply ≡ true }
+        requires next { is_below (length (ok_starts_of self.old.calls) + 1) reply ≡ true }
         requires answered { is_refusal reply ≡ false }
         ensures kept { self.old.faults ≤ self.new.faults }
         ensures cause { IsErrOf result SpawnError.Failed → Rose self.old.faults self.new.faults }
-        ensures answers { Answers fails self.old request reply (reply_or reply result) self.new }
+        ensures answers { SpawnerMemoryAnswers fails self.old request reply (reply_or reply result) self.new }
     {
         let reply = reply_unless(fails, reply);
         let Ok(()) = self.calls.push(SpawnCall { request, reply }) else {
@@ -188,11 +188,11 @@ impl Spawner for MemorySpawner {
     ghost use Rattle.dir_model.specs.Causes.{Rose};
     ghost use Rattle.spawner.specs.Calls.{ready_reply, start_reply, wait_reply, has_started, Tells};
     ghost use Rattle.spawner.specs.Conditions.{MayStart, MayWait};
-    ghost use Rattle.memory_spawner.specs.SpawnerMemories.{shown_of, starts_of, status_of, Spawns};
+    ghost use Rattle.memory_spawner.specs.SpawnerMemories.{spawner_of_memory, ok_starts_of, end_status_of, Spawns};
 
     ghost observed = { true };
 
-    ghost shown = { λ s. shown_of s };
+    ghost shown = { λ s. spawner_of_memory s };
 
     fn faults(&self) -> u64 {
         self.faults
@@ -208,7 +208,7 @@ impl Spawner for MemorySpawner {
         requires may { D.observed ≡ true → MayStart (D.shown _dir.now) root.now }
         ensures kept { self.old.faults ≤ self.new.faults }
         ensures cause { IsErrOf result SpawnError.Failed → Rose self.old.faults self.new.faults }
-        ensures told { true ≡ true → Tells (shown_of self.old) (SpawnRequest.Ready root.now listing.now) (ready_reply result) (shown_of self.new) }
+        ensures told { true ≡ true → Tells (spawner_of_memory self.old) (SpawnRequest.Ready root.now listing.now) (ready_reply result) (spawner_of_memory self.new) }
         ensures spawns { Spawns self.old (SpawnRequest.Ready root.now listing.now) SpawnReply.Done (ready_reply result) self.new }
     {
         let fails = self.count();
@@ -233,10 +233,10 @@ impl Spawner for MemorySpawner {
         requires may { D.observed ≡ true → MayStart (D.shown _dir.now) root.now }
         ensures kept { self.old.faults ≤ self.new.faults }
         ensures cause { IsErrOf result SpawnError.Failed → Rose self.old.faults self.new.faults }
-        ensures told { true ≡ true → Tells (shown_of self.old) (SpawnRequest.Start root.now argv.now env.now cwd.now) (start_reply result) (shown_of self.new) }
+        ensures told { true ≡ true → Tells (spawner_of_memory self.old) (SpawnRequest.Start root.now argv.now env.now cwd.now) (start_reply result) (spawner_of_memory self.new) }
         ensures fresh { IfOk result (λ child. true ≡ true → has_started child self.old.calls ≡ false) }
         ensures spawns { Spawns self.old (SpawnRequest.Start root.now argv.now env.now cwd.now)
-            (SpawnReply.Started (record { number = length (starts_of self.old.calls) })) (start_reply result) self.new }
+            (SpawnReply.Started (record { number = length (ok_starts_of self.old.calls) })) (start_reply result) self.new }
     {
         let fails = self.count();
         let Ok(request) = start_request(alloc, root, argv, env, cwd) else {
@@ -256,9 +256,9 @@ impl Spawner for MemorySpawner {
         requires may { D.observed ≡ true → true ≡ true → MayWait (D.shown _dir.now) self.old.calls child }
         ensures kept { self.old.faults ≤ self.new.faults }
         ensures cause { IsErrOf result SpawnError.Failed → Rose self.old.faults self.new.faults }
-        ensures told { true ≡ true → Tells (shown_of self.old) (SpawnRequest.Wait child) (wait_reply result) (shown_of self.new) }
-        ensures status { IfOk result (λ status. true ≡ true → status ≡ status_of self.old.ends child.number) }
-        ensures spawns { Spawns self.old (SpawnRequest.Wait child) (SpawnReply.Ended (status_of self.old.ends child.number)) (wait_reply result) self.new }
+        ensures told { true ≡ true → Tells (spawner_of_memory self.old) (SpawnRequest.Wait child) (wait_reply result) (spawner_of_memory self.new) }
+        ensures status { IfOk result (λ status. true ≡ true → status ≡ end_status_of self.old.ends child.number) }
+        ensures spawns { Spawns self.old (SpawnRequest.Wait child) (SpawnReply.Ended (end_status_of self.old.ends child.number)) (wait_reply result) self.new }
     {
         let fails = self.count();
         let request = SpawnRequest::Wait(child);

@@ -1,7 +1,7 @@
 // The starts among the calls of a spawner.
 ghost use Rattle.std.specs.Prelude.{◌≡◌, length};
 ghost use Rattle.std.specs.Option.{option_copied};
-ghost use Rattle.memory_spawner.specs.SpawnerMemories.{is_start, starts_of, start_at, given_at, argv_of, env_of, cwd_of};
+ghost use Rattle.memory_spawner.specs.SpawnerMemories.{is_start, ok_starts_of, start_at, given_at, argv_of_start, env_of, cwd_of};
 
 use spawner::{SpawnCall, SpawnReply, SpawnRequest, Words};
 
@@ -17,7 +17,7 @@ fn is_start(call: &SpawnCall) -> bool
 
 /// The number of calls that started a program.
 pub fn count_starts(calls: &[SpawnCall]) -> usize
-    ensures { result ≡ length (starts_of calls.now) }
+    ensures { result ≡ length (ok_starts_of calls.now) }
 {
     let mut count = 0;
     'calls: for call in calls {
@@ -46,7 +46,7 @@ fn start_at(calls: &[SpawnCall], start: u64) -> Option<&SpawnCall>
 
 /// The words that a start was given.
 pub fn argv_at(calls: &[SpawnCall], start: u64) -> Option<&Words>
-    ensures { option_copied result ≡ given_at argv_of calls.now start }
+    ensures { option_copied result ≡ given_at argv_of_start calls.now start }
 {
     match &start_at(calls, start)?.request {
         SpawnRequest::Start { argv, .. } => Some(argv),

@@ -1,5 +1,5 @@
 -- What the service asked the directory for.
-use Rattle.std.proofs.Common.{◌≡◌, ◌≤◌, ◌||◌, ◌==◌, bytes_eq, ℕ, Bool, true, false, List, Result, refl}
+use Rattle.std.proofs.Common.{◌≡◌, ◌≤◌, ◌==◌, bytes_eq, ℕ, Bool, true, List, Result, refl}
 use Rattle.dir_model.specs.declared.area.Area.TheVariants as area
 use Rattle.dir_model.specs.declared.pod.PodId.{PodId}
 use Rattle.dir_model.specs.declared.request.DirError.{DirError}
@@ -19,10 +19,6 @@ use Rattle.pod_lookup.proofs.Looking.{looks_area}
 use Rattle.pod_report.specs.Requests.{OnlyAsksFor}
 use Rattle.pod_report.proofs.Asking.{asks_looks, looks_places}
 use Rattle.metadata.specs.Looks.{looks_in_run}
-
-or_none : (b : Bool) → (b || false) ≡ true → b ≡ true
-or_none true h = refl
-or_none false h = cc
 
 looks_at_pod : (pod : PodId) (r : Request) → is_look_at (is_pod_spot pod) r ≡ true → looks_in_run r ≡ true
 looks_at_pod pod (Open spot which) is = and_left (is_stage spot.area) (bytes_eq spot.name (pod_text pod.bytes)) is

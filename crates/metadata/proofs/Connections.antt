@@ -1,13 +1,14 @@
 -- Connections that were served, one after the other.
-use Rattle.std.proofs.Common.{arith, ◌≡◌, inl, inr, ◌≤◌, ◌+◌, ℕ, Option, Some, None, option_map, Ok, Err, List, [], ◌∷◌, ◌++◌, length, refl, ap, subst, ◌∙◌}
+use Rattle.std.proofs.Common.{◌≡◌, inl, inr, ◌≤◌, ◌+◌, ℕ, Option, Some, None, option_map, Ok, Err, List, [], ◌∷◌, ◌++◌, length, refl, ap, subst, ◌∙◌}
 use Rattle.std.specs.Prelude.{IsErrOf, OnOk}
 use Rattle.dir_model.specs.Causes.{Rose}
+use Rattle.dir_laws.proofs.Rose.{rose_later, rose_still}
 use Rattle.dir_trait.specs.DirCalls.{DirAt}
-use Rattle.listener.specs.Connections.{Connection, HungUp, ListenerAt, fresh, ended, HangsUp, WritesText, read_on, written_on}
+use Rattle.listener.specs.Connections.{Connection, HungUp, ListenerAt, fresh, past_with_current, HangsUp, WritesText, read_on, written_on}
 use Rattle.metadata_request.specs.Inputs.{unread_of, HasRead}
 use Rattle.metadata.specs.declared.error.MetaError.{MetaError}
 use Rattle.metadata.specs.Serving.{IsReplyTo, Serves, ServesAtMost}
-use Rattle.metadata.specs.Service.{Served, Owes, ServesOne, ServesThese, first_of, first_fault}
+use Rattle.metadata.specs.Service.{Served, Owes, ServesOne, ServesThese, first_failed_of, first_failure}
 
 -- what is left of a connection that was served so
 pub record Leaves (key : List ℕ) (served : Served) (old new : ListenerAt) (from upto : DirAt) : Type 0 where
@@ -32,7 +33,7 @@ module _ (key input : List ℕ) (old taken served new : ListenerAt) (from upto :
       let last : HungUp = record { connection = c; faults = new.faults } in
       record {
         connection = c;
-        past = ends.past ∙ (ap (λ (o : Option Connection). ended new.faults served.past o) now ∙ ap (λ (l : List HungUp). l ++ last ∷ []) same);
+        past = ends.past ∙ (ap (λ (o : Option Connection). past_with_current new.faults served.past o) now ∙ ap (λ (l : List HungUp). l ++ last ∷ []) same);
         current = ends.current;
         address = ends.address ∙ still;
         owes = owes;
@@ -70,19 +71,13 @@ none_current key [] old new from upto those none = ap (λ (l : ListenerAt). l.cu
 none_current key (served ∷ more) old new from upto those none = none_current key more those.0 new those.1 upto those.3 those.2.current
 
 -- the first fault, with one more
-pub fault_more : (results : List Served) (served : Served) → first_fault (results ++ served ∷ []) ≡ first_of (first_fault results) served
+pub fault_more : (results : List Served) (served : Served) → first_failure (results ++ served ∷ []) ≡ first_failed_of (first_failure results) served
 fault_more [] (Ok done) = refl
 fault_more [] (Err e) = refl
 fault_more (Ok done ∷ rest) served = fault_more rest served
 fault_more (Err e ∷ rest) served = refl
 
-rose_later : (a b c : ℕ) → a ≤ b → Rose b c → Rose a c
-rose_later a b c before rose = omega arith
-
-rose_still : (a b c : ℕ) → Rose a b → b ≤ c → Rose a c
-rose_still a b c rose after = omega arith
-
 -- why the first of both failed
-pub first_cause : (first served : Served) (e : MetaError) (a b c : ℕ) → (IsErrOf first e → Rose a b) → (IsErrOf served e → Rose b c) → a ≤ b → b ≤ c → IsErrOf (first_of first served) e → Rose a c
+pub first_cause : (first served : Served) (e : MetaError) (a b c : ℕ) → (IsErrOf first e → Rose a b) → (IsErrOf served e → Rose b c) → a ≤ b → b ≤ c → IsErrOf (first_failed_of first served) e → Rose a c
 first_cause (Ok done) served e a b c first later ab bc is = rose_later a b c ab (later is)
 first_cause (Err f) served e a b c first later ab bc is = rose_still a b c (first is) bc

@@ -3,7 +3,8 @@ mod Asking
 mod Shown
 mod Tokens
 mod Images
-mod Views
+pub mod Views
 mod Finding
 mod Replied
 mod Connections
+pub mod Calm

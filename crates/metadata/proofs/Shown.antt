@@ -14,7 +14,7 @@ use Rattle.dir_trait.specs.DirCalls.{DirAt}
 use Rattle.lifecycle.specs.declared.machine.PodState.{PodState}
 use Rattle.lifecycle.specs.declared.machine.PodState.TheVariants.{Absent, Embryo, Preparing, AbortedPrepare, Prepared, Running, Exited, ExitedGarbage, Garbage, Deleting, Gone}
 use Rattle.lifecycle.specs.Executions.{IsConforming}
-use Rattle.lifecycle.specs.PodMachine.{pod_state, phase_of_state, age}
+use Rattle.lifecycle.specs.PodMachine.{pod_state, phase_of_state, pod_progress}
 use Rattle.phase_read.specs.Exact.{AtOwnEvent}
 use Rattle.pod_lookup.proofs.Shown.{further, own_event, own_end}
 use Rattle.metadata.specs.PodViews.{WasNotRunning}
@@ -38,12 +38,12 @@ not_running Garbage off is = cc
 not_running (Deleting o f) off is = cc
 not_running Gone off is = cc
 
-old_enough : (s : PodState) → runs s ≡ true → 4 < age s
+old_enough : (s : PodState) → runs s ≡ true → 4 < pod_progress s
 unfolding runs
 old_enough (Running owner) is = omega arith
 old_enough s is = cc
 
-too_old : (s : PodState) → 6 < age s → runs s ≡ false
+too_old : (s : PodState) → 6 < pod_progress s → runs s ≡ false
 unfolding runs
 too_old (Running owner) l = absurd (omega (arith, l))
 too_old s l = refl

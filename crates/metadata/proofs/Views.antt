@@ -13,45 +13,45 @@ use Rattle.lifecycle.specs.PodMachine.{pod_phase}
 use Rattle.manifests.specs.declared.runtime_app.RuntimeApp.{RuntimeApp}
 use Rattle.manifests.specs.PodData.{PodData, RuntimeAppData, runtime_app_data}
 use Rattle.metadata_reply.specs.declared.view.ImageBytes.{ImageBytes}
-use Rattle.metadata_reply.specs.Views.{ViewData, HasReading, IsWhole, image_bytes}
+use Rattle.metadata_reply.specs.Views.{ViewData, HasReading, IsWholeView, image_bytes}
 use Rattle.phase_read.specs.declared.found.Found.{Found}
 use Rattle.phase_read.specs.declared.found.Found.TheVariants.{At, Gone}
 use Rattle.phase_read.specs.Exact.{AtOwnEvent, IsInPhase, IsExactly}
-use Rattle.pod_files.specs.Files.{ReadsManifest}
+use Rattle.pod_files.specs.Files.{ReadsPodManifest}
 use Rattle.pod_files.specs.Looks.{OnlyReadsPod}
 use Rattle.pod_report.specs.Requests.{OnlyAsksFor}
 use Rattle.metadata.specs.Looks.{looks_in_run}
 use Rattle.metadata.specs.Images.{names, TellsManifestImages}
-use Rattle.metadata.specs.PodViews.{app_names, LacksImageOf, ReadsImages, HasDigits, WasRunning, TellsFiles, TellsRunning, TellsPod}
+use Rattle.metadata.specs.PodViews.{app_names, LacksImageOf, ReadsAppImages, HasDigits, WasRunning, TellsFiles, TellsRunning, TellsPod}
 use Rattle.metadata.specs.Running.{is_running, TellsPhase}
 use Rattle.metadata.proofs.Images.{data_names}
 use Rattle.metadata.proofs.Wider.{wider_after, wider_before, reads_wider, images_wider, lacks_image_wider, running_wider, stopped_wider, files_wider, lacks_view_wider}
 
 -- the view of a manifest and its images
-pub view_whole : (v : ViewData) (pod : PodId) (manifest : PodData) (apps : List RuntimeApp) (images : List ImageBytes) → manifest.apps ≡ map runtime_app_data apps → v ≡ record { uuid = pod.bytes; manifest = manifest; images = map image_bytes images } → length images ≡ length apps → All HasReading (map image_bytes images) → IsWhole v
-view_whole v pod manifest apps images are is each readable = subst IsWhole (sym is) (record {
+pub view_whole : (v : ViewData) (pod : PodId) (manifest : PodData) (apps : List RuntimeApp) (images : List ImageBytes) → manifest.apps ≡ map runtime_app_data apps → v ≡ record { uuid = pod.bytes; manifest = manifest; images = map image_bytes images } → length images ≡ length apps → All HasReading (map image_bytes images) → IsWholeView v
+view_whole v pod manifest apps images are is each readable = subst IsWholeView (sym is) (record {
   paired = length-map images image_bytes ∙ (each ∙ (sym (length-map apps runtime_app_data) ∙ ap length (sym are)));
   readable = readable;
 })
 
-pub view_images : (v : ViewData) (pod : PodId) (manifest : PodData) (apps : List RuntimeApp) (images : List ImageBytes) (old new : DirAt) → manifest.apps ≡ map runtime_app_data apps → v ≡ record { uuid = pod.bytes; manifest = manifest; images = map image_bytes images } → ReadsImages pod (names apps) (map image_bytes images) old new → TellsManifestImages pod manifest (Some v) old new
+pub view_images : (v : ViewData) (pod : PodId) (manifest : PodData) (apps : List RuntimeApp) (images : List ImageBytes) (old new : DirAt) → manifest.apps ≡ map runtime_app_data apps → v ≡ record { uuid = pod.bytes; manifest = manifest; images = map image_bytes images } → ReadsAppImages pod (names apps) (map image_bytes images) old new → TellsManifestImages pod manifest (Some v) old new
 view_images v pod manifest apps images old new are is read = (
   ap (λ (x : ViewData). x.uuid) is,
   ap (λ (x : ViewData). x.manifest) is,
-  subst (λ (ns : List (List ℕ)). ReadsImages pod ns v.images old new) (sym (ap (map (λ (a : RuntimeAppData). a.name)) are ∙ data_names apps))
-      (subst (λ (l : List (List ℕ)). ReadsImages pod (names apps) l old new) (sym (ap (λ (x : ViewData). x.images) is)) read),
+  subst (λ (ns : List (List ℕ)). ReadsAppImages pod ns v.images old new) (sym (ap (map (λ (a : RuntimeAppData). a.name)) are ∙ data_names apps))
+      (subst (λ (l : List (List ℕ)). ReadsAppImages pod (names apps) l old new) (sym (ap (λ (x : ViewData). x.images) is)) read),
 )
 
 pub view_lacks : (pod : PodId) (manifest : PodData) (apps : List RuntimeApp) (old new : DirAt) → manifest.apps ≡ map runtime_app_data apps → LacksImageOf pod (names apps) old new → LacksImageOf pod (app_names manifest) old new
 view_lacks pod manifest apps old new are lacks = subst (λ (ns : List (List ℕ)). LacksImageOf pod ns old new) (sym (ap (map (λ (a : RuntimeAppData). a.name)) are ∙ data_names apps)) lacks
 
 -- with its manifest, as it was read before
-pub files_told : {observed : Bool} (t : observed ≡ true) (pod : PodId) (manifest : PodData) (found : Option ViewData) (a b c : DirAt) → OnlyReadsPod observed pod a b → OnlyReadsPod observed pod b c → ReadsManifest pod manifest a b → TellsManifestImages pod manifest found b c → TellsFiles pod found a c
+pub files_told : {observed : Bool} (t : observed ≡ true) (pod : PodId) (manifest : PodData) (found : Option ViewData) (a b c : DirAt) → OnlyReadsPod observed pod a b → OnlyReadsPod observed pod b c → ReadsPodManifest pod manifest a b → TellsManifestImages pod manifest found b c → TellsFiles pod found a c
 files_told t pod manifest None a b c ab bc read lacks = inr (record { manifest = manifest; read = reads_wider (wider_before a b c (bc.extends t)) read; lacks = lacks_image_wider (wider_after a b c ab.same (ab.extends t)) pod (app_names manifest) lacks })
 files_told t pod manifest (Some v) a b c ab bc read tells = record {
   uuid = tells.0;
-  manifest = subst (λ (m : PodData). ReadsManifest pod m a c) (sym tells.1) (reads_wider (wider_before a b c (bc.extends t)) read);
-  images = subst (λ (m : PodData). ReadsImages pod (app_names m) v.images a c) (sym tells.1) (images_wider (wider_after a b c ab.same (ab.extends t)) pod (app_names manifest) v.images tells.2);
+  manifest = subst (λ (m : PodData). ReadsPodManifest pod m a c) (sym tells.1) (reads_wider (wider_before a b c (bc.extends t)) read);
+  images = subst (λ (m : PodData). ReadsAppImages pod (app_names m) v.images a c) (sym tells.1) (images_wider (wider_after a b c ab.same (ab.extends t)) pod (app_names manifest) v.images tells.2);
 }
 
 -- what the phase tells that was read
@@ -66,7 +66,7 @@ other_phase pod phase.ExitedGarbage area trace off is now = let e : Some phase.E
 other_phase pod phase.Garbage area trace off is now = let e : Some phase.Garbage ≡ Some phase.Running = sym is.is ∙ now in cc
 other_phase pod phase.Deleting area trace off is now = let e : Some phase.Deleting ≡ Some phase.Running = sym is.is ∙ now in cc
 
-event_so : {me : ℕ} {old new : List Event} {P : List Event → Type 0} (Q : List Event → Type 0) → ((trace : List Event) → P trace → Q trace) → AtOwnEvent me old new P → AtOwnEvent me old new Q
+pub event_so : {me : ℕ} {old new : List Event} {P : List Event → Type 0} (Q : List Event → Type 0) → ((trace : List Event) → P trace → Q trace) → AtOwnEvent me old new P → AtOwnEvent me old new Q
 event_so Q f at = record { before = at.before; step = at.step; later = at.later; rest = at.rest; begins = at.begins; ends = at.ends; own = at.own; holds = f (at.before ++ at.step ∷ []) at.holds }
 
 pub phase_told : (pod : PodId) (found : Found) (b : Bool) (old new : DirAt) → b ≡ is_running found → IsExactly old new pod found → TellsPhase pod b old new

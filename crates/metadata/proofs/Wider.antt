@@ -14,7 +14,7 @@ use Rattle.phase_read.specs.Exact.{AtOwnEvent}
 use Rattle.phase_read.proofs.Exact.{event_within}
 use Rattle.pod_lookup.proofs.Shown.{conforms}
 use Rattle.metadata_reply.specs.Views.{ViewData}
-use Rattle.metadata.specs.PodViews.{ReadsImages, LacksImageOf, HasFiles, LacksView, WasRunning, WasNotRunning, IsViewOf, HasNoView, TellsNamed}
+use Rattle.metadata.specs.PodViews.{ReadsAppImages, LacksImageOf, HasFiles, LacksView, WasRunning, WasNotRunning, IsViewOf, HasNoView, TellsNamed}
 use Rattle.metadata.specs.Finding.{NoneOf}
 
 -- the second and the third moment lie between the others
@@ -63,7 +63,7 @@ module _ {old first last new : DirAt} (w : Wider old first last new) where
   pub stopped_wider : (pod : PodId) → WasNotRunning pod first last → WasNotRunning pod old new
   stopped_wider pod was conforming = at_event (was (conforms last.trace new.trace w.later w.ends conforming))
 
-  pub images_wider : (pod : PodId) (apps images : List (List ℕ)) → ReadsImages pod apps images first last → ReadsImages pod apps images old new
+  pub images_wider : (pod : PodId) (apps images : List (List ℕ)) → ReadsAppImages pod apps images first last → ReadsAppImages pod apps images old new
   images_wider pod [] [] are = tt
   images_wider pod [] (image ∷ images) are = absurd are
   images_wider pod (app ∷ apps) [] are = absurd are

@@ -3,14 +3,14 @@ use Rattle.std.specs.Prelude.{◌≡◌, ◌⊎◌, ℕ, Bool, true, false, List
 use Rattle.hex.specs.Hex.{encode_lower}
 use Rattle.dir_model.specs.declared.area.Phase.TheVariants.{Running}
 use Rattle.dir_model.specs.declared.pod.PodId.{PodId}
-use Rattle.dir_model.specs.Pods.{pod_text, pod_of}
+use Rattle.dir_model.specs.Pods.{pod_text, pod_of_text}
 use Rattle.dir_trait.specs.DirCalls.{DirAt}
 use Rattle.image_reading.specs.Files.{ReadsFile, LacksFile, most_of_manifest}
 use Rattle.lifecycle.specs.Executions.{IsConforming}
 use Rattle.lifecycle.specs.PodMachine.{pod_phase}
 use Rattle.manifests.specs.PodData.{PodData, RuntimeAppData}
 use Rattle.phase_read.specs.Exact.{AtOwnEvent}
-use Rattle.pod_files.specs.Files.{ReadsManifest, LacksManifest, most_of_token}
+use Rattle.pod_files.specs.Files.{ReadsPodManifest, ReadsNoPodManifest, most_of_token}
 use Rattle.pod_files.specs.Places.{pod_file, token_name}
 use Rattle.metadata_reply.specs.Views.{ViewData, HasReading}
 
@@ -23,19 +23,19 @@ abbrev pub app_names : PodData → List (List ℕ)
 app_names manifest = map (λ (a : RuntimeAppData). a.name) manifest.apps
 
 -- these bytes were read as the manifest of an app's image, which has a reading
-abbrev pub ReadsImage : PodId → List ℕ → List ℕ → DirAt → DirAt → Type 0
-ReadsImage pod app image old new = ReadsFile (pod_file pod (image_path app)) most_of_manifest (λ bytes. (bytes ≡ image) × HasReading bytes) old new
+abbrev pub ReadsAppImage : PodId → List ℕ → List ℕ → DirAt → DirAt → Type 0
+ReadsAppImage pod app image old new = ReadsFile (pod_file pod (image_path app)) most_of_manifest (λ bytes. (bytes ≡ image) × HasReading bytes) old new
 
 -- there was none, or it has no reading
-abbrev pub LacksImage : PodId → List ℕ → DirAt → DirAt → Type 0
-LacksImage pod app old new = LacksFile (pod_file pod (image_path app)) most_of_manifest (λ bytes. HasReading bytes → ⊥) old new
+abbrev pub LacksAppImage : PodId → List ℕ → DirAt → DirAt → Type 0
+LacksAppImage pod app old new = LacksFile (pod_file pod (image_path app)) most_of_manifest (λ bytes. HasReading bytes → ⊥) old new
 
 -- the images of the apps were read, app by app
-abbrev pub ReadsImages : PodId → List (List ℕ) → List (List ℕ) → DirAt → DirAt → Type 0
-ReadsImages pod [] [] old new = Unit {0}
-ReadsImages pod [] (image ∷ images) old new = ⊥
-ReadsImages pod (app ∷ apps) [] old new = ⊥
-ReadsImages pod (app ∷ apps) (image ∷ images) old new = ReadsImage pod app image old new × ReadsImages pod apps images old new
+abbrev pub ReadsAppImages : PodId → List (List ℕ) → List (List ℕ) → DirAt → DirAt → Type 0
+ReadsAppImages pod [] [] old new = Unit {0}
+ReadsAppImages pod [] (image ∷ images) old new = ⊥
+ReadsAppImages pod (app ∷ apps) [] old new = ⊥
+ReadsAppImages pod (app ∷ apps) (image ∷ images) old new = ReadsAppImage pod app image old new × ReadsAppImages pod apps images old new
 
 -- one of these apps has no image with a reading
 pub record LacksImageOf (pod : PodId) (apps : List (List ℕ)) (old new : DirAt) : Type 0 where
@@ -43,23 +43,23 @@ pub record LacksImageOf (pod : PodId) (apps : List (List ℕ)) (old new : DirAt)
   pub app : List ℕ
   pub after : List (List ℕ)
   pub among : apps ≡ before ++ app ∷ after
-  pub lacks : LacksImage pod app old new
+  pub lacks : LacksAppImage pod app old new
 
 -- the pod's manifest and the images of its apps were read
 pub record HasFiles (pod : PodId) (v : ViewData) (old new : DirAt) : Type 0 where
   pub uuid : v.uuid ≡ pod.bytes
-  pub manifest : ReadsManifest pod v.manifest old new
-  pub images : ReadsImages pod (app_names v.manifest) v.images old new
+  pub manifest : ReadsPodManifest pod v.manifest old new
+  pub images : ReadsAppImages pod (app_names v.manifest) v.images old new
 
 -- the pod's manifest was read, and the image of one of its apps has no reading
 pub record LacksSomeImage (pod : PodId) (old new : DirAt) : Type 0 where
   pub manifest : PodData
-  pub read : ReadsManifest pod manifest old new
+  pub read : ReadsPodManifest pod manifest old new
   pub lacks : LacksImageOf pod (app_names manifest) old new
 
 -- a file of its view had no reading
 abbrev pub LacksView : PodId → DirAt → DirAt → Type 0
-LacksView pod old new = LacksManifest pod old new ⊎ LacksSomeImage pod old new
+LacksView pod old new = ReadsNoPodManifest pod old new ⊎ LacksSomeImage pod old new
 
 -- where every process keeps the local rules, the pod ran at an own event
 abbrev pub WasRunning : PodId → DirAt → DirAt → Type 0
@@ -88,16 +88,16 @@ abbrev pub HasNoView : PodId → List ℕ → DirAt → DirAt → Type 0
 HasNoView pod digits old new = WasNotRunning pod old new ⊎ (HasOtherDigits pod digits old new ⊎ LacksView pod old new)
 
 -- it is a pod: a uuid
-abbrev pub IsPod : PodId → Type 0
-IsPod pod = pod_of (pod_text pod.bytes) ≡ Some pod
+abbrev pub IsPodUuid : PodId → Type 0
+IsPodUuid pod = pod_of_text (pod_text pod.bytes) ≡ Some pod
 
 -- what a look at the pods of run for a token found
 abbrev pub FindsDigits : List ℕ → Option ViewData → DirAt → DirAt → Type 0
-FindsDigits digits None old new = (pod : PodId) → IsPod pod → HasNoView pod digits old new
+FindsDigits digits None old new = (pod : PodId) → IsPodUuid pod → HasNoView pod digits old new
 FindsDigits digits (Some v) old new = (pod : PodId) × IsViewOf pod digits v old new
 
-abbrev pub FindsPod : List ℕ → Option ViewData → DirAt → DirAt → Type 0
-FindsPod token found old new = FindsDigits (encode_lower token) found old new
+abbrev pub FindsPodByToken : List ℕ → Option ViewData → DirAt → DirAt → Type 0
+FindsPodByToken token found old new = FindsDigits (encode_lower token) found old new
 
 -- what is told of one pod's files, of whether it runs too, and of its token too
 abbrev pub TellsFiles : PodId → Option ViewData → DirAt → DirAt → Type 0
@@ -119,5 +119,5 @@ TellsDigits pod digits false old new = HasOtherDigits pod digits old new
 
 -- of a name: no pod, or what is told of it
 abbrev pub TellsNamed : List ℕ → List ℕ → Option ViewData → DirAt → DirAt → Type 0
-TellsNamed name digits None old new = (pod : PodId) → pod_of name ≡ Some pod → HasNoView pod digits old new
+TellsNamed name digits None old new = (pod : PodId) → pod_of_text name ≡ Some pod → HasNoView pod digits old new
 TellsNamed name digits (Some v) old new = (pod : PodId) × IsViewOf pod digits v old new

@@ -38,13 +38,13 @@ ServesThese key (served ∷ more) old new from upto =
     (mid : ListenerAt) × (moment : DirAt) × ServesOne key served old mid from moment × ServesThese key more mid new moment upto
 
 -- the first that failed
-abbrev pub first_of : Served → Served → Served
-first_of (Ok done) later = later
-first_of (Err error) later = Err error
+abbrev pub first_failed_of : Served → Served → Served
+first_failed_of (Ok done) later = later
+first_failed_of (Err error) later = Err error
 
-abbrev pub first_fault : List Served → Served
-first_fault [] = Ok tt
-first_fault (served ∷ more) = first_of served (first_fault more)
+abbrev pub first_failure : List Served → Served
+first_failure [] = Ok tt
+first_failure (served ∷ more) = first_failed_of served (first_failure more)
 
 -- the listener failed, or memory ran out
 abbrev pub IsRefusedLink : Served → Type 0
@@ -53,7 +53,7 @@ IsRefusedLink (Err NoMemory) = Unit {0}
 IsRefusedLink _ = ⊥
 
 -- the listener refused, and but for its count of faults it is as it was
-pub record Refuses (result : Served) (old new : ListenerAt) : Type 0 where
+pub record ListenerRefuses (result : Served) (old new : ListenerAt) : Type 0 where
   pub refused : IsRefusedLink result
   pub cause : IsErrOf result LinkFault → Rose old.faults new.faults
   pub same : SameLinks old new
@@ -61,7 +61,7 @@ pub record Refuses (result : Served) (old new : ListenerAt) : Type 0 where
 -- so many were served, and the first that failed is the answer; or fewer were, and the next was refused
 abbrev pub EndsWith : ℕ → List Served → Served → ListenerAt → ListenerAt → Type 0
 EndsWith count results result last new =
-    ((length results ≡ count) × (result ≡ first_fault results) × (new ≡ last)) ⊎ ((length results < count) × Refuses result last new)
+    ((length results ≡ count) × (result ≡ first_failure results) × (new ≡ last)) ⊎ ((length results < count) × ListenerRefuses result last new)
 
 -- so many, or fewer
 pub record ServesUpTo (key : List ℕ) (count : ℕ) (result : Served) (old new : ListenerAt) (from upto : DirAt) : Type 0 where
@@ -79,9 +79,9 @@ pub record ListensAndServes (key address : List ℕ) (count : ℕ) (result : Ser
 
 -- or the address was refused, and the directory wasn't asked
 abbrev pub ServesAt : List ℕ → List ℕ → ℕ → Served → ListenerAt → ListenerAt → DirAt → DirAt → Type 0
-ServesAt key address count result old new from upto = ListensAndServes key address count result old new from upto ⊎ (Refuses result old new × (upto ≡ from))
+ServesAt key address count result old new from upto = ListensAndServes key address count result old new from upto ⊎ (ListenerRefuses result old new × (upto ≡ from))
 
 -- one was taken, served so, and hung up; or none was, and the directory wasn't asked
 abbrev pub ServesNext : List ℕ → Result Served MetaError → ListenerAt → ListenerAt → DirAt → DirAt → Type 0
 ServesNext key (Ok served) old new from upto = ServesOne key served old new from upto
-ServesNext key (Err error) old new from upto = Refuses (Err error) old new × (upto ≡ from)
+ServesNext key (Err error) old new from upto = ListenerRefuses (Err error) old new × (upto ≡ from)

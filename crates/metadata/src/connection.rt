@@ -2,14 +2,14 @@
 ghost use Rattle.std.specs.Prelude.{◌≡◌, ◌≤◌, true, option_map, IfOk, IfErr, IfSome, OnOk, IsErrOf, string_bytes};
 ghost use Rattle.dir_model.specs.Causes.{Rose};
 ghost use Rattle.dir_model.specs.Local.{IsActive};
-ghost use Rattle.metadata_request.specs.Inputs.{unread_of, OnlyReads};
+ghost use Rattle.metadata_request.specs.Inputs.{unread_of, OnlyReadsInput};
 ghost use Rattle.metadata_request.specs.Requests.{IsRequestOf};
 ghost use Rattle.metadata_reply.specs.Answers.{answer_of};
 ghost use Rattle.metadata_reply.specs.ReplyBytes.{reply_bytes};
-ghost use Rattle.metadata_reply.specs.Views.{IsWhole, view_data};
+ghost use Rattle.metadata_reply.specs.Views.{IsWholeView, view_data};
 ghost use Rattle.pod_report.specs.Requests.{HasNoPodOpen, OnlyAsksFor};
 ghost use Rattle.metadata.specs.Looks.{looks_in_run};
-ghost use Rattle.metadata.specs.Serving.{sought, IsPodFor, RepliesFor, Answers, IsReplyTo, Serves, ServesAtMost};
+ghost use Rattle.metadata.specs.Serving.{sought, IsPodFor, RepliesFor, AnswersRequest, IsReplyTo, Serves, ServesAtMost};
 
 use crate::error::{MetaError, link_fault};
 use crate::find::find_pod;
@@ -41,7 +41,7 @@ fn pod_for<D: Dir>(
     ensures only { OnlyAsksFor D.observed looks_in_run (D.shown dir.old) (D.shown dir.new) }
     ensures cause { IsErrOf result MetaError.DirFault → Rose (D.shown dir.old).faults (D.shown dir.new).faults }
     ensures link { IsErrOf result MetaError.LinkFault → ⊥ }
-    ensures whole { IfOk result (λ found. IfSome found (λ v. IsWhole (view_data v))) }
+    ensures whole { IfOk result (λ found. IfSome found (λ v. IsWholeView (view_data v))) }
     ensures found { IfOk result (λ found. D.observed ≡ true → IsPodFor token (option_map view_data found) (D.shown dir.old) (D.shown dir.new)) }
 {
     match token {
@@ -57,7 +57,7 @@ fn answered(
     pod: Option<PodView>,
     key: &[u8; 64],
 ) -> Result<Reply, MetaError>
-    requires { IfSome pod (λ v. IsWhole (view_data v)) }
+    requires { IfSome pod (λ v. IsWholeView (view_data v)) }
     ensures reply { IfOk result (λ reply. reply ≡ answer_of request.now (option_map view_data pod) key.now) }
     ensures memory { IfErr result (λ e. e ≡ MetaError.NoMemory) }
 {
@@ -99,7 +99,7 @@ fn reply_to<D: Dir>(
     ensures only { OnlyAsksFor D.observed looks_in_run (D.shown dir.old) (D.shown dir.new) }
     ensures cause { IsErrOf result MetaError.DirFault → Rose (D.shown dir.old).faults (D.shown dir.new).faults }
     ensures link { IsErrOf result MetaError.LinkFault → ⊥ }
-    ensures reply { IfOk result (λ reply. D.observed ≡ true → Answers request.now key.now reply (D.shown dir.old) (D.shown dir.new)) }
+    ensures reply { IfOk result (λ reply. D.observed ≡ true → AnswersRequest request.now key.now reply (D.shown dir.old) (D.shown dir.new)) }
 {
     match request {
         Some(request) => reply_for(alloc, dir, request, key),
@@ -130,7 +130,7 @@ fn next_reply<L: Listener, D: Dir>(
     ensures only { OnlyAsksFor D.observed looks_in_run (D.shown dir.old) (D.shown dir.new) }
     ensures link_cause { IsErrOf result MetaError.LinkFault → Rose (L.shown link.old).faults (L.shown link.new).faults }
     ensures dir_cause { IsErrOf result MetaError.DirFault → Rose (D.shown dir.old).faults (D.shown dir.new).faults }
-    ensures read { OnlyReads L.observed (L.shown link.old) (L.shown link.new) }
+    ensures read { OnlyReadsInput L.observed (L.shown link.old) (L.shown link.new) }
     ensures reply { IfOk result (λ text. L.observed ≡ true → D.observed ≡ true
         → IsReplyTo (unread_of (L.shown link.old).current) key.now (string_bytes text) (D.shown dir.old) (D.shown dir.new)) }
 {

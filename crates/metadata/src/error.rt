@@ -1,6 +1,6 @@
 // Why a connection wasn't served, or a pod not looked for.
 ghost use Rattle.std.specs.Prelude.{◌≡◌, true, Err};
-ghost use Rattle.phase_read.specs.Faults.{IsFault};
+ghost use Rattle.phase_read.specs.Faults.{IsLookFault};
 ghost use Rattle.dir_trait.specs.Replies.{is_fault};
 ghost use Rattle.metadata.specs.Service.{IsRefusedLink};
 
@@ -31,7 +31,7 @@ pub(crate) fn read_fault(error: ReadError) -> MetaError
 }
 
 pub(crate) fn look_fault(error: LookError) -> MetaError
-    requires { IsFault error }
+    requires { IsLookFault error }
     ensures fault { result ≡ MetaError.DirFault → error ≡ LookError.DirFault }
     ensures link { result ≡ MetaError.LinkFault → ⊥ }
 {

@@ -4,7 +4,7 @@ ghost use Rattle.dir_model.specs.Causes.{Rose};
 ghost use Rattle.dir_model.specs.Local.{IsActive};
 ghost use Rattle.manifests.specs.ManifestRules.{IsPodManifest};
 ghost use Rattle.manifests.specs.PodData.{pod_data};
-ghost use Rattle.metadata_reply.specs.Views.{IsWhole, view_data};
+ghost use Rattle.metadata_reply.specs.Views.{IsWholeView, view_data};
 ghost use Rattle.pod_files.specs.Looks.{OnlyReadsPod};
 ghost use Rattle.metadata.specs.Images.{TellsManifestImages};
 ghost use Rattle.metadata.specs.PodViews.{TellsFiles};
@@ -30,7 +30,7 @@ fn view_with<D: Dir>(
     ensures only { OnlyReadsPod D.observed pod (D.shown dir.old) (D.shown dir.new) }
     ensures cause { IsErrOf result MetaError.DirFault → Rose (D.shown dir.old).faults (D.shown dir.new).faults }
     ensures link { IsErrOf result MetaError.LinkFault → ⊥ }
-    ensures whole { IfOk result (λ found. IfSome found (λ v. IsWhole (view_data v))) }
+    ensures whole { IfOk result (λ found. IfSome found (λ v. IsWholeView (view_data v))) }
     ensures tells { IfOk result (λ found. D.observed ≡ true
         → TellsManifestImages pod (pod_data manifest) (option_map view_data found) (D.shown dir.old) (D.shown dir.new)) }
 {
@@ -52,7 +52,7 @@ pub(crate) fn read_view<D: Dir>(
     ensures only { OnlyReadsPod D.observed pod (D.shown dir.old) (D.shown dir.new) }
     ensures cause { IsErrOf result MetaError.DirFault → Rose (D.shown dir.old).faults (D.shown dir.new).faults }
     ensures link { IsErrOf result MetaError.LinkFault → ⊥ }
-    ensures whole { IfOk result (λ found. IfSome found (λ v. IsWhole (view_data v))) }
+    ensures whole { IfOk result (λ found. IfSome found (λ v. IsWholeView (view_data v))) }
     ensures tells { IfOk result (λ found. D.observed ≡ true → TellsFiles pod (option_map view_data found) (D.shown dir.old) (D.shown dir.new)) }
 {
     match read_manifest(alloc, dir, pod) {

@@ -3,10 +3,10 @@ ghost use Rattle.std.specs.Prelude.{◌≡◌, true, option_map, IfOk, IfSome, I
 ghost use Rattle.dir_model.specs.Causes.{Rose};
 ghost use Rattle.dir_model.specs.Local.{IsActive};
 ghost use Rattle.dir_files.specs.Listed.{ShowsAreaBetween};
-ghost use Rattle.metadata_reply.specs.Views.{IsWhole, view_data};
+ghost use Rattle.metadata_reply.specs.Views.{IsWholeView, view_data};
 ghost use Rattle.pod_report.specs.Requests.{HasNoPodOpen, OnlyAsksFor};
 ghost use Rattle.metadata.specs.Looks.{looks_in_run};
-ghost use Rattle.metadata.specs.PodViews.{FindsPod, TellsNamed};
+ghost use Rattle.metadata.specs.PodViews.{FindsPodByToken, TellsNamed};
 ghost use Rattle.metadata.specs.Finding.{TellsAll};
 
 use crate::error::{MetaError, list_fault};
@@ -43,7 +43,7 @@ fn named_with<D: Dir>(
     ensures only { OnlyAsksFor D.observed looks_in_run (D.shown dir.old) (D.shown dir.new) }
     ensures cause { IsErrOf result MetaError.DirFault → Rose (D.shown dir.old).faults (D.shown dir.new).faults }
     ensures link { IsErrOf result MetaError.LinkFault → ⊥ }
-    ensures whole { IfOk result (λ found. IfSome found (λ v. IsWhole (view_data v))) }
+    ensures whole { IfOk result (λ found. IfSome found (λ v. IsWholeView (view_data v))) }
     ensures tells { IfOk result (λ found. D.observed ≡ true → TellsNamed name.now digits.now (option_map view_data found) (D.shown dir.old) (D.shown dir.new)) }
 {
     match PodId::parse(name.as_str()) {
@@ -64,7 +64,7 @@ fn among_names<D: Dir>(
     ensures only { OnlyAsksFor D.observed looks_in_run (D.shown dir.old) (D.shown dir.new) }
     ensures cause { IsErrOf result MetaError.DirFault → Rose (D.shown dir.old).faults (D.shown dir.new).faults }
     ensures link { IsErrOf result MetaError.LinkFault → ⊥ }
-    ensures whole { IfOk result (λ found. IfSome found (λ v. IsWhole (view_data v))) }
+    ensures whole { IfOk result (λ found. IfSome found (λ v. IsWholeView (view_data v))) }
     ensures tells { IfOk result (λ found. D.observed ≡ true → TellsAll names.now digits.now (option_map view_data found) (D.shown dir.old) (D.shown dir.new)) }
 {
     'names: for name in names {
@@ -94,8 +94,8 @@ pub fn find_pod<D: Dir>(
     ensures only { OnlyAsksFor D.observed looks_in_run (D.shown dir.old) (D.shown dir.new) }
     ensures cause { IsErrOf result MetaError.DirFault → Rose (D.shown dir.old).faults (D.shown dir.new).faults }
     ensures link { IsErrOf result MetaError.LinkFault → ⊥ }
-    ensures whole { IfOk result (λ found. IfSome found (λ v. IsWhole (view_data v))) }
-    ensures finds { IfOk result (λ found. D.observed ≡ true → FindsPod token.now (option_map view_data found) (D.shown dir.old) (D.shown dir.new)) }
+    ensures whole { IfOk result (λ found. IfSome found (λ v. IsWholeView (view_data v))) }
+    ensures finds { IfOk result (λ found. D.observed ≡ true → FindsPodByToken token.now (option_map view_data found) (D.shown dir.old) (D.shown dir.new)) }
 {
     let digits = token_digits(token);
     match names_in_run(alloc, dir) {

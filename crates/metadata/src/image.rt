@@ -5,7 +5,7 @@ ghost use Rattle.dir_model.specs.Local.{IsActive};
 ghost use Rattle.metadata_reply.specs.Views.{HasReading, image_bytes};
 ghost use Rattle.pod_files.specs.Looks.{OnlyReadsPod};
 ghost use Rattle.metadata.specs.PodViews.{image_path};
-ghost use Rattle.metadata.specs.Images.{names, IsImageOf, TellsImage, TellsImages, IfReads};
+ghost use Rattle.metadata.specs.Images.{names, IsImageFromBytes, TellsImage, TellsAppImages, IfReads};
 
 use crate::error::{MetaError, read_fault};
 use ac_types::{AcName, NoMemory, ReadError};
@@ -31,7 +31,7 @@ fn image_path(alloc: Global, app: &str) -> Result<String, NoMemory>
 
 // The image of which the bytes are the manifest.
 fn image_of(alloc: Global, bytes: Vec<u8>) -> Result<Option<ImageBytes>, MetaError>
-    ensures image { IfOk result (IsImageOf bytes.items) }
+    ensures image { IfOk result (IsImageFromBytes bytes.items) }
     ensures memory { IfErr result (λ e. e ≡ MetaError.NoMemory) }
 {
     match read_image(alloc, &bytes) {
@@ -112,7 +112,7 @@ pub(crate) fn read_images<D: Dir>(
     ensures each { IfOk result (λ found. IfSome found (λ images. length images.items ≡ length apps.now)) }
     ensures readable { IfOk result (λ found. IfSome found (λ images. All HasReading (map image_bytes images.items))) }
     ensures tells { IfOk result (λ found. D.observed ≡ true
-        → TellsImages pod (names apps.now) (option_map (λ images. images.items) found) (D.shown dir.old) (D.shown dir.new)) }
+        → TellsAppImages pod (names apps.now) (option_map (λ images. images.items) found) (D.shown dir.old) (D.shown dir.new)) }
 {
     let mut images = Vec::new(alloc);
     'apps: for app in apps {

@@ -3,7 +3,7 @@ ghost use Rattle.std.specs.Prelude.{◌≡◌, true, false, option_map, IfOk, If
 ghost use Rattle.dir_model.specs.Causes.{Rose};
 ghost use Rattle.dir_model.specs.Local.{IsActive, has_own_open};
 ghost use Rattle.dir_model.specs.Pods.{pod_text};
-ghost use Rattle.metadata_reply.specs.Views.{IsWhole, view_data};
+ghost use Rattle.metadata_reply.specs.Views.{IsWholeView, view_data};
 ghost use Rattle.pod_report.specs.Requests.{OnlyAsksFor};
 ghost use Rattle.metadata.specs.Looks.{looks_in_run};
 ghost use Rattle.metadata.specs.Running.{is_running, TellsPhase};
@@ -52,7 +52,7 @@ fn running_view<D: Dir>(
     ensures only { OnlyAsksFor D.observed looks_in_run (D.shown dir.old) (D.shown dir.new) }
     ensures cause { IsErrOf result MetaError.DirFault → Rose (D.shown dir.old).faults (D.shown dir.new).faults }
     ensures link { IsErrOf result MetaError.LinkFault → ⊥ }
-    ensures whole { IfOk result (λ found. IfSome found (λ v. IsWhole (view_data v))) }
+    ensures whole { IfOk result (λ found. IfSome found (λ v. IsWholeView (view_data v))) }
     ensures tells { IfOk result (λ found. D.observed ≡ true → TellsRunning pod (option_map view_data found) (D.shown dir.old) (D.shown dir.new)) }
 {
     match runs(alloc, dir, pod) {
@@ -76,7 +76,7 @@ pub(crate) fn pod_with<D: Dir>(
     ensures only { OnlyAsksFor D.observed looks_in_run (D.shown dir.old) (D.shown dir.new) }
     ensures cause { IsErrOf result MetaError.DirFault → Rose (D.shown dir.old).faults (D.shown dir.new).faults }
     ensures link { IsErrOf result MetaError.LinkFault → ⊥ }
-    ensures whole { IfOk result (λ found. IfSome found (λ v. IsWhole (view_data v))) }
+    ensures whole { IfOk result (λ found. IfSome found (λ v. IsWholeView (view_data v))) }
     ensures tells { IfOk result (λ found. D.observed ≡ true → TellsPod pod digits.now (option_map view_data found) (D.shown dir.old) (D.shown dir.new)) }
 {
     match has_digits(alloc, dir, pod, digits) {

@@ -4,7 +4,7 @@ ghost use Rattle.dir_model.specs.Causes.{Rose};
 ghost use Rattle.dir_model.specs.Local.{IsActive};
 ghost use Rattle.pod_report.specs.Requests.{HasNoPodOpen, OnlyAsksFor};
 ghost use Rattle.metadata.specs.Looks.{looks_in_run};
-ghost use Rattle.metadata.specs.Service.{first_of, IsRefusedLink, ServesNext, ServesUpTo, ServesAt};
+ghost use Rattle.metadata.specs.Service.{first_failed_of, IsRefusedLink, ServesNext, ServesUpTo, ServesAt};
 
 use crate::connection::serve_one;
 use crate::error::{MetaError, link_fault};
@@ -13,7 +13,7 @@ use listener::Listener;
 use std::alloc::Global;
 
 fn first_of(first: Result<(), MetaError>, later: Result<(), MetaError>) -> Result<(), MetaError>
-    ensures { result ≡ first_of first later }
+    ensures { result ≡ first_failed_of first later }
 {
     match first {
         Ok(()) => later,

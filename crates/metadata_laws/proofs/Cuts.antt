@@ -9,7 +9,7 @@ use Rattle.metadata_request.specs.declared.request.Body.{Body}
 use Rattle.metadata_request.specs.declared.request.Body.TheVariants.{Absent, Bad}
 use Rattle.metadata_request.specs.declared.request.Request.{Request}
 use Rattle.metadata_request.specs.Fields.{body_length}
-use Rattle.metadata_request.specs.Heads.{BeginsWith, fields_of}
+use Rattle.metadata_request.specs.Heads.{BeginsWithHead, fields_of}
 use Rattle.metadata_request.specs.Requests.{IsRequestOf, request_of, body_of, stated_body, text_body}
 use Rattle.metadata_laws.specs.Cuts.{IsOneRequest, IsProperBeginning, IsCut, with_bad_body}
 
@@ -22,7 +22,7 @@ same_front front back head body is fits =
     sym (take-append-drop (length head) front) ∙ ap (λ xs. xs ++ drop (length head) front) same
 
 -- a head in the front is that of the whole, and less than the body follows it
-front_has : (whole front body rest : List ℕ) (h k : RequestHead) → IsOneRequest whole h body → IsProperBeginning front whole → BeginsWith front k rest → (k ≡ h) × (length rest < length body)
+front_has : (whole front body rest : List ℕ) (h k : RequestHead) → IsOneRequest whole h body → IsProperBeginning front whole → BeginsWithHead front k rest → (k ≡ h) × (length rest < length body)
 front_has whole front body rest h k one cut begins =
     let reads : ReadsRequest (front ++ cut.back) h body = subst (λ t. ReadsRequest t h body) cut.is one.begins.reads in
     let both = request_prefix_free front cut.back k h rest body begins.reads reads in
@@ -73,7 +73,7 @@ cut_is whole front h request read cut = by cut.read_is
         (ap (λ (r : Request). bytes_eq r.method (codes "POST")) all ∙ bad.0, same ∙ (lacks ∙ ap with_bad_body (sym all)))
 
 -- a front that is no shorter than the head begins with it
-begins_too : (whole front body : List ℕ) (h : RequestHead) → IsOneRequest whole h body → IsProperBeginning front whole → length (print_request h) ≤ length front → BeginsWith front h (drop (length (print_request h)) front)
+begins_too : (whole front body : List ℕ) (h : RequestHead) → IsOneRequest whole h body → IsProperBeginning front whole → length (print_request h) ≤ length front → BeginsWithHead front h (drop (length (print_request h)) front)
 begins_too whole front body h one cut fits = record {
   reads = (one.begins.reads.0, same_front front cut.back (print_request h) body (sym cut.is ∙ one.begins.reads.1) fits);
   limits = one.begins.limits;

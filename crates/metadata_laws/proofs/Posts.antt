@@ -11,9 +11,9 @@ use Rattle.metadata_reply.specs.declared.reply.Allow.TheVariants.{Get, Post}
 use Rattle.metadata_reply.specs.declared.reply.Reply.{Reply}
 use Rattle.metadata_reply.specs.declared.resource.Resource.{Resource}
 use Rattle.metadata_reply.specs.declared.resource.Resource.TheVariants.{PodAnnotations, PodManifest, PodUuid, Sign, Verify, AppAnnotations, ImageManifest, ImageId}
-use Rattle.metadata_reply.specs.Answers.{answer_of, answered, asked, app_names, method_of, method_text, not_allowed, refused, reply_at}
+use Rattle.metadata_reply.specs.Answers.{answer_of, answered, asked, view_app_names, method_of, method_text, not_allowed, refused, reply_at}
 use Rattle.metadata_reply.specs.Resources.{Entry, lookup, table, pod_table, apps_table, app_table, app_path}
-use Rattle.metadata_reply.specs.Targets.{token_of, path_of}
+use Rattle.metadata_reply.specs.Targets.{token_of, target_path}
 use Rattle.metadata_reply.specs.Views.{ViewData}
 use Rattle.metadata_reply.proofs.Lookups.{lookup-append}
 use Rattle.metadata_laws.specs.Cuts.{with_bad_body}
@@ -94,7 +94,7 @@ pub record IsPosted (request : Request) : Type 0 where
   pub token_is : token_of request.target ≡ Some token
   pub resource : Resource
   pub method : method_of resource ≡ Post
-  pub found : (v : ViewData) → lookup (path_of request.target) (table (app_names v)) ≡ Some resource
+  pub found : (v : ViewData) → lookup (target_path request.target) (table (view_app_names v)) ≡ Some resource
 
 flavored : (b : Bool) (reply : Reply) → (cond (not b) (refused 403) reply).status ≡ 200 → (b ≡ true) × (reply.status ≡ 200)
 flavored true reply is = (refl, is)
@@ -105,14 +105,14 @@ answered_post : (request : Request) (key : List ℕ) (token : Option (List ℕ))
 answered_post request key None pod at flavor post is = absurd (omega (arith, is))
 answered_post request key (Some token) None at flavor post is = absurd (omega (arith, is))
 answered_post request key (Some token) (Some v) at flavor post is =
-    let found = asked_post request v key (lookup (path_of request.target) (table (app_names v))) post is in
+    let found = asked_post request v key (lookup (target_path request.target) (table (view_app_names v))) post is in
     record {
       flavor = flavor;
       token = token;
       token_is = at;
       resource = found.0;
       method = found.2;
-      found = λ other. posted (path_of request.target) (app_names v) (app_names other) found.0 found.2 found.1;
+      found = λ other. posted (target_path request.target) (view_app_names v) (view_app_names other) found.0 found.2 found.1;
     }
 
 pub post_found : (request : Request) (pod : Option ViewData) (key : List ℕ) → bytes_eq request.method (codes "POST") ≡ true → (answer_of request pod key).status ≡ 200 → IsPosted request

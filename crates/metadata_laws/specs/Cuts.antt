@@ -5,7 +5,7 @@ use Rattle.httparse.specs.Grammar.{RequestHead}
 use Rattle.metadata_request.specs.declared.request.Body.TheVariants.{Bad}
 use Rattle.metadata_request.specs.declared.request.Request.{Request}
 use Rattle.metadata_request.specs.Fields.{body_length}
-use Rattle.metadata_request.specs.Heads.{BeginsWith, fields_of}
+use Rattle.metadata_request.specs.Heads.{BeginsWithHead, fields_of}
 use Rattle.metadata_request.specs.Requests.{IsRequestOf}
 use Rattle.metadata_reply.specs.declared.reply.Reply.{Reply}
 use Rattle.metadata_reply.specs.Answers.{answer_of, refused}
@@ -17,7 +17,7 @@ stated_length h = if bytes_eq h.method (codes "POST") then body_length (fields_o
 
 -- the input is exactly a head within the limits and its body: nothing follows
 pub record IsOneRequest (input : List ℕ) (h : RequestHead) (body : List ℕ) : Type 0 where
-  pub begins : BeginsWith input h body
+  pub begins : BeginsWithHead input h body
   pub stated : stated_length h ≡ Some (length body)
 
 -- the whole is the front, and then at least a byte

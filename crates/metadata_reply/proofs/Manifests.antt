@@ -6,7 +6,7 @@ use Rattle.std.proofs.lemmas.List.Elements.{All-push}
 use Rattle.manifests.specs.PodData.{runtime_app_data}
 use Rattle.metadata_reply.specs.declared.view.ImageBytes.{ImageBytes}
 use Rattle.metadata_reply.specs.declared.view.PodView.{PodView}
-use Rattle.metadata_reply.specs.Views.{image_bytes, view_data, HasReading, IsWhole}
+use Rattle.metadata_reply.specs.Views.{image_bytes, view_data, HasReading, IsWholeView}
 
 abbrev pub AllRead : List ImageBytes → Type 0
 AllRead images = All HasReading (map image_bytes images)
@@ -20,7 +20,7 @@ one_more images i image more is before here =
     subst (λ (bytes : List (List ℕ)). All HasReading bytes) (sym grown) (All-push HasReading (map image_bytes (take i images)) image.bytes before here)
 
 -- a view with an image for each app, whose manifests were all read
-pub whole_when_read : {E : Type 0} (r : Result Bool E) (v : PodView) (images : List ImageBytes) → images ≡ v.images → length images ≡ length v.manifest.apps → IfOk r (λ read. IsTrue read → AllRead images) → IfOk r (λ whole. IsTrue whole → IsWhole (view_data v))
+pub whole_when_read : {E : Type 0} (r : Result Bool E) (v : PodView) (images : List ImageBytes) → images ≡ v.images → length images ≡ length v.manifest.apps → IfOk r (λ read. IsTrue read → AllRead images) → IfOk r (λ whole. IsTrue whole → IsWholeView (view_data v))
 whole_when_read (Err e) v images are paired h = tt
 whole_when_read (Ok read) v images are paired h = λ yes.
     let sizes : length v.images ≡ length v.manifest.apps = ap (λ (xs : List ImageBytes). length xs) (sym are) ∙ paired in

@@ -24,6 +24,6 @@ abbrev pub HasReading : List ℕ → Type 0
 HasReading bytes = (d : ImageData) × (image_manifest bytes ≡ reads d)
 
 -- each app has its image, whose manifest has a reading
-pub record IsWhole (v : ViewData) : Type 0 where
+pub record IsWholeView (v : ViewData) : Type 0 where
   pub paired : length v.images ≡ length v.manifest.apps
   pub readable : All HasReading v.images

@@ -8,9 +8,9 @@ ghost use Rattle.manifests.specs.PodData.{pod_data, runtime_app_data};
 ghost use Rattle.manifest_writing.specs.PodObject.{pod_object};
 ghost use Rattle.metadata_request.specs.declared.request.Body.TheVariants.{Got};
 ghost use Rattle.metadata_reply.specs.Annotations.{annotations_text};
-ghost use Rattle.metadata_reply.specs.Answers.{found, method_text, app_annotations, reply_at, asked, answer_of, HasApp, LacksApp};
+ghost use Rattle.metadata_reply.specs.Answers.{found, method_text, app_annotations, reply_at, asked, answer_of, ViewHasApp, LacksApp};
 ghost use Rattle.metadata_reply.specs.Resources.{lookup, table};
-ghost use Rattle.metadata_reply.specs.Views.{view_data, IsWhole, HasReading};
+ghost use Rattle.metadata_reply.specs.Views.{view_data, IsWholeView, HasReading};
 
 use crate::annotations::{annotations_text, merge};
 use crate::lookup::resource_at;
@@ -95,9 +95,9 @@ fn id_reply(alloc: Global, app: &RuntimeApp) -> Result<Reply, NoMemory>
 
 /// The app at a place, with its image.
 fn app_at(pod: &PodView, place: usize) -> Option<(&RuntimeApp, &ImageBytes)>
-    requires { IsWhole (view_data pod.now) }
+    requires { IsWholeView (view_data pod.now) }
     ensures { MatchOption result (LacksApp (view_data pod.now) place)
-        (λ p. HasReading p.1.now.bytes × HasApp (view_data pod.now) place (runtime_app_data p.0.now) p.1.now.bytes) }
+        (λ p. HasReading p.1.now.bytes × ViewHasApp (view_data pod.now) place (runtime_app_data p.0.now) p.1.now.bytes) }
 {
     let Some(app) = pod.manifest.apps.as_slice().get(place) else {
         return None;
@@ -116,7 +116,7 @@ fn reply_at(
     body: &Body,
     key: &[u8; 64],
 ) -> Result<Reply, NoMemory>
-    requires { IsWhole (view_data pod.now) }
+    requires { IsWholeView (view_data pod.now) }
     ensures { IfOk result (λ reply. reply ≡ reply_at resource (view_data pod.now) body.now key.now) }
 {
     match resource {
@@ -163,7 +163,7 @@ fn asked(
     key: &[u8; 64],
     resource: Option<Resource>,
 ) -> Result<Reply, NoMemory>
-    requires { IsWhole (view_data pod.now) }
+    requires { IsWholeView (view_data pod.now) }
     ensures { IfOk result (λ reply. reply ≡ asked request.now (view_data pod.now) key.now resource) }
 {
     let Some(resource) = resource else {
@@ -185,7 +185,7 @@ pub fn answer(
     pod: Option<&PodView>,
     key: &[u8; 64],
 ) -> Result<Reply, NoMemory>
-    requires { IfSome pod (λ v. IsWhole (view_data v.now)) }
+    requires { IfSome pod (λ v. IsWholeView (view_data v.now)) }
     ensures { IfOk result (λ reply. reply ≡ answer_of request.now (option_map (λ v. view_data v.now) pod.entry) key.now) }
 {
     if !request.flavor {

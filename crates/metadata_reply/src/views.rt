@@ -2,7 +2,7 @@
 ghost use Rattle.std.specs.Prelude.{◌≡◌, map, All, IfOk, IsTrue};
 ghost use Rattle.manifests.specs.ManifestRules.{IsPodManifest};
 ghost use Rattle.manifests.specs.PodData.{pod_data};
-ghost use Rattle.metadata_reply.specs.Views.{image_bytes, view_data, HasReading, IsWhole};
+ghost use Rattle.metadata_reply.specs.Views.{image_bytes, view_data, HasReading, IsWholeView};
 
 use crate::view::{ImageBytes, ImagesBytes, PodView};
 use ac_types::{NoMemory, ReadError};
@@ -49,7 +49,7 @@ impl PodView {
     /// Whether there is an image for each app, each with a manifest that may be read. `NoMemory` where
     /// memory ran out.
     pub fn is_whole(&self, alloc: Global) -> Result<bool, NoMemory>
-        ensures { IfOk result (λ whole. IsTrue whole → IsWhole (view_data self.now)) }
+        ensures { IfOk result (λ whole. IsTrue whole → IsWholeView (view_data self.now)) }
     {
         let images = self.images.as_slice();
         if images.len() != self.manifest.apps.as_slice().len() {

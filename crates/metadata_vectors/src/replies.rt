@@ -1,6 +1,6 @@
 // The replies of the service, as they are written.
 ghost use Rattle.std.specs.Prelude.{◌<◌, IfSome};
-ghost use Rattle.metadata_reply.specs.Views.{view_data, IsWhole};
+ghost use Rattle.metadata_reply.specs.Views.{view_data, IsWholeView};
 
 use crate::requests::{PIECES, request_in};
 use ac_types::NoMemory;
@@ -19,7 +19,7 @@ pub struct Found<'a> {
 
 // The reply to a request. Only where the target names its token the pod is the one that was found.
 fn reply_to(alloc: Global, request: &Request, found: &Found) -> Result<Reply, NoMemory>
-    requires { IsWhole (view_data found.now.view.now) }
+    requires { IsWholeView (view_data found.now.view.now) }
 {
     let is_found = token_of(request.target.as_str().as_bytes()) == Some(*found.token);
     if is_found {
@@ -37,7 +37,7 @@ fn print_reply(page: &mut Page, reply: &Reply) {
 }
 
 fn print_reply_to(page: &mut Page, request: &Request, found: &Found)
-    requires { IsWhole (view_data found.now.view.now) }
+    requires { IsWholeView (view_data found.now.view.now) }
 {
     match reply_to(page.alloc(), request, found) {
         Ok(reply) => print_reply(page, &reply),
@@ -48,7 +48,7 @@ fn print_reply_to(page: &mut Page, request: &Request, found: &Found)
 // What is written to a connection whose input comes in pieces of at most so many bytes.
 fn written(page: &mut Page, input: &[u8], most: usize, found: &Found) -> String
     requires most { 0 < most }
-    requires whole { IsWhole (view_data found.now.view.now) }
+    requires whole { IsWholeView (view_data found.now.view.now) }
 {
     match request_in(page, input, most) {
         Some(request) => print_reply_to(page, &request, found),
@@ -60,7 +60,7 @@ fn written(page: &mut Page, input: &[u8], most: usize, found: &Found) -> String
 /// What is written to a connection with this input: each line with `\r` at its end. Says so where the same
 /// input in smaller pieces is answered otherwise.
 pub fn written_answer(page: &mut Page, input: &[u8], found: &Found)
-    requires { IsWhole (view_data found.now.view.now) }
+    requires { IsWholeView (view_data found.now.view.now) }
 {
     let whole = written(page, input, 20_000, found);
     let mut others = false;

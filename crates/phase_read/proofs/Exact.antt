@@ -16,7 +16,7 @@ use Rattle.lifecycle.proofs.Looking.{misses_tell_gone}
 use Rattle.phase_read.specs.Read.{HasPhase, LeftOut, pod_spot, stages}
 use Rattle.phase_read.specs.declared.found.Found.{Found}
 use Rattle.phase_read.specs.declared.found.Found.TheVariants.{At, Gone}
-use Rattle.phase_read.specs.Exact.{AtOwnEvent, IsInPhase, IsNowhere, WasSo}
+use Rattle.phase_read.specs.Exact.{AtOwnEvent, IsInPhase, IsNowhere, WasAsFound}
 
 -- the trace that ends with the moment's event
 abbrev moment : {me : ℕ} {old new : List Event} {P : DirState → Type 0} → AtOwnStep me old new P → List Event
@@ -41,7 +41,7 @@ event_within {me} {a} {b} {c} {d} {P} more rest ab cd at = record {
 conforms_at : {me : ℕ} {old new : List Event} {P : DirState → Type 0} (at : AtOwnStep me old new P) → IsConforming new → IsConforming (moment at)
 conforms_at at conforming = conforming_left (moment at) at.rest (subst IsConforming at.ends conforming)
 
-stage_of : (area : Area) → rank area ≤ 5 → is_stage area ≡ true
+pub stage_of : (area : Area) → rank area ≤ 5 → is_stage area ≡ true
 stage_of area within = grind (arith, nat_tests)
 
 pub found_exactly : (pod : PodId) (phase : Phase) (area : Area) {me : ℕ} {old new : List Event} → rank area ≤ 5 → IsConforming new → AtOwnStep me old new (HasPhase (pod_spot pod area) phase) → AtOwnEvent me old new (IsInPhase pod phase area)
@@ -58,6 +58,6 @@ gone_exactly pod me old new conforming missed =
     record { before = was.before; step = was.step; later = was.later; rest = was.rest; begins = was.begins; ends = was.ends; own = was.own; holds = was.is }
 
 -- what was so at an own event of a part was so at one of the whole
-pub was_within : (me : ℕ) (a b c d : List Event) (pod : PodId) (found : Found) (more rest : List Event) → b ≡ a ++ more → d ≡ c ++ rest → WasSo me b c pod found → WasSo me a d pod found
+pub was_within : (me : ℕ) (a b c d : List Event) (pod : PodId) (found : Found) (more rest : List Event) → b ≡ a ++ more → d ≡ c ++ rest → WasAsFound me b c pod found → WasAsFound me a d pod found
 was_within me a b c d pod (At phase area) more rest ab cd so = event_within more rest ab cd so
 was_within me a b c d pod Gone more rest ab cd so = event_within more rest ab cd so

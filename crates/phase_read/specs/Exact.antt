@@ -36,10 +36,10 @@ abbrev pub IsNowhere : PodId → List Event → Type 0
 IsNowhere pod trace = pod_phase (pod_text pod.bytes) trace ≡ None
 
 -- what was found was so at one own event
-abbrev pub WasSo : ℕ → List Event → List Event → PodId → Found → Type 0
-WasSo me old new pod (At phase area) = AtOwnEvent me old new (IsInPhase pod phase area)
-WasSo me old new pod Gone = AtOwnEvent me old new (IsNowhere pod)
+abbrev pub WasAsFound : ℕ → List Event → List Event → PodId → Found → Type 0
+WasAsFound me old new pod (At phase area) = AtOwnEvent me old new (IsInPhase pod phase area)
+WasAsFound me old new pod Gone = AtOwnEvent me old new (IsNowhere pod)
 
 -- where the execution conforms up to the end of the read
 abbrev pub IsExactly : DirAt → DirAt → PodId → Found → Type 0
-IsExactly old new pod found = IsConforming new.trace → WasSo old.process old.trace new.trace pod found
+IsExactly old new pod found = IsConforming new.trace → WasAsFound old.process old.trace new.trace pod found

@@ -7,7 +7,7 @@ ghost use Rattle.dir_trait.specs.DirCalls.{ExtendsBy, HeldBetween, LockToldBetwe
 ghost use Rattle.dir_trait.specs.State.{spot_eq, stands};
 ghost use Rattle.dir_trait.specs.Replies.{is_look_at};
 ghost use Rattle.dir_trait.specs.Local.{IsActive, has_own_open};
-ghost use Rattle.phase_read.specs.Faults.{IsFault};
+ghost use Rattle.phase_read.specs.Faults.{IsLookFault};
 ghost use Rattle.phase_read.specs.Often.{OpensOnce};
 
 use crate::found::{LookError, look_error};
@@ -22,7 +22,7 @@ pub fn look<D: Dir>(alloc: Global, dir: &mut D, spot: Spot) -> Result<bool, Look
     ensures same { (D.shown dir.new).process ≡ (D.shown dir.old).process }
     ensures faults { (D.shown dir.old).faults ≤ (D.shown dir.new).faults }
     ensures cause { IsErrOf result LookError.DirFault → Rose (D.shown dir.old).faults (D.shown dir.new).faults }
-    ensures kind { IfErr result IsFault }
+    ensures kind { IfErr result IsLookFault }
     ensures local { (D.shown dir.new).local ≡ (D.shown dir.old).local }
     ensures known { D.observed ≡ true → OnlyLooks (D.shown dir.old) (D.shown dir.new) }
     ensures extends { D.observed ≡ true → ExtendsBy (is_look_at (spot_eq spot)) (D.shown dir.old) (D.shown dir.new) }
@@ -51,7 +51,7 @@ pub fn ask<D: Dir>(alloc: Global, dir: &mut D, spot: Spot) -> Result<Option<bool
     ensures same { (D.shown dir.new).process ≡ (D.shown dir.old).process }
     ensures faults { (D.shown dir.old).faults ≤ (D.shown dir.new).faults }
     ensures cause { IsErrOf result LookError.DirFault → Rose (D.shown dir.old).faults (D.shown dir.new).faults }
-    ensures kind { IfErr result IsFault }
+    ensures kind { IfErr result IsLookFault }
     ensures local { (D.shown dir.new).local ≡ (D.shown dir.old).local }
     ensures known { D.observed ≡ true → OnlyLooks (D.shown dir.old) (D.shown dir.new) }
     ensures extends { D.observed ≡ true → ExtendsBy (is_look_at (spot_eq spot)) (D.shown dir.old) (D.shown dir.new) }

@@ -10,9 +10,9 @@ ghost use Rattle.dir_trait.specs.Between.{StaysBetween};
 ghost use Rattle.dir_trait.specs.Replies.{is_look_at};
 ghost use Rattle.dir_trait.specs.Local.{IsActive, has_own_open};
 ghost use Rattle.phase_read.specs.Exact.{IsExactly};
-ghost use Rattle.phase_read.specs.Faults.{IsFault};
+ghost use Rattle.phase_read.specs.Faults.{IsLookFault};
 ghost use Rattle.phase_read.specs.Often.{OpensOnce, ReadsAtMost};
-ghost use Rattle.phase_read.specs.Read.{IsRead, HasPhase, FoundBetween, is_pod_spot};
+ghost use Rattle.phase_read.specs.Read.{IsPhaseRead, HasPhase, FoundBetween, is_pod_spot};
 
 use crate::found::{Found, LookError};
 use crate::probe::{ask, look};
@@ -43,7 +43,7 @@ fn read_at<D: Dir>(alloc: Global, dir: &mut D, spot: Spot) -> Result<Option<Phas
     ensures same { (D.shown dir.new).process ≡ (D.shown dir.old).process }
     ensures faults { (D.shown dir.old).faults ≤ (D.shown dir.new).faults }
     ensures cause { IsErrOf result LookError.DirFault → Rose (D.shown dir.old).faults (D.shown dir.new).faults }
-    ensures kind { IfErr result IsFault }
+    ensures kind { IfErr result IsLookFault }
     ensures local { (D.shown dir.new).local ≡ (D.shown dir.old).local }
     ensures known { D.observed ≡ true → OnlyLooks (D.shown dir.old) (D.shown dir.new) }
     ensures extends { D.observed ≡ true → ExtendsBy (is_look_at (spot_eq spot)) (D.shown dir.old) (D.shown dir.new) }
@@ -91,12 +91,12 @@ pub fn read_phase<D: Dir>(alloc: Global, dir: &mut D, pod: PodId) -> Result<Foun
     ensures same { (D.shown dir.new).process ≡ (D.shown dir.old).process }
     ensures faults { (D.shown dir.old).faults ≤ (D.shown dir.new).faults }
     ensures cause { IsErrOf result LookError.DirFault → Rose (D.shown dir.old).faults (D.shown dir.new).faults }
-    ensures kind { IfErr result IsFault }
+    ensures kind { IfErr result IsLookFault }
     ensures local { (D.shown dir.new).local ≡ (D.shown dir.old).local }
     ensures known { D.observed ≡ true → OnlyLooks (D.shown dir.old) (D.shown dir.new) }
     ensures extends { D.observed ≡ true → ExtendsBy (is_look_at (is_pod_spot pod)) (D.shown dir.old) (D.shown dir.new) }
     ensures reads { ReadsAtMost 1 D.observed pod (D.shown dir.old) (D.shown dir.new) }
-    ensures read { IfOk result (λ found. D.observed ≡ true → IsRead (D.shown dir.old) (D.shown dir.new) pod found) }
+    ensures read { IfOk result (λ found. D.observed ≡ true → IsPhaseRead (D.shown dir.old) (D.shown dir.new) pod found) }
     ensures exact { IfOk result (λ found. D.observed ≡ true → IsExactly (D.shown dir.old) (D.shown dir.new) pod found) }
 {
     let name = pod.name();

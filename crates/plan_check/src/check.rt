@@ -1,12 +1,12 @@
 // The test of a plan, entry by entry.
 ghost use Rattle.std.specs.Prelude.{◌≡◌, ◌&&◌, not, bytes_eq};
 ghost use Rattle.std.specs.List.{list_any};
-ghost use Rattle.dir_rules.specs.Rules.{has_path, has_dir, is_in_directory, is_new_path};
-ghost use Rattle.folder_building.specs.Plans.{is_among, is_file, outline, has_origin, follows, is_plan};
+ghost use Rattle.dir_rules.specs.Rules.{has_path_among, has_dir_among, is_in_directory, is_new_path};
+ghost use Rattle.folder_building.specs.Plans.{is_in_plan, is_file, planned_entries, has_origin, may_follow_entries, is_plan};
 
 use dir_model::is_path;
 use folder_building::{Content, PlanEntry};
-use rule_marks::{is_empty, parent};
+use marks::{is_empty, parent};
 
 fn is_file(content: &Content) -> bool
     ensures { result ≡ is_file content.now }
@@ -30,7 +30,7 @@ fn is_dir_at(path: &[u8], entry: &PlanEntry) -> bool
 }
 
 fn is_among(path: &[u8], before: &[PlanEntry]) -> bool
-    ensures { result ≡ is_among path.now before.now }
+    ensures { result ≡ is_in_plan path.now before.now }
 {
     before.iter().any(|entry| is_at(path, entry))
 }
@@ -43,27 +43,27 @@ fn is_among_dirs(path: &[u8], before: &[PlanEntry]) -> bool
 
 #[tactic(auto, using(crate::proofs::Outlines::path_in))]
 fn has_path(path: &[u8], before: &[PlanEntry]) -> bool
-    ensures { result ≡ has_path path.now (outline before.now) }
+    ensures { result ≡ has_path_among path.now (planned_entries before.now) }
 {
     is_among(path, before)
 }
 
 #[tactic(auto, using(crate::proofs::Outlines::dir_in))]
 fn has_dir(path: &[u8], before: &[PlanEntry]) -> bool
-    ensures { result ≡ has_dir path.now (outline before.now) }
+    ensures { result ≡ has_dir_among path.now (planned_entries before.now) }
 {
     is_among_dirs(path, before)
 }
 
 fn is_in_directory(path: &[u8], before: &[PlanEntry]) -> bool
-    ensures { result ≡ is_in_directory path.now (outline before.now) }
+    ensures { result ≡ is_in_directory path.now (planned_entries before.now) }
 {
     let directory = parent(path);
     is_empty(directory) || has_dir(directory, before)
 }
 
 fn is_new_path(path: &[u8], before: &[PlanEntry]) -> bool
-    ensures { result ≡ is_new_path path.now (outline before.now) }
+    ensures { result ≡ is_new_path path.now (planned_entries before.now) }
 {
     path.len() <= 8192
         && (!is_empty(path) && (!has_path(path, before) && is_in_directory(path, before)))
@@ -79,7 +79,7 @@ fn has_origin(content: &Content) -> bool
 }
 
 fn follows(before: &[PlanEntry], entry: &PlanEntry) -> bool
-    ensures { result ≡ follows before.now entry.now }
+    ensures { result ≡ may_follow_entries before.now entry.now }
 {
     let path = entry.path.as_str().as_bytes();
     is_path(path) && (is_new_path(path, before) && has_origin(&entry.content))

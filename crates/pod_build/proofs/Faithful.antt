@@ -1,6 +1,7 @@
 -- A pod that was prepared was made faithfully, whatever others did; and in a conforming execution it stands there as it was made.
 use Rattle.std.proofs.Common.{◌≡◌, ℕ, Bool, true, false, not, ◌||◌, cond, Option, Some, None, List, [], ◌∷◌, ◌++◌, unwrap_or, refl, sym, ap, subst, ◌∙◌, append-nil, append_assoc, arith}
 use Rattle.std.specs.List.{AllByRecursion}
+use Rattle.plain_laws.proofs.Booleans.{clash}
 use Rattle.ac_types.specs.declared.image_ref.ImageRef.{ImageRef}
 use Rattle.dir_model.specs.declared.area.Area.{Area}
 use Rattle.dir_model.specs.declared.area.Area.TheVariants.{Prepare}
@@ -25,27 +26,28 @@ use Rattle.dir_rules.specs.declared.standing.Standing.{Standing}
 use Rattle.dir_rules.specs.declared.seen.Making.{Making}
 use Rattle.dir_rules.specs.declared.seen.Seen.{Seen}
 use Rattle.dir_rules.specs.Seen.{spoilt}
-use Rattle.dir_rules.specs.Standing.{holds_gate}
+use Rattle.dir_rules.specs.Standing.{shares_area}
 use Rattle.dir_rules.specs.Conforms.{IsTied, lost, seen_of, seen_replied}
+use Rattle.dir_laws.proofs.Living.{lived_first}
 use Rattle.dir_trait.specs.DirCalls.{DirAt}
 use Rattle.dir_trait.specs.Knowledge.{Knows}
+use Rattle.folder_building.proofs.Following.{Follows}
 use Rattle.lifecycle.specs.Executions.{IsConforming}
 use Rattle.folder_contents.specs.Handing.{hands_over}
 use Rattle.folder_contents.specs.UnderGate.{KnowsAlong, shares_images}
 use Rattle.folder_contents.proofs.Along.{each_beginning, foreign_same, one_of, own_next}
 use Rattle.folder_contents.proofs.Handed.{moves_hand_over}
-use Rattle.lifecycle.proofs.Handles.{clash, is_due}
-use Rattle.gate_reading.proofs.GoingOn.{knows_standing, knows_gate, lived_first}
+use Rattle.lifecycle.proofs.Handles.{is_due}
+use Rattle.gate_reading.proofs.GoingOn.{knows_standing, knows_gate}
 use Rattle.image_reading.specs.Looks.{reads_images}
 use Rattle.manifests.specs.PodData.{pod_data}
 use Rattle.pod_manifest.specs.Wishes.{Wishes}
 use Rattle.pod_plan.specs.FaithfulPods.{IsPodOf, read_between}
 use Rattle.pod_build.specs.MakingRequests.{pod_at, makes_pod}
-use Rattle.pod_build.specs.Progress.{at_work, holding, nothing_made}
-use Rattle.pod_build.specs.Makings.{HasMoved}
+use Rattle.pod_build.specs.Progress.{seen_making, holding, nothing_made}
+use Rattle.pod_build.specs.Makings.{HasMovedPod}
 use Rattle.pod_build.specs.Handovers.{BeforeHandingOver, KnewMade}
 use Rattle.pod_build.proofs.Handing.{until_step}
-use Rattle.pod_build.proofs.Times.{Follows}
 use Rattle.pod_build.specs.Preparations.{Began, HasPrepared, ReadsThenMakes, IsHandedOver, IsPrepared}
 use Rattle.pod_build.specs.FaithfulBuild.{HasImagesBetween, IsFaithfulBuild, HandsOverFaithfully}
 
@@ -110,7 +112,7 @@ holds_on : (p : ℕ) (before more : List Event) → AllByRecursion (λ e. (is_fo
 holds_on p before more asked living held x y is = (
   lived_before p (before ++ x) y (all_weaker _ _ (λ e. or_map (is_foreign p e) (reads_images e.request) (not (is_begin e.request)) (reads_begin_none e.request)) y (all_right _ x y (subst Asked is asked)))
       (subst (λ (h : List Event). lives (state_after h).namespace p ≡ true) (ap (λ (l : List Event). before ++ l) is ∙ sym (append_assoc before x y)) living),
-  ap (holds_gate area.Images) (each_beginning Same more step (ap (λ (h : List Event). (seen_of p h).standing) (append-nil before)) x y is) ∙ held,
+  ap (shares_area area.Images) (each_beginning Same more step (ap (λ (h : List Event). (seen_of p h).standing) (append-nil before)) x y is) ∙ held,
 )
   where
     Asked : List Event → Type 0
@@ -141,7 +143,7 @@ clean_known true (Some y) m same clean =
 
 -- whoever lives when it has read and made all, has made it faithfully
 module _ {refs : List ImageRef} {options : Wishes} {draw : Draw} {now : ℕ} {to : Area} {intent : Intent} {under : List Held} {b : DirAt} {before : List Event} (me : ℕ) (is_me : b.process ≡ me) (began : Began to draw now intent)
-    (gate : shares_images (at_work intent under nothing_made) ≡ true) (knows : Knows b (at_work intent under nothing_made)) (x : ReadsThenMakes refs options draw now to intent b before)
+    (gate : shares_images (seen_making intent under nothing_made) ≡ true) (knows : Knows b (seen_making intent under nothing_made)) (x : ReadsThenMakes refs options draw now to intent b before)
     (living : lives (state_after before).namespace me ≡ true) where
   abbrev c : DirAt
   c = x.mid
@@ -206,7 +208,7 @@ module _ {refs : List ImageRef} {options : Wishes} {draw : Draw} {now : ℕ} {to
 
 -- so each move out of prepare was
 pub hands_faithfully : {refs : List ImageRef} {options : Wishes} {draw : Draw} {now : ℕ} {to : Area} {intent : Intent} {under : List Held} {b : DirAt} {trace : List Event} → IsRun trace → Began to draw now intent →
-    shares_images (at_work intent under nothing_made) ≡ true → Knows b (at_work intent under nothing_made) → BeforeHandingOver (ReadsThenMakes refs options draw now to intent b) b.process b.trace trace →
+    shares_images (seen_making intent under nothing_made) ≡ true → Knows b (seen_making intent under nothing_made) → BeforeHandingOver (ReadsThenMakes refs options draw now to intent b) b.process b.trace trace →
     HandsOverFaithfully b.process b.trace trace
 hands_faithfully {b = b} run began gate knows x = record {
   so = λ before meanwhile later from there begins moved out.
@@ -216,7 +218,7 @@ hands_faithfully {b = b} run began gate knows x = record {
 
 module _ {observed : Bool} {refs : List ImageRef} {options : Wishes} {draw : Draw} {now : ℕ} {to : Area} {intent : Intent} {hs under : List Held} {a b d e : DirAt}
     (t : observed ≡ true) (run : IsRun e.trace) (began : Began to draw now intent) (ab : Follows observed a b) (de : Follows observed d e)
-    (gate : shares_images (at_work intent under nothing_made) ≡ true) (knows : Knows b (at_work intent under nothing_made)) (x : HasPrepared refs options draw now to intent hs b d) where
+    (gate : shares_images (seen_making intent under nothing_made) ≡ true) (knows : Knows b (seen_making intent under nothing_made)) (x : HasPrepared refs options draw now to intent hs b d) where
   abbrev from : Spot
   from = pod_at Prepare draw.uuid
 
@@ -224,7 +226,7 @@ module _ {observed : Bool} {refs : List ImageRef} {options : Wishes} {draw : Dra
   there = pod_at to draw.uuid
 
   -- the move
-  abbrev m : HasMoved x.mid.process from there x.made.entries intent x.mid.trace d.trace
+  abbrev m : HasMovedPod x.mid.process from there x.made.entries intent x.mid.trace d.trace
   m = x.made.moved
 
   abbrev step : Event

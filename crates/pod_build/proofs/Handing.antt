@@ -2,6 +2,7 @@
 use Rattle.std.proofs.Common.{◌≡◌, ◌⊎◌, inl, inr, ℕ, Bool, true, false, not, ◌&&◌, ◌||◌, ◌==◌, bytes_eq, List, [], ◌∷◌, ◌++◌, refl, sym, ap, subst, ◌∙◌, append_assoc, append-nil, arith}
 use Rattle.std.proofs.lemmas.Bool.Decides.{nat_tests}
 use Rattle.std.specs.List.{AllByRecursion}
+use Rattle.plain_laws.proofs.Booleans.{clash}
 use Rattle.dir_model.specs.declared.area.Area.{Area}
 use Rattle.dir_model.specs.declared.area.Area.TheVariants.{Embryo, Prepare}
 use Rattle.dir_model.specs.declared.event.Event.{Event}
@@ -18,26 +19,23 @@ use Rattle.dir_model.specs.State.{spot_eq}
 use Rattle.dir_model.specs.Calls.{CallStep, IsRun, TookPlace, LeftNothing, Extends, event, is_foreign}
 use Rattle.dir_model.proofs.Chains.{nothing_yet, and_call, and_more, extends_wider, run-left}
 use Rattle.dir_model.proofs.Lists.{all_left, all_right, and_left, not_true, same_rest, same_self}
+use Rattle.dir_rules.proofs.Tied.{tied_meanwhile}
 use Rattle.dir_trait.specs.DirCalls.{DirAt, DirCall}
 use Rattle.folder_building.specs.declared.plan.PlanEntry.{PlanEntry}
 use Rattle.pod_build.specs.MakingRequests.{pod_at, begins_pod, fills_pod}
-use Rattle.pod_build.specs.Progress.{at_work, in_prepare}
-use Rattle.pod_build.specs.Makings.{FromFilled}
-use Rattle.pod_build.specs.Handovers.{is_handed_to, hands_over, BeforeHandingOver, HandsOverMade}
-use Rattle.pod_build.proofs.Calls.{tied_meanwhile}
+use Rattle.pod_build.specs.Progress.{seen_making, in_prepare}
+use Rattle.pod_build.specs.Makings.{WherePlanFilled}
+use Rattle.pod_build.specs.Handovers.{is_handed_to, is_pod_handover, BeforeHandingOver, HandsOverMade}
 
 -- no request of this kind hands a pod over
 abbrev pub HandsNothingOver : (Request → Bool) → Type 0
-HandsNothingOver asks = (request : Request) → asks request ≡ true → hands_over request ≡ false
+HandsNothingOver asks = (request : Request) → asks request ≡ true → is_pod_handover request ≡ false
 
 abbrev moves_by : ℕ → Spot → Spot → Event
 moves_by me from to = event me (MoveFolder from to) Done
 
 own_move : (me : ℕ) (from to : Spot) → is_foreign me (moves_by me from to) ≡ false
 own_move me from to = ap (λ b. not b || false) (same_self me)
-
-never : {X : Type 0} (b : Bool) → b ≡ true → b ≡ false → X
-never b so not_so = let clash : true ≡ false = sym so ∙ not_so in cc
 
 -- where two lists are one, an item of the first stands in the first part of the second or behind it
 cut : {X : Type 0} (e : X) (later : List X) (m x y : List X) → m ++ e ∷ later ≡ x ++ y →
@@ -57,7 +55,7 @@ cut {X} e later (v ∷ m) (z ∷ x) y is = by (cut e later m x y cc)
 -- an own move isn't among events of others
 not_among : {X : Type 0} (me : ℕ) (from to : Spot) (others m w : List Event) → AllByRecursion (λ e. is_foreign me e ≡ true) others → others ≡ m ++ moves_by me from to ∷ w → X
 not_among me from to others m w foreign is =
-    never (is_foreign me (moves_by me from to)) (all_right (λ e. is_foreign me e ≡ true) m (moves_by me from to ∷ w) (subst (λ (l : List Event). AllByRecursion (λ e. is_foreign me e ≡ true) l) is foreign)).0 (own_move me from to)
+    clash (is_foreign me (moves_by me from to)) (all_right (λ e. is_foreign me e ≡ true) m (moves_by me from to ∷ w) (subst (λ (l : List Event). AllByRecursion (λ e. is_foreign me e ≡ true) l) is foreign)).0 (own_move me from to)
 
 -- the part of a trace behind an earlier one
 rest_is : (e : Event) (old : List Event) {new before : List Event} {more : List Event} (m later : List Event) → before ≡ old ++ m → new ≡ before ++ e ∷ later → new ≡ old ++ more → m ++ e ∷ later ≡ more
@@ -71,11 +69,11 @@ none_handed {P} {asks} {me} {old} {new} none e = record { so = λ before m later
     Asked : Event → Type 0
     Asked x = (is_foreign me x || asks x.request) ≡ true
 
-    by : {X : Type 0} (m later : List Event) (from to : Spot) → m ++ moves_by me from to ∷ later ≡ e.more → hands_over (MoveFolder from to) ≡ true → X
+    by : {X : Type 0} (m later : List Event) (from to : Spot) → m ++ moves_by me from to ∷ later ≡ e.more → is_pod_handover (MoveFolder from to) ≡ true → X
     by m later from to whole out =
         let own : Asked (moves_by me from to) = (all_right Asked m (moves_by me from to ∷ later) (subst (λ (l : List Event). AllByRecursion Asked l) (sym whole) e.asked)).0 in
         let asked : asks (MoveFolder from to) ≡ true = sym (ap (λ b. b || asks (MoveFolder from to)) (own_move me from to)) ∙ own in
-        never (hands_over (MoveFolder from to)) out (none (MoveFolder from to) asked)
+        clash (is_pod_handover (MoveFolder from to)) out (none (MoveFolder from to) asked)
 
 -- and where nothing is asked for at all
 pub nothing_handed : {P : List Event → Type 0} {me : ℕ} {trace : List Event} → BeforeHandingOver P me trace trace
@@ -85,7 +83,7 @@ nothing_handed {P} {me} {trace} = none_handed {asks = λ r. false} (λ r is. let
 pub handed_then : {P : List Event → Type 0} {me : ℕ} {a b c : List Event} (x y : List Event) → b ≡ a ++ x → c ≡ b ++ y → BeforeHandingOver P me a b → BeforeHandingOver P me b c → BeforeHandingOver P me a c
 handed_then {P} {me} {a} {b} {c} x y ab bc first second = record { so = so }
   where
-    so : (before m later : List Event) (from to : Spot) → before ≡ a ++ m → c ≡ before ++ moves_by me from to ∷ later → hands_over (MoveFolder from to) ≡ true → P before
+    so : (before m later : List Event) (from to : Spot) → before ≡ a ++ m → c ≡ before ++ moves_by me from to ∷ later → is_pod_handover (MoveFolder from to) ≡ true → P before
     so before m later from to begins moved out = by (cut (moves_by me from to) later m x y (rest_is (moves_by me from to) a m later begins moved (bc ∙ (ap (λ h. h ++ y) ab ∙ append_assoc a x y))))
       where
         e : Event
@@ -113,7 +111,7 @@ call_handed {P} {me} {old} {new} {request} {reply} s holds = record { so = so }
     others : List Event
     others = s.meanwhile.others
 
-    so : (before m later : List Event) (from to : Spot) → before ≡ old ++ m → new ≡ before ++ moves_by me from to ∷ later → hands_over (MoveFolder from to) ≡ true → P before
+    so : (before m later : List Event) (from to : Spot) → before ≡ old ++ m → new ≡ before ++ moves_by me from to ∷ later → is_pod_handover (MoveFolder from to) ≡ true → P before
     so before m later from to begins moved out = by s.own
       where
         e : Event
@@ -148,15 +146,15 @@ fills_hand_none draw request asked = refl
 
 -- the folder is moved on only by what the plan makes, whether that is answered Ok or not
 pub hands_made : {observed : Bool} {draw : PodId} {from to : Spot} {reply : Reply} {old new : DirAt} → observed ≡ true → (there : Area) (plan : List PlanEntry) → DirCall observed old (MoveFolder from to) reply new →
-    FromFilled there plan draw old (λ intent hs entries. HandsOverMade draw plan intent old new)
+    WherePlanFilled there plan draw old (λ intent hs entries. HandsOverMade draw plan intent old new)
 hands_made {observed} {draw} {from} {to} {reply} {old} {new} t there plan c intent hs entries may owns made k =
     let s = c.step t in
-    call_handed s (record { entries = entries; made = made; seen = at_work intent hs (in_prepare draw entries); began = refl; making = refl; knew = tied_meanwhile k.tied s.meanwhile })
+    call_handed s (record { entries = entries; made = made; seen = seen_making intent hs (in_prepare draw entries); began = refl; making = refl; knew = tied_meanwhile k.tied s.meanwhile })
 
 -- and then a handle is given up
 pub handed_close : {P : List Event → Type 0} {asks : Request → Bool} {h : Handle} {me other : ℕ} {a b c : List Event} → Extends asks me a b → other ≡ me → BeforeHandingOver P me a b → CallStep other b (Close h) Done c → BeforeHandingOver P me a c
 handed_close {P} {asks} {h} {me} {other} {a} {b} {c} ab same x closing =
-    handed_before {P = P} {asks = λ r. not (hands_over r)} ab x same (λ r is. not_true (hands_over r) is) (and_call nothing_yet refl refl closing)
+    handed_before {P = P} {asks = λ r. not (is_pod_handover r)} ab x same (λ r is. not_true (is_pod_handover r) is) (and_call nothing_yet refl refl closing)
 
 -- calls after calls, whatever they ask for
 pub follow_on : {asks more : Request → Bool} {me other : ℕ} {a b c : List Event} → Extends asks me a b → other ≡ me → Extends more other b c → Extends (λ r. true) me a c

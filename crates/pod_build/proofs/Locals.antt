@@ -1,7 +1,7 @@
 -- What is open while a pod is made.
-use Rattle.std.proofs.Common.{◌≡◌, ℕ, Bool, true, false, not, ◌||◌, ◌==◌, cond, IfOk, Some, None, Result, Ok, Err, List, [], ◌∷◌, ◌++◌, map, filter, refl, sym, ap, ◌∙◌, arith}
-use Rattle.std.specs.List.{list_any}
-use Rattle.std.proofs.lemmas.Bool.Decides.{nat_tests}
+use Rattle.std.proofs.Common.{◌≡◌, false, not, ◌==◌, cond, IfOk, Some, None, Result, Ok, Err, List, [], ◌∷◌, ◌++◌, refl, sym, ap, ◌∙◌}
+use Rattle.plain_laws.proofs.Lists.{none_before, none_last}
+use Rattle.plain_laws.proofs.Numbers.{flipped}
 use Rattle.dir_model.specs.declared.area.Area.{Area}
 use Rattle.dir_model.specs.declared.area.Area.TheVariants.{Embryo}
 use Rattle.dir_model.specs.declared.opening.Holding.{Holding}
@@ -9,22 +9,14 @@ use Rattle.dir_model.specs.declared.opening.Target.TheVariants.{Own, Gate}
 use Rattle.dir_model.specs.declared.pod.PodId.{PodId}
 use Rattle.dir_model.specs.declared.spot.Handle.{Handle}
 use Rattle.dir_model.specs.declared.spot.Mode.TheVariants.{Shared, Exclusive}
-use Rattle.dir_model.specs.Local.{Local, is_number, held_in, with_handle, with_lock, without, is_open_among, IsUnopened}
-use Rattle.dir_model.proofs.Lists.{same_self, map_push, any_push, any_last, any_fewer, filter_all, filter_push, filter_past}
-use Rattle.dir_model.proofs.Holdings.{closed_after_lock}
-use Rattle.dir_files.specs.AreaLocks.{and_lock}
+use Rattle.dir_model.specs.Local.{Local, is_handle_of, held_in, with_handle, with_lock, without, IsUnopened}
+use Rattle.dir_model.proofs.Lists.{same_self, map_push, filter_push, filter_past}
+use Rattle.dir_model.proofs.Holdings.{closed_after_lock, none_locked, none_closed}
+use Rattle.dir_files.specs.AreaLocks.{and_area_lock}
 use Rattle.dir_files.proofs.Locking.{unlocked_same}
 use Rattle.pod_build.specs.declared.make_error.MakeError.{MakeError}
 use Rattle.pod_build.specs.MakingRequests.{pod_at}
 use Rattle.pod_build.specs.Progress.{and_own, with_own}
-
-none_locked : (h : Handle) (hs : List Holding) → is_open_among h hs ≡ false → map (held_in h Exclusive) hs ≡ hs
-none_locked h [] none = refl
-none_locked h (x ∷ xs) none = by (is_number h x) none (λ rest. none_locked h xs rest)
-  where
-    by : (b : Bool) → (b || is_open_among h xs) ≡ false → (is_open_among h xs ≡ false → map (held_in h Exclusive) xs ≡ xs) → cond b (record x { lock = Some Exclusive }) x ∷ map (held_in h Exclusive) xs ≡ x ∷ xs
-    by true none rest = cc
-    by false none rest = ap (λ (l : List Holding). x ∷ l) (rest none)
 
 pub locked_own : {a b : Local} (m : Local) (h : Handle) (draw : PodId) → IsUnopened m h → a ≡ with_handle m h (Own (pod_at Embryo draw)) → b ≡ with_lock a h Exclusive → b ≡ and_own m draw h
 locked_own {a} {b} m h draw unopened open_is lock_is =
@@ -32,36 +24,11 @@ locked_own {a} {b} m h draw unopened open_is lock_is =
     lock_is ∙ (ap (λ (x : Local). with_lock x h Exclusive) open_is
     ∙ ap (λ (hs : List Holding). let r : Local = record m { holdings = hs } in r)
     (map_push (held_in h Exclusive) m.holdings fresh ∙ (ap (λ (hs : List Holding). hs ++ held_in h Exclusive fresh ∷ [])
-    (none_locked h m.holdings unopened) ∙ ap (λ b. m.holdings ++ cond b (record fresh { lock = Some Exclusive }) fresh ∷ []) (same_self h.number))))
+    (none_locked h Exclusive m.holdings unopened) ∙ ap (λ b. m.holdings ++ cond b (record fresh { lock = Some Exclusive }) fresh ∷ []) (same_self h.number))))
 
 pub own_closed : {b c : Local} (m : Local) (h : Handle) (draw : PodId) → IsUnopened m h → b ≡ and_own m draw h → c ≡ without b h → c ≡ m
 own_closed {b} {c} m h draw unopened is close_is =
     close_is ∙ (ap (λ (x : Local). without x h) (is ∙ sym (locked_own m h draw unopened refl refl)) ∙ closed_after_lock m h (Own (pod_at Embryo draw)) unopened Exclusive)
-
-not_twice : (b : Bool) → not (not b) ≡ true → b ≡ true
-not_twice true h = refl
-not_twice false h = cc
-
-none_given : (g : Handle) (hs : List Holding) → is_open_among g hs ≡ false → filter (λ x. not (is_number g x)) hs ≡ hs
-none_given g hs none = filter_all (λ x. not (is_number g x)) hs (any_fewer (λ x. not (not (is_number g x))) (is_number g) (λ x is. not_twice (is_number g x) is) hs none)
-
--- what isn't open with more isn't open without it, and isn't that
-none_before : {X : Type 0} (t : X → Bool) (xs : List X) (y : X) → list_any t (xs ++ y ∷ []) ≡ false → list_any t xs ≡ false
-none_before t xs y none = by (list_any t xs) (λ is. any_push t xs y is)
-  where
-    by : (b : Bool) → (b ≡ true → list_any t (xs ++ y ∷ []) ≡ true) → b ≡ false
-    by true f = let clash : true ≡ false = sym (f refl) ∙ none in cc
-    by false f = refl
-
-none_last : {X : Type 0} (t : X → Bool) (xs : List X) (y : X) → list_any t (xs ++ y ∷ []) ≡ false → t y ≡ false
-none_last t xs y none = by (t y) (λ is. any_last t xs y is)
-  where
-    by : (b : Bool) → (b ≡ true → list_any t (xs ++ y ∷ []) ≡ true) → b ≡ false
-    by true f = let clash : true ≡ false = sym (f refl) ∙ none in cc
-    by false f = refl
-
-flipped : (a b : ℕ) → (a == b) ≡ false → (b == a) ≡ false
-flipped a b h = grind (arith, nat_tests)
 
 abbrev gate_holding : Handle → Area → Holding
 gate_holding g area = record { handle = g; target = Gate area; lock = Some Shared }
@@ -69,22 +36,22 @@ gate_holding g area = record { handle = g; target = Gate area; lock = Some Share
 abbrev own_holding : PodId → Handle → Holding
 own_holding draw h = record { handle = h; target = Own (pod_at Embryo draw); lock = Some Exclusive }
 
-module _ (m : Local) (g h : Handle) (area : Area) (new : IsUnopened (and_lock m g area Shared) h) where
+module _ (m : Local) (g h : Handle) (area : Area) (new : IsUnopened (and_area_lock m g area Shared) h) where
   pub still_unopened : IsUnopened m h
-  still_unopened = none_before (is_number h) m.holdings (gate_holding g area) new
+  still_unopened = none_before (is_handle_of h) m.holdings (gate_holding g area) new
 
   pub other_number : (h.number == g.number) ≡ false
-  other_number = flipped g.number h.number (none_last (is_number h) m.holdings (gate_holding g area) new)
+  other_number = flipped g.number h.number (none_last (is_handle_of h) m.holdings (gate_holding g area) new)
 
   -- the area's lock is given back, and the pod's own is kept
-  pub gate_closed : (draw : PodId) → IsUnopened m g → without (and_own (and_lock m g area Shared) draw h) g ≡ and_own m draw h
+  pub gate_closed : (draw : PodId) → IsUnopened m g → without (and_own (and_area_lock m g area Shared) draw h) g ≡ and_own m draw h
   gate_closed draw unopened = ap (λ (hs : List Holding). let r : Local = record m { holdings = hs } in r)
-      (filter_push (λ x. not (is_number g x)) (m.holdings ++ gate_holding g area ∷ []) (own_holding draw h) (ap not other_number)
-      ∙ (ap (λ (l : List Holding). l ++ own_holding draw h ∷ []) (filter_past (λ x. not (is_number g x)) m.holdings (gate_holding g area) (ap not (same_self g.number)))
-      ∙ ap (λ (l : List Holding). l ++ own_holding draw h ∷ []) (none_given g m.holdings unopened)))
+      (filter_push (λ x. not (is_handle_of g x)) (m.holdings ++ gate_holding g area ∷ []) (own_holding draw h) (ap not other_number)
+      ∙ (ap (λ (l : List Holding). l ++ own_holding draw h ∷ []) (filter_past (λ x. not (is_handle_of g x)) m.holdings (gate_holding g area) (ap not (same_self g.number)))
+      ∙ ap (λ (l : List Holding). l ++ own_holding draw h ∷ []) (none_closed g m.holdings unopened)))
 
 -- once the lock of embryo is given back
-pub gate_given_local : {late new : Local} (m : Local) (g : Handle) (draw : PodId) (r : Result Handle MakeError) → IsUnopened m g → IfOk r (λ own. IsUnopened (and_lock m g Embryo Shared) own)
-    → late ≡ with_own (and_lock m g Embryo Shared) draw r → new ≡ without late g → new ≡ with_own m draw r
+pub gate_given_local : {late new : Local} (m : Local) (g : Handle) (draw : PodId) (r : Result Handle MakeError) → IsUnopened m g → IfOk r (λ own. IsUnopened (and_area_lock m g Embryo Shared) own)
+    → late ≡ with_own (and_area_lock m g Embryo Shared) draw r → new ≡ without late g → new ≡ with_own m draw r
 gate_given_local m g draw (Ok h) unopened fresh is close_is = close_is ∙ (ap (λ (x : Local). without x g) is ∙ gate_closed m g h Embryo fresh draw unopened)
 gate_given_local m g draw (Err e) unopened fresh is close_is = unlocked_same m g Embryo Shared unopened is close_is

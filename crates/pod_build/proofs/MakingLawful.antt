@@ -1,6 +1,7 @@
 -- Where every process keeps the local rules no making is refused as stray.
 use Rattle.std.proofs.Common.{◌≡◌, ◌⊎◌, inl, inr, ℕ, Bool, true, false, not, ◌&&◌, ◌||◌, ◌==◌, cond, Option, Some, None, find, IfErr, IsErrOf, Result, List, [], ◌∷◌, ◌++◌, refl, sym, ap, subst, ◌∙◌}
 use Rattle.std.specs.List.{AllByRecursion}
+use Rattle.plain_laws.proofs.Booleans.{no_more}
 use Rattle.dir_model.specs.declared.area.Area.{Area}
 use Rattle.dir_model.specs.declared.area.Area.TheVariants.{Embryo, Prepare, Prepared, Run, Removed}
 use Rattle.dir_model.specs.declared.event.Event.{Event}
@@ -23,20 +24,20 @@ use Rattle.dir_model.specs.Replies.{is_late_reply}
 use Rattle.dir_model.specs.State.{spot_eq}
 use Rattle.dir_model.proofs.Chains.{step_extends}
 use Rattle.dir_model.proofs.Lists.{and_left, and_right, and_both, same_self}
+use Rattle.dir_model.proofs.Spots.{spot_self}
 use Rattle.dir_rules.specs.declared.seen.Seen.{Seen}
 use Rattle.dir_rules.specs.declared.standing.Held.{Held}
 use Rattle.dir_rules.specs.declared.standing.Standing.{Standing}
 use Rattle.dir_rules.specs.Anomalies.{is_own_embryo_lock, is_own_embryo_held}
-use Rattle.dir_rules.specs.Conforms.{nothing_seen, saw, seen_after, seen_of, seen_replied}
-use Rattle.dir_rules.specs.LockRules.{may_ask, may_make}
-use Rattle.dir_rules.specs.Rules.{is_whole_pod, may_bring, may_bring_between, may_change, of_making}
+use Rattle.dir_rules.specs.Conforms.{nothing_seen, seen_after_event, seen_after, seen_of, seen_replied}
+use Rattle.dir_rules.specs.LockRules.{lock_rules_allow, may_make}
+use Rattle.dir_rules.specs.Rules.{is_whole_pod, may_move_by_contents, contents_allow_move, content_rules_allow, of_making}
 use Rattle.dir_rules.specs.Seen.{makes_at}
-use Rattle.dir_rules.specs.Standing.{draws, find_held, holds_claim, holds_gate, is_in, is_number, is_own_in_prepared, looked_by}
+use Rattle.dir_rules.specs.Standing.{draws, find_held, holds_claim, shares_area, is_in, is_handle_held, is_own_in_prepared, looked_by}
 use Rattle.dir_rules.proofs.Tied.{meanwhile_unseen, own_seen, seen_after-append}
 use Rattle.dir_trait.specs.DirCalls.{DirAt}
 use Rattle.folder_building.specs.declared.plan.PlanEntry.{PlanEntry}
-use Rattle.folder_building.specs.Work.{is_stray}
-use Rattle.folder_building.proofs.Working.{at_spot}
+use Rattle.folder_building.specs.Work.{is_stray_building}
 use Rattle.folder_contents.proofs.Spots.{one_location}
 use Rattle.lifecycle.specs.Executions.{IsConforming}
 use Rattle.lifecycle.proofs.Draws.{conforming_left}
@@ -45,7 +46,7 @@ use Rattle.impossible_replies.proofs.Citing.{is_building, is_lost, never_lost, n
 use Rattle.impossible_replies.proofs.Calls.{never_loses_embryo, never_meets}
 use Rattle.pod_build.specs.declared.make_error.MakeError.{MakeError}
 use Rattle.pod_build.specs.declared.make_error.MakeError.TheVariants.{Stray}
-use Rattle.pod_build.specs.MakingRequests.{pod_at, fills_pod, hands_on, locks_own, shows_taken, shows_changed, is_brought}
+use Rattle.pod_build.specs.MakingRequests.{pod_at, fills_pod, hands_on, locks_own, shows_taken, shows_changed, is_move_to_prepare}
 use Rattle.pod_build.specs.MakingCauses.{WasOpenedThere, WasTakenMade, WasThenAnswered, LosesOwn, MakeCause}
 
 -- each beginning of a conforming history conforms
@@ -66,10 +67,6 @@ took {me} {old} {new} {request} {reply} call timely = by call.own
     by (inl t) = t
     by (inr left) = absurd (timely left.late)
 
-never_both : (b : Bool) → (b && false) ≡ true → ⊥
-never_both true is = cc
-never_both false is = cc
-
 -- no pod that is moved meets another
 never_met : {me : ℕ} {old new : List Event} (from to : Spot) (left : ℕ) → CallStep me old (MoveFolder from to) (Refused Exists left) new → IsConforming new → is_stage from.area ≡ true → ⊥
 never_met from to left call conforming stage = never_meets (MoveFolder from to) (Refused Exists left) call conforming (ap (λ b. b || is_in Removed to.area) stage)
@@ -80,41 +77,41 @@ module _ (draw : PodId) where
 
   -- it has made the folder in embryo under that area's lock, and hasn't moved it
   record HasEmbryo (s : Seen) : Type 0 where
-    gated : s.standing.gated ≡ true
+    embryo_under_lock : s.standing.embryo_under_lock ≡ true
     drawn : draws (pod_text draw.bytes) s.standing ≡ true
     makes : makes_at s.making Here ≡ true
 
   -- that stays, while its own lock is asked for
   record Same (s t : Seen) : Type 0 where
-    gated : t.standing.gated ≡ s.standing.gated
+    embryo_under_lock : t.standing.embryo_under_lock ≡ s.standing.embryo_under_lock
     intent : t.standing.intent ≡ s.standing.intent
     making : t.making ≡ s.making
 
-  looked_same : (o : Option Held) (s : Standing) → ((looked_by o s).gated ≡ s.gated) × ((looked_by o s).intent ≡ s.intent)
+  looked_same : (o : Option Held) (s : Standing) → ((looked_by o s).embryo_under_lock ≡ s.embryo_under_lock) × ((looked_by o s).intent ≡ s.intent)
   looked_same None s = (refl, refl)
   looked_same (Some h) s = (refl, refl)
 
   same : (s : Seen) (request : Request) (reply : Reply) → locks_own draw request ≡ true → Same s (seen_replied s request reply)
-  same s (Open spot which.Own) Done is = record { gated = refl; intent = refl; making = refl }
-  same s (Open spot which.Own) Begun is = record { gated = refl; intent = refl; making = refl }
-  same s (Open spot which.Own) (Opened handle) is = record { gated = refl; intent = refl; making = refl }
-  same s (Open spot which.Own) (Names names) is = record { gated = refl; intent = refl; making = refl }
-  same s (Open spot which.Own) (Items items) is = record { gated = refl; intent = refl; making = refl }
-  same s (Open spot which.Own) (Read bytes) is = record { gated = refl; intent = refl; making = refl }
-  same s (Open spot which.Own) (Refused error left) is = record { gated = refl; intent = refl; making = refl }
-  same s (TryLock handle Shared) Done is = let x = looked_same (find_held handle s.standing) _ in record { gated = x.0; intent = x.1; making = refl }
-  same s (TryLock handle Exclusive) Done is = record { gated = refl; intent = refl; making = refl }
-  same s (TryLock handle mode) Begun is = record { gated = refl; intent = refl; making = refl }
-  same s (TryLock handle mode) (Opened other) is = record { gated = refl; intent = refl; making = refl }
-  same s (TryLock handle mode) (Names names) is = record { gated = refl; intent = refl; making = refl }
-  same s (TryLock handle mode) (Items items) is = record { gated = refl; intent = refl; making = refl }
-  same s (TryLock handle mode) (Read bytes) is = record { gated = refl; intent = refl; making = refl }
-  same s (TryLock handle mode) (Refused error left) is = record { gated = refl; intent = refl; making = refl }
+  same s (Open spot which.Own) Done is = record { embryo_under_lock = refl; intent = refl; making = refl }
+  same s (Open spot which.Own) Begun is = record { embryo_under_lock = refl; intent = refl; making = refl }
+  same s (Open spot which.Own) (Opened handle) is = record { embryo_under_lock = refl; intent = refl; making = refl }
+  same s (Open spot which.Own) (Names names) is = record { embryo_under_lock = refl; intent = refl; making = refl }
+  same s (Open spot which.Own) (Items items) is = record { embryo_under_lock = refl; intent = refl; making = refl }
+  same s (Open spot which.Own) (Read bytes) is = record { embryo_under_lock = refl; intent = refl; making = refl }
+  same s (Open spot which.Own) (Refused error left) is = record { embryo_under_lock = refl; intent = refl; making = refl }
+  same s (TryLock handle Shared) Done is = let x = looked_same (find_held handle s.standing) _ in record { embryo_under_lock = x.0; intent = x.1; making = refl }
+  same s (TryLock handle Exclusive) Done is = record { embryo_under_lock = refl; intent = refl; making = refl }
+  same s (TryLock handle mode) Begun is = record { embryo_under_lock = refl; intent = refl; making = refl }
+  same s (TryLock handle mode) (Opened other) is = record { embryo_under_lock = refl; intent = refl; making = refl }
+  same s (TryLock handle mode) (Names names) is = record { embryo_under_lock = refl; intent = refl; making = refl }
+  same s (TryLock handle mode) (Items items) is = record { embryo_under_lock = refl; intent = refl; making = refl }
+  same s (TryLock handle mode) (Read bytes) is = record { embryo_under_lock = refl; intent = refl; making = refl }
+  same s (TryLock handle mode) (Refused error left) is = record { embryo_under_lock = refl; intent = refl; making = refl }
   same s request reply is = cc
 
   stays : {s t : Seen} → Same s t → HasEmbryo s → HasEmbryo t
   stays {s} {t} x h = record {
-    gated = x.gated ∙ h.gated;
+    embryo_under_lock = x.embryo_under_lock ∙ h.embryo_under_lock;
     drawn = ap (λ (o : Option Intent). draws (pod_text draw.bytes) (record s.standing { intent = o })) x.intent ∙ h.drawn;
     makes = ap (λ o. makes_at o Here) x.making ∙ h.makes;
   }
@@ -122,7 +119,7 @@ module _ (draw : PodId) where
   module _ (me : ℕ) where
     kept : (s : Seen) (more : List Event) → AllByRecursion (λ e. (is_foreign me e || locks_own draw e.request) ≡ true) more → HasEmbryo s → HasEmbryo (seen_after me s more)
     kept s [] all h = h
-    kept s (e ∷ es) all h = kept (saw me s e) es all.1 (by (is_foreign me e) all.0)
+    kept s (e ∷ es) all h = kept (seen_after_event me s e) es all.1 (by (is_foreign me e) all.0)
       where
         by : (b : Bool) → (b || locks_own draw e.request) ≡ true → HasEmbryo (cond b s (seen_replied s e.request e.reply))
         by true is = h
@@ -138,10 +135,10 @@ module _ (draw : PodId) where
         let t = took call (λ late. cc) in
         let x = steps call.before (event me (MakeFolder Here) Done) (subst IsConforming t.grown conforming) refl refl in
         let s = seen_of me call.before in
-        let may : may_make s.standing Here ≡ true = and_left (may_make s.standing Here) (may_change s (MakeFolder Here)) x.may in
+        let may : may_make s.standing Here ≡ true = and_left (may_make s.standing Here) (content_rules_allow s (MakeFolder Here)) x.may in
         let named = and_left (is_in Embryo Embryo && draws (pod_text draw.bytes) s.standing) _ may in
-        let held = and_right _ (holds_gate Embryo s.standing) (and_right (is_in Embryo Embryo && draws (pod_text draw.bytes) s.standing) _ may) in
-        let after : HasEmbryo (seen_replied s (MakeFolder Here) Done) = record { gated = held; drawn = and_right (is_in Embryo Embryo) _ named; makes = and_both _ _ (at_spot Here) refl } in
+        let held = and_right _ (shares_area Embryo s.standing) (and_right (is_in Embryo Embryo && draws (pod_text draw.bytes) s.standing) _ may) in
+        let after : HasEmbryo (seen_replied s (MakeFolder Here) Done) = record { embryo_under_lock = held; drawn = and_right (is_in Embryo Embryo) _ named; makes = and_both _ _ (spot_self Here) refl } in
         subst (λ (h : List Event). HasEmbryo (seen_of me h)) (sym t.grown) (subst HasEmbryo (sym (own_seen me call.before (MakeFolder Here) Done refl)) after)
 
     -- so nobody else takes it
@@ -149,7 +146,7 @@ module _ (draw : PodId) where
     never_missing {old} {new} spot left is call conforming h =
         let s = (seen_of me old).standing in
         never_loses_embryo (Open spot which.Own) (Refused Missing left) call conforming
-        (ap (λ (x : Spot). is_in Embryo x.area && (s.gated && draws x.name s)) (one_location spot Here is) ∙ and_both (is_in Embryo Embryo) _ refl (and_both s.gated _ h.gated h.drawn))
+        (ap (λ (x : Spot). is_in Embryo x.area && (s.embryo_under_lock && draws x.name s)) (one_location spot Here is) ∙ and_both (is_in Embryo Embryo) _ refl (and_both s.embryo_under_lock _ h.embryo_under_lock h.drawn))
 
     opened_held : {old new : List Event} (handle : Handle) → CallStep me old (Open Here which.Own) (Opened handle) new → (h : Held) × (find_held handle (seen_of me new).standing ≡ Some h) × (h.target ≡ target_of Here which.Own)
     opened_held {old} {new} handle call =
@@ -157,14 +154,14 @@ module _ (draw : PodId) where
         let s = seen_of me call.before in
         let newest : Held = record { handle = handle; target = target_of Here which.Own; lock = None; covered = is_own_in_prepared Here which.Own && holds_claim Here.name s.standing } in
         let is = ap (seen_of me) t.grown ∙ own_seen me call.before (Open Here which.Own) (Opened handle) refl in
-        (newest, ap (λ (x : Seen). find_held handle x.standing) is ∙ ap (λ b. cond b (Some newest) (find (is_number handle) s.standing.holdings)) (same_self handle.number), refl)
+        (newest, ap (λ (x : Seen). find_held handle x.standing) is ∙ ap (λ b. cond b (Some newest) (find (is_handle_held handle) s.standing.holdings)) (same_self handle.number), refl)
 
     never_locked : {old new : List Event} (handle : Handle) (left : ℕ) → WasOpenedThere draw me old (TryLock handle Exclusive) → CallStep me old (TryLock handle Exclusive) (Refused Locked left) new → IsConforming new → HasEmbryo (seen_of me old) → ⊥
     never_locked {old} {new} handle left lock call conforming h =
         let s = (seen_of me old).standing in
         let x = opened_held handle lock.1 in
         never_loses_embryo (TryLock handle Exclusive) (Refused Locked left) call conforming
-        (ap (is_own_embryo_held s) x.1 ∙ (ap (is_own_embryo_lock s) x.2 ∙ and_both (is_in Embryo Embryo) _ refl (and_both s.gated _ h.gated h.drawn)))
+        (ap (is_own_embryo_held s) x.1 ∙ (ap (is_own_embryo_lock s) x.2 ∙ and_both (is_in Embryo Embryo) _ refl (and_both s.embryo_under_lock _ h.embryo_under_lock h.drawn)))
 
     never_moved : {old new : List Event} (from to : Spot) (left : ℕ) → spot_eq from Here ≡ true → CallStep me old (MoveFolder from to) (Refused Missing left) new → IsConforming new → HasEmbryo (seen_of me old) → ⊥
     never_moved {old} {new} from to left is call conforming h =
@@ -197,7 +194,7 @@ module _ (draw : PodId) where
         first true x = refl
         first false x = cc
 
-    loses : (request : Request) (reply : Reply) → fills_pod draw request ≡ true → is_stray request reply ≡ true → (is_building request ≡ true) × (is_lost request reply ≡ true)
+    loses : (request : Request) (reply : Reply) → fills_pod draw request ≡ true → is_stray_building request reply ≡ true → (is_building request ≡ true) × (is_lost request reply ≡ true)
     loses (MakeDirIn i) (Refused Missing left) asked is = (refl, refl)
     loses (MakeDirIn i) (Refused Exists left) asked is = (refl, refl)
     loses (MakeFileIn i) (Refused Missing left) asked is = (outside i.spot asked, refl)
@@ -207,15 +204,15 @@ module _ (draw : PodId) where
     loses request reply asked is = cc
 
     -- whoever moves it on makes it
-    brings_its : (s : Seen) (from to : Spot) → hands_on draw (MoveFolder from to) ≡ true → may_bring s from to ≡ true → makes_at s.making from ≡ true
+    brings_its : (s : Seen) (from to : Spot) → hands_on draw (MoveFolder from to) ≡ true → may_move_by_contents s from to ≡ true → makes_at s.making from ≡ true
     brings_its s from to on may = by on
       where
-        between : may_bring_between s from to from.area to.area ≡ true
-        between = and_left (may_bring_between s from to from.area to.area) _ may
+        between : contents_allow_move s from to from.area to.area ≡ true
+        between = and_left (contents_allow_move s from to from.area to.area) _ may
 
-        at : spot_eq from There ≡ true → (a : Area) → to.area ≡ a → may_bring_between s from to Prepare a ≡ true
-        at is a area = subst (λ (b : Area). may_bring_between s from to Prepare b ≡ true) area
-            (subst (λ (b : Area). may_bring_between s from to b to.area ≡ true) (ap (λ (x : Spot). x.area) (one_location from There is)) between)
+        at : spot_eq from There ≡ true → (a : Area) → to.area ≡ a → contents_allow_move s from to Prepare a ≡ true
+        at is a area = subst (λ (b : Area). contents_allow_move s from to Prepare b ≡ true) area
+            (subst (λ (b : Area). contents_allow_move s from to b to.area ≡ true) (ap (λ (x : Spot). x.area) (one_location from There is)) between)
 
         by : ((spot_eq from There && spot_eq to (pod_at Prepared draw)) || (spot_eq from There && spot_eq to (pod_at Run draw))) ≡ true → makes_at s.making from ≡ true
         by is = or (spot_eq from There) (spot_eq to (pod_at Prepared draw)) (spot_eq to (pod_at Run draw)) refl refl refl is
@@ -234,20 +231,20 @@ module _ (draw : PodId) where
 
     never_changed : {old new : List Event} (request : Request) (reply : Reply) → shows_changed draw request reply ≡ true → CallStep me old request reply new → IsConforming new → ⊥
     never_changed {old} {new} (MoveFolder from to) (Refused Missing left) is call conforming =
-        let t = took call (λ late. never_both (left == 0) late) in
+        let t = took call (λ late. no_more (left == 0) late) in
         let x = steps call.before (event me (MoveFolder from to) (Refused Missing left)) (subst IsConforming t.grown conforming) refl refl in
         let s = seen_of me call.before in
-        let makes = brings_its s from to is (and_right (may_ask s.standing (MoveFolder from to)) (may_bring s from to) x.may) in
+        let makes = brings_its s from to is (and_right (lock_rules_allow s.standing (MoveFolder from to)) (may_move_by_contents s from to) x.may) in
         never_lost me from (MoveFolder from to) (Refused Missing left) call conforming (sym (ap (λ (y : Seen). makes_at y.making from) (meanwhile_unseen call.meanwhile)) ∙ makes) refl refl
     never_changed (MoveFolder from to) (Refused Exists left) is call conforming = never_met from to left call conforming (hands_from from to is)
     never_changed request reply is call conforming =
         let both = split is in
         never_lost_change request reply call conforming both.0 both.1
       where
-        split : (fills_pod draw request && is_stray request reply) ≡ true → (is_building request ≡ true) × (is_lost request reply ≡ true)
-        split x = loses request reply (and_left (fills_pod draw request) (is_stray request reply) x) (and_right (fills_pod draw request) (is_stray request reply) x)
+        split : (fills_pod draw request && is_stray_building request reply) ≡ true → (is_building request ≡ true) × (is_lost request reply ≡ true)
+        split x = loses request reply (and_left (fills_pod draw request) (is_stray_building request reply) x) (and_right (fills_pod draw request) (is_stray_building request reply) x)
 
-    never_changed_brought : {old new : List Event} → WasThenAnswered (is_brought draw) (shows_changed draw) me old new → IsConforming new → ⊥
+    never_changed_brought : {old new : List Event} → WasThenAnswered (is_move_to_prepare draw) (shows_changed draw) me old new → IsConforming new → ⊥
     never_changed_brought w conforming = let l = w.later in never_changed l.request l.reply l.answered l.step (conforms_before l.later l.ends conforming)
 
   pub never_loses_own : (old new : DirAt) → LosesOwn draw old new → IsConforming new.trace → ⊥

@@ -3,13 +3,13 @@ use Rattle.std.proofs.Common.{◌≡◌, inl, inr, ℕ, Bool, true, List, [], �
 use Rattle.ac_types.specs.declared.image_ref.ImageRef.{ImageRef}
 use Rattle.dir_model.specs.declared.intent.Draw.{Draw}
 use Rattle.dir_trait.specs.DirCalls.{DirAt}
+use Rattle.folder_building.proofs.Following.{Follows}
 use Rattle.pod_manifest.specs.Wishes.{Wishes}
-use Rattle.pod_build.proofs.Times.{Follows}
 use Rattle.pod_build.specs.declared.error.BuildError.{BuildError}
-use Rattle.pod_build.specs.Causes.{IsPartOf, During, IsMadeByPlan, IsRefusedUnderLock}
+use Rattle.pod_build.specs.Causes.{IsStretchWithin, During, IsMadeByPlan, IsRefusedUnderLock}
 
 -- a part of what lies in the whole
-pub part_within : {observed : Bool} {s e a b c d : DirAt} → observed ≡ true → Follows observed a b → Follows observed c d → IsPartOf s e b c → IsPartOf s e a d
+pub part_within : {observed : Bool} {s e a b c d : DirAt} → observed ≡ true → Follows observed a b → Follows observed c d → IsStretchWithin s e b c → IsStretchWithin s e a d
 part_within {observed} {s} {e} {a} {b} {c} {d} t ab cd p =
     let x = ab.extends t in
     let y = cd.extends t in
@@ -22,10 +22,10 @@ part_within {observed} {s} {e} {a} {b} {c} {d} t ab cd p =
     }
 
 -- what comes first, and what comes last
-pub first_part : {observed : Bool} {a b c : DirAt} → observed ≡ true → Follows observed b c → IsPartOf a b a c
+pub first_part : {observed : Bool} {a b c : DirAt} → observed ≡ true → Follows observed b c → IsStretchWithin a b a c
 first_part {observed} {a} {b} {c} t bc = record { same = refl; before = []; begins = sym (append-nil a.trace); after = (bc.extends t).more; ends = (bc.extends t).grown }
 
-pub last_part : {observed : Bool} {a b c : DirAt} → observed ≡ true → Follows observed a b → IsPartOf b c a c
+pub last_part : {observed : Bool} {a b c : DirAt} → observed ≡ true → Follows observed a b → IsStretchWithin b c a c
 last_part {observed} {a} {b} {c} t ab = record { same = ab.same; before = (ab.extends t).more; begins = (ab.extends t).grown; after = []; ends = sym (append-nil c.trace) }
 
 pub during_first : {observed : Bool} (P : DirAt → DirAt → Type 0) {a b c : DirAt} → Follows observed b c → P a b → During observed P a c

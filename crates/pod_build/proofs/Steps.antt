@@ -1,6 +1,7 @@
 -- What the maker of a pod knows after each of its calls.
 use Rattle.std.proofs.Common.{◌≡◌, ℕ, Bool, true, false, not, ◌&&◌, ◌||◌, ◌==◌, cond, bytes_eq, Option, Some, None, List, [], ◌∷◌, map, filter, refl, ap, ◌∙◌}
 use Rattle.std.specs.List.{list_any}
+use Rattle.plain_laws.proofs.Texts.{same_bytes}
 use Rattle.dir_model.specs.declared.area.Area.{Area}
 use Rattle.dir_model.specs.declared.area.Area.TheVariants.{Embryo, Prepare, Prepared, Run, ExitedGarbage, Garbage, Incoming}
 use Rattle.dir_model.specs.declared.intent.Intent.{Intent}
@@ -25,17 +26,17 @@ use Rattle.dir_rules.specs.declared.standing.Held.{Held}
 use Rattle.dir_rules.specs.declared.seen.Entry.{Entry}
 use Rattle.dir_rules.specs.declared.seen.Making.{Making}
 use Rattle.dir_rules.specs.declared.seen.Seen.{Seen}
-use Rattle.dir_rules.specs.Standing.{is_garbage, is_maker, is_number, gives_up, gives_up_cover, recover, uncover, is_own_held, is_claim_held, is_gate_shared, holds_own}
+use Rattle.dir_rules.specs.Standing.{is_garbage, is_maker, is_handle_held, gives_up, gives_up_cover, uncovered_by_close, uncover, is_own_held, is_claim_held, is_gate_shared, holds_own}
 use Rattle.dir_rules.specs.LockRules.{is_open_on, may_lock_by, may_lock_own}
 use Rattle.dir_rules.specs.Rules.{allows, is_deleting, is_whole_pod}
 use Rattle.dir_rules.specs.Seen.{moved_making}
 use Rattle.dir_rules.specs.Conforms.{seen_replied}
-use Rattle.dir_rules.proofs.Looks.{Fresh, Plain, same_bytes, none_given, map_same, closed_plain, newest_found, newest_locked, alone_newest, deletes_none}
+use Rattle.dir_rules.proofs.Looks.{Fresh, Plain, none_given, map_same, closed_plain, newest_found, newest_locked, alone_newest, deletes_none}
 use Rattle.dir_files.specs.AreaLocks.{on_gate}
 use Rattle.folder_building.specs.declared.plan.PlanEntry.{PlanEntry}
 use Rattle.pod_build.specs.MakingRequests.{pod_at}
-use Rattle.pod_build.specs.Progress.{Progress, at_work, holding, nothing_made, in_embryo, in_prepare, handed, own_held}
-use Rattle.pod_build.specs.Work.{IsMaker, leads_to, MayMake, UnderBoth}
+use Rattle.pod_build.specs.Progress.{Progress, seen_making, holding, nothing_made, in_embryo, in_prepare, handed, own_held}
+use Rattle.pod_build.specs.Work.{IsMaker, leads_to, MayMake, UnderMakingLocks}
 
 -- who leads to an area is a maker
 pub maker_of : (to : Area) (k : Kind) → leads_to to k ≡ true → is_maker k ≡ true
@@ -87,8 +88,8 @@ plain_own draw h lock = record {
 }
 
 -- the pod's own lock is given up
-pub own_given : (draw : PodId) (intent : Intent) (h : Handle) (lock : Option Mode) (hs : List Held) (p : Progress) → Fresh h hs → seen_replied (at_work intent (own_held draw h lock ∷ hs) p) (Close h) Done ≡ at_work intent hs p
-own_given draw intent h lock hs p fresh = closed_plain (at_work intent hs p) h (own_held draw h lock) [] (plain_own draw h lock) fresh
+pub own_given : (draw : PodId) (intent : Intent) (h : Handle) (lock : Option Mode) (hs : List Held) (p : Progress) → Fresh h hs → seen_replied (seen_making intent (own_held draw h lock ∷ hs) p) (Close h) Done ≡ seen_making intent hs p
+own_given draw intent h lock hs p fresh = closed_plain (seen_making intent hs p) h (own_held draw h lock) [] (plain_own draw h lock) fresh
 
 module _ (draw : PodId) (intent : Intent) (maker : IsMaker draw intent) where
   abbrev Name : List ℕ
@@ -107,17 +108,17 @@ module _ (draw : PodId) (intent : Intent) (maker : IsMaker draw intent) where
   named = same_bytes Name
 
   -- the folder is made
-  module _ (hs : List Held) (under : UnderBoth draw hs) where
+  module _ (hs : List Held) (under : UnderMakingLocks draw hs) where
     abbrev Free : Seen
-    Free = at_work intent hs nothing_made
+    Free = seen_making intent hs nothing_made
 
     may_make : allows Free (MakeFolder Here) ≡ true
     may_make = rw (drawn, maker.kind, under.embryo) refl
 
     abbrev Made : Bool → Bool → Seen
-    Made gated kept = record (at_work intent hs (record (in_embryo draw) { gated = gated })) { kept = kept }
+    Made embryo_under_lock kept = record (seen_making intent hs (record (in_embryo draw) { embryo_under_lock = embryo_under_lock })) { kept = kept }
 
-    pub made_seen : seen_replied Free (MakeFolder Here) Done ≡ at_work intent hs (in_embryo draw)
+    pub made_seen : seen_replied Free (MakeFolder Here) Done ≡ seen_making intent hs (in_embryo draw)
     made_seen = ap (λ b. Made b (allows Free (MakeFolder Here) && true)) under.embryo ∙ ap (λ b. Made true (b && true)) may_make
 
     pub unmade_seen : (error : DirError) → seen_replied Free (MakeFolder Here) (Refused error 0) ≡ Free
@@ -126,7 +127,7 @@ module _ (draw : PodId) (intent : Intent) (maker : IsMaker draw intent) where
     -- its own lock is opened and taken
     module _ (h : Handle) (fresh : Fresh h hs) where
       abbrev Opening : Option Mode → Seen
-      Opening lock = at_work intent (own_held draw h lock ∷ hs) (in_embryo draw)
+      Opening lock = seen_making intent (own_held draw h lock ∷ hs) (in_embryo draw)
 
       may_lock : allows (Opening None) (TryLock h Exclusive) ≡ true
       may_lock =
@@ -135,7 +136,7 @@ module _ (draw : PodId) (intent : Intent) (maker : IsMaker draw intent) where
           ∙ ap (λ b. b && true) drawn)
 
       abbrev Locked : List Held → Bool → Seen
-      Locked held kept = record (at_work intent held (in_embryo draw)) { kept = kept }
+      Locked held kept = record (seen_making intent held (in_embryo draw)) { kept = kept }
 
       pub locked_seen : seen_replied (Opening None) (TryLock h Exclusive) Done ≡ Opening (Some Exclusive)
       locked_seen =
@@ -158,26 +159,26 @@ module _ (draw : PodId) (intent : Intent) (maker : IsMaker draw intent) where
         ap (λ b. let r : Held = record (own_held draw h (Some Exclusive)) { covered = b } in r ∷ map (uncover (pod_at from draw)) hs) (and_false (not (is_stage from && bytes_eq Name Name)))
         ∙ ap (λ (l : List Held). own_held draw h (Some Exclusive) ∷ l) (still_held Name Embryo from hs apart)
 
-    may_leave : allows (at_work intent Mine (in_embryo draw)) (MoveFolder Here There) ≡ true
+    may_leave : allows (seen_making intent Mine (in_embryo draw)) (MoveFolder Here There) ≡ true
     may_leave = rw (named, drawn, spared) refl
 
     abbrev Left : List Held → Bool → Option Making → Bool → Seen
-    Left held gated making kept = record (at_work intent held (record { made = true; gated = gated; moves = There ∷ []; making = making })) { kept = kept }
+    Left held embryo_under_lock making kept = record (seen_making intent held (record { made = true; embryo_under_lock = embryo_under_lock; moves = There ∷ []; making = making })) { kept = kept }
 
-    pub left_seen : seen_replied (at_work intent Mine (in_embryo draw)) (MoveFolder Here There) Done ≡ at_work intent Mine (in_prepare draw [])
+    pub left_seen : seen_replied (seen_making intent Mine (in_embryo draw)) (MoveFolder Here There) Done ≡ seen_making intent Mine (in_prepare draw [])
     left_seen =
-        ap (λ (l : List Held). Left l (not (bytes_eq (pod_text intent.draw.bytes) Name) && true) (Some (moved_making Here There (holding Here []))) (allows (at_work intent Mine (in_embryo draw)) (MoveFolder Here There) && true)) (still Embryo)
-        ∙ (ap (λ b. Left Mine (not b && true) (Some (moved_making Here There (holding Here []))) (allows (at_work intent Mine (in_embryo draw)) (MoveFolder Here There) && true)) drawn
-        ∙ (ap (λ b. Left Mine false (Some (cond b (holding There []) (holding Here []))) (allows (at_work intent Mine (in_embryo draw)) (MoveFolder Here There) && true)) named
+        ap (λ (l : List Held). Left l (not (bytes_eq (pod_text intent.draw.bytes) Name) && true) (Some (moved_making Here There (holding Here []))) (allows (seen_making intent Mine (in_embryo draw)) (MoveFolder Here There) && true)) (still Embryo)
+        ∙ (ap (λ b. Left Mine (not b && true) (Some (moved_making Here There (holding Here []))) (allows (seen_making intent Mine (in_embryo draw)) (MoveFolder Here There) && true)) drawn
+        ∙ (ap (λ b. Left Mine false (Some (cond b (holding There []) (holding Here []))) (allows (seen_making intent Mine (in_embryo draw)) (MoveFolder Here There) && true)) named
         ∙ ap (λ b. Left Mine false (Some (holding There [])) (b && true)) may_leave))
 
-    pub unleft_seen : (error : DirError) → seen_replied (at_work intent Mine (in_embryo draw)) (MoveFolder Here There) (Refused error 0) ≡ at_work intent Mine (in_embryo draw)
-    unleft_seen error = ap (λ b. let s : Seen = record (at_work intent Mine (in_embryo draw)) { kept = b && true } in s) may_leave
+    pub unleft_seen : (error : DirError) → seen_replied (seen_making intent Mine (in_embryo draw)) (MoveFolder Here There) (Refused error 0) ≡ seen_making intent Mine (in_embryo draw)
+    unleft_seen error = ap (λ b. let s : Seen = record (seen_making intent Mine (in_embryo draw)) { kept = b && true } in s) may_leave
 
     -- and moved on
     module _ (entries : List Entry) (whole : is_whole_pod (holding There entries) ≡ true) where
       abbrev Filled : Seen
-      Filled = at_work intent Mine (in_prepare draw entries)
+      Filled = seen_making intent Mine (in_prepare draw entries)
 
       pub may_hand : (to : Area) → leads_to to intent.kind ≡ true → allows Filled (MoveFolder There (pod_at to draw)) ≡ true
       may_hand Prepared leads = rw (named, spared, leads, whole) refl
@@ -185,12 +186,12 @@ module _ (draw : PodId) (intent : Intent) (maker : IsMaker draw intent) where
       may_hand _ leads = cc
 
       abbrev Handed : Area → List Held → Making → Bool → Seen
-      Handed to held making kept = record (at_work intent held (record { made = true; gated = false; moves = pod_at to draw ∷ There ∷ []; making = Some making })) { kept = kept }
+      Handed to held making kept = record (seen_making intent held (record { made = true; embryo_under_lock = false; moves = pod_at to draw ∷ There ∷ []; making = Some making })) { kept = kept }
 
       abbrev Allowed : Area → Bool
       Allowed to = allows Filled (MoveFolder There (pod_at to draw)) && true
 
-      pub handed_seen : (to : Area) → leads_to to intent.kind ≡ true → seen_replied Filled (MoveFolder There (pod_at to draw)) Done ≡ at_work intent Mine (handed draw to entries)
+      pub handed_seen : (to : Area) → leads_to to intent.kind ≡ true → seen_replied Filled (MoveFolder There (pod_at to draw)) Done ≡ seen_making intent Mine (handed draw to entries)
       handed_seen Prepared leads =
           ap (λ (l : List Held). Handed Prepared l (moved_making There (pod_at Prepared draw) (holding There entries)) (Allowed Prepared)) (still Prepare)
           ∙ (ap (λ b. Handed Prepared Mine (cond b (holding (pod_at Prepared draw) entries) (holding There entries)) (Allowed Prepared)) named
@@ -225,11 +226,11 @@ module _ (intent : Intent) (g : Handle) (area : Area) (hs : List Held) (fresh : 
       by true = refl
       by false = refl
 
-  none_dropped : (l : List Held) → Fresh g l → filter (λ x. not (is_number g x)) l ≡ l
+  none_dropped : (l : List Held) → Fresh g l → filter (λ x. not (is_handle_held g x)) l ≡ l
   none_dropped [] f = refl
-  none_dropped (x ∷ l) f = by (is_number g x) f (λ r. none_dropped l r)
+  none_dropped (x ∷ l) f = by (is_handle_held g x) f (λ r. none_dropped l r)
     where
-      by : (b : Bool) → (b || list_any (is_number g) l) ≡ false → (Fresh g l → filter (λ y. not (is_number g y)) l ≡ l) → cond (not b) (x ∷ filter (λ y. not (is_number g y)) l) (filter (λ y. not (is_number g y)) l) ≡ x ∷ l
+      by : (b : Bool) → (b || list_any (is_handle_held g) l) ≡ false → (Fresh g l → filter (λ y. not (is_handle_held g y)) l ≡ l) → cond (not b) (x ∷ filter (λ y. not (is_handle_held g y)) l) (filter (λ y. not (is_handle_held g y)) l) ≡ x ∷ l
       by true f go = cc
       by false f go = ap (λ (r : List Held). x ∷ r) (go f)
 
@@ -239,33 +240,33 @@ module _ (intent : Intent) (g : Handle) (area : Area) (hs : List Held) (fresh : 
     no_cover (Claim spot) = refl
     no_cover (Gate a) = refl
 
-    recovered : (l : List Held) → map (recover g whole) l ≡ l
-    recovered l = map_same (recover g whole) l (λ x. ap (λ b. let r : Held = record { handle = x.handle; target = x.target; lock = x.lock; covered = not b && x.covered } in r) (no_cover x.target))
+    recovered : (l : List Held) → map (uncovered_by_close g whole) l ≡ l
+    recovered l = map_same (uncovered_by_close g whole) l (λ x. ap (λ b. let r : Held = record { handle = x.handle; target = x.target; lock = x.lock; covered = not b && x.covered } in r) (no_cover x.target))
 
-    module _ (left : List Held) (p : Progress) (filtered : filter (λ x. not (is_number g x)) whole ≡ left) where
+    module _ (left : List Held) (p : Progress) (filtered : filter (λ x. not (is_handle_held g x)) whole ≡ left) where
       abbrev Closes : Bool
-      Closes = allows (at_work intent whole p) (Close g)
+      Closes = allows (seen_making intent whole p) (Close g)
 
       abbrev Given : List Held → Bool → Bool → Bool → Seen
-      Given held gated stored kept = record (at_work intent held (record p { gated = gated })) { stored = stored; kept = kept }
+      Given held embryo_under_lock stored kept = record (seen_making intent held (record p { embryo_under_lock = embryo_under_lock })) { stored = stored; kept = kept }
 
-      gate_given : Closes ≡ true → (not (is_gate_shared Embryo Newest) && p.gated) ≡ false → seen_replied (at_work intent whole p) (Close g) Done ≡ at_work intent left (record p { gated = false })
+      gate_given : Closes ≡ true → (not (is_gate_shared Embryo Newest) && p.embryo_under_lock) ≡ false → seen_replied (seen_making intent whole p) (Close g) Done ≡ seen_making intent left (record p { embryo_under_lock = false })
       gate_given closes ungated =
-          ap (λ (l : List Held). Given l (not (gives_up (is_gate_shared Embryo) g whole) && p.gated) (not (gives_up (is_gate_shared Incoming) g whole) && false) (Closes && true)) (ap (map (recover g whole)) filtered ∙ recovered left)
-          ∙ (ap (λ b. Given left (not b && p.gated) (not (gives_up (is_gate_shared Incoming) g whole) && false) (Closes && true)) (gives (is_gate_shared Embryo))
+          ap (λ (l : List Held). Given l (not (gives_up (is_gate_shared Embryo) g whole) && p.embryo_under_lock) (not (gives_up (is_gate_shared Incoming) g whole) && false) (Closes && true)) (ap (map (uncovered_by_close g whole)) filtered ∙ recovered left)
+          ∙ (ap (λ b. Given left (not b && p.embryo_under_lock) (not (gives_up (is_gate_shared Incoming) g whole) && false) (Closes && true)) (gives (is_gate_shared Embryo))
           ∙ (ap (λ b. Given left b (not (gives_up (is_gate_shared Incoming) g whole) && false) (Closes && true)) ungated
           ∙ (ap (λ b. Given left false b (Closes && true)) (and_false (not (gives_up (is_gate_shared Incoming) g whole)))
           ∙ ap (λ b. Given left false false (b && true)) closes)))
 
-  filter_newest : filter (λ x. not (is_number g x)) (Newest ∷ hs) ≡ hs
-  filter_newest = ap (λ b. cond (not b) (Newest ∷ filter (λ x. not (is_number g x)) hs) (filter (λ x. not (is_number g x)) hs)) (same_self g.number) ∙ none_dropped hs fresh
+  filter_newest : filter (λ x. not (is_handle_held g x)) (Newest ∷ hs) ≡ hs
+  filter_newest = ap (λ b. cond (not b) (Newest ∷ filter (λ x. not (is_handle_held g x)) hs) (filter (λ x. not (is_handle_held g x)) hs)) (same_self g.number) ∙ none_dropped hs fresh
 
   -- while the pod's own lock is held, once the pod was moved on from embryo
   pub gate_given_after : (draw : PodId) (h : Handle) → (h.number == g.number) ≡ false → (p : Progress)
-      → seen_replied (at_work intent (own_held draw h (Some Exclusive) ∷ Newest ∷ hs) (record p { gated = false })) (Close g) Done ≡ at_work intent (own_held draw h (Some Exclusive) ∷ hs) (record p { gated = false })
-  gate_given_after draw h other p = gate_given Whole (gives_own draw h other) (Mine ∷ hs) (record p { gated = false })
-      (ap (λ b. cond (not b) (Mine ∷ filter (λ x. not (is_number g x)) (Newest ∷ hs)) (filter (λ x. not (is_number g x)) (Newest ∷ hs))) other ∙ ap (λ (l : List Held). Mine ∷ l) filter_newest)
-      (ap (λ b. not (b && holds_own (pod_text intent.draw.bytes) (at_work intent Whole (record p { gated = false })).standing) && true) (and_false (gives_up (is_gate_shared Embryo) g Whole)))
+      → seen_replied (seen_making intent (own_held draw h (Some Exclusive) ∷ Newest ∷ hs) (record p { embryo_under_lock = false })) (Close g) Done ≡ seen_making intent (own_held draw h (Some Exclusive) ∷ hs) (record p { embryo_under_lock = false })
+  gate_given_after draw h other p = gate_given Whole (gives_own draw h other) (Mine ∷ hs) (record p { embryo_under_lock = false })
+      (ap (λ b. cond (not b) (Mine ∷ filter (λ x. not (is_handle_held g x)) (Newest ∷ hs)) (filter (λ x. not (is_handle_held g x)) (Newest ∷ hs))) other ∙ ap (λ (l : List Held). Mine ∷ l) filter_newest)
+      (ap (λ b. not (b && holds_own (pod_text intent.draw.bytes) (seen_making intent Whole (record p { embryo_under_lock = false })).standing) && true) (and_false (gives_up (is_gate_shared Embryo) g Whole)))
       (and_false (not (is_gate_shared Embryo Newest)))
     where
       Mine : Held
@@ -279,9 +280,9 @@ module _ (intent : Intent) (g : Handle) (hs : List Held) (fresh : Fresh g hs) wh
   abbrev Bare : List Held
   Bare = on_gate g Embryo (Some Shared) ∷ hs
 
-  pub gate_given_back : (draw : PodId) → IsMaker draw intent → is_open_on (Own (pod_at Embryo draw)) hs ≡ false → (p : Progress) → seen_replied (at_work intent Bare p) (Close g) Done ≡ at_work intent hs (record p { gated = false })
+  pub gate_given_back : (draw : PodId) → IsMaker draw intent → is_open_on (Own (pod_at Embryo draw)) hs ≡ false → (p : Progress) → seen_replied (seen_making intent Bare p) (Close g) Done ≡ seen_making intent hs (record p { embryo_under_lock = false })
   gate_given_back draw maker apart p = gate_given intent g Embryo hs fresh Bare (gives_it intent g Embryo hs fresh) hs p (filter_newest intent g Embryo hs fresh)
-      (ap (λ b. not ((gives_up (is_gate_shared Embryo) g Bare && p.gated) && b) && true) none ∙ ap (λ b. not b && true) (and_false (gives_up (is_gate_shared Embryo) g Bare && p.gated))) refl
+      (ap (λ b. not ((gives_up (is_gate_shared Embryo) g Bare && p.embryo_under_lock) && b) && true) none ∙ ap (λ b. not b && true) (and_false (gives_up (is_gate_shared Embryo) g Bare && p.embryo_under_lock))) refl
     where
       none : list_any (is_own_held (pod_text intent.draw.bytes)) hs ≡ false
       none = ap (λ (d : PodId). list_any (is_own_held (pod_text d.bytes)) hs) maker.drawn ∙ none_owned (pod_text draw.bytes) Embryo hs apart

@@ -1,5 +1,5 @@
 -- What came about in a part of a time came about in the whole.
-use Rattle.std.proofs.Common.{◌≡◌, inl, inr, ◌≤◌, ℕ, Bool, true, List, [], ◌∷◌, ◌++◌, refl, sym, ap, subst, ◌∙◌, append-nil, append_assoc, arith}
+use Rattle.std.proofs.Common.{◌≡◌, inl, inr, ℕ, Bool, true, List, [], ◌∷◌, ◌++◌, refl, sym, ap, subst, ◌∙◌, append-nil, append_assoc, arith}
 use Rattle.dir_model.specs.declared.event.Event.{Event}
 use Rattle.dir_model.specs.declared.area.Area.TheVariants.{Embryo}
 use Rattle.dir_model.specs.declared.intent.Intent.{Intent}
@@ -11,46 +11,27 @@ use Rattle.dir_model.specs.declared.request.Request.TheVariants.{MoveFolder}
 use Rattle.dir_model.specs.declared.request.Reply.{Reply}
 use Rattle.dir_model.specs.declared.request.Reply.TheVariants.{Done}
 use Rattle.dir_model.specs.Calls.{CallStep, Extends, event}
-use Rattle.dir_model.specs.Causes.{Rose}
 use Rattle.dir_model.specs.Local.{Local}
-use Rattle.dir_model.proofs.Chains.{nothing_yet, and_more, extends_wider}
+use Rattle.dir_model.proofs.Chains.{and_more, extends_wider}
 use Rattle.dir_model.proofs.Moments.{at_before}
 use Rattle.dir_rules.specs.declared.seen.Entry.{Entry}
+use Rattle.dir_laws.proofs.Rose.{rose_later, rose_still}
 use Rattle.dir_trait.specs.DirCalls.{DirAt, ExtendsBy, HeldBetween}
+use Rattle.dir_trait.specs.Effects.{OnlyAsks, LeavesOpen}
 use Rattle.folder_building.specs.declared.plan.PlanEntry.{PlanEntry}
-use Rattle.folder_building.specs.Work.{Worked}
 use Rattle.pod_build.specs.declared.make_error.MakeError.{MakeError}
 use Rattle.pod_build.specs.declared.make_error.MakeError.TheVariants.{Stray}
-use Rattle.dir_files.specs.AreaLocks.{IsFreeElsewhere, takes}
+use Rattle.dir_files.specs.AreaLocks.{IsFreeElsewhere, is_taking_area}
 use Rattle.folder_building.specs.Sources.{in_images}
 use Rattle.folder_building.specs.Stored.{LacksAt}
 use Rattle.folder_building.proofs.Stored.{lacks_after, lacks_before}
-use Rattle.pod_build.specs.MakingRequests.{locks_own, is_brought, shows_changed}
-use Rattle.pod_build.specs.Work.{Went}
-use Rattle.pod_build.specs.MakingCauses.{WasAnswered, IsCopiedAt, WorkCause, EmbryoCause, MakeCause, AsksFirst, AsksFolder, HasMadeFolder, ShowsTaken, LosesEmbryo, WasTakenMade, WasThenAnswered, MakesEmbryo, BringsPod, LosesPod, LosesOwn}
-use Rattle.pod_build.specs.Makings.{HasMoved}
+use Rattle.folder_building.proofs.Following.{Follows}
+use Rattle.pod_build.specs.MakingRequests.{locks_own, is_move_to_prepare, shows_changed}
+use Rattle.pod_build.specs.MakingCauses.{WasAnswered, IsCopiedAt, MakingWorkCause, EmbryoCause, MakeCause, AsksFirst, AsksFolder, HasMadeFolder, ShowsTaken, LosesEmbryo, WasTakenMade, WasThenAnswered, MakesEmbryo, BringsToPrepare, LosesPod, LosesOwn}
+use Rattle.pod_build.specs.Makings.{HasMovedPod}
 
--- calls, whatever they leave open
-pub record Follows (observed : Bool) (old new : DirAt) : Type 0 where
-  pub same : new.process ≡ old.process
-  pub faults : old.faults ≤ new.faults
-  pub asks : Request → Bool
-  pub extends : observed ≡ true → ExtendsBy asks old new
-
-pub follows_work : {observed : Bool} {asks : Request → Bool} {a b : DirAt} → Worked observed asks a b → Follows observed a b
-follows_work {observed} {asks} w = record { same = w.same; faults = w.faults; asks = asks; extends = w.extends }
-
-pub follows_went : {observed : Bool} {asks : Request → Bool} {l : Local} {a b : DirAt} → Went observed asks l a b → Follows observed a b
+pub follows_went : {observed : Bool} {asks : Request → Bool} {l : Local} {a b : DirAt} → LeavesOpen observed asks l a b → Follows observed a b
 follows_went {observed} {asks} w = record { same = w.same; faults = w.faults; asks = asks; extends = w.extends }
-
-pub nothing_follows : {observed : Bool} {a : DirAt} → Follows observed a a
-nothing_follows {observed} {a} = record { same = refl; faults = omega arith; asks = λ r. true; extends = λ t. nothing_yet }
-
-rose_later : (a b c : ℕ) → a ≤ b → Rose b c → Rose a c
-rose_later a b c before rose = omega arith
-
-rose_still : (a b c : ℕ) → Rose a b → b ≤ c → Rose a c
-rose_still a b c rose after = omega arith
 
 -- an own answer
 pub answered_self : (answers : Request → Reply → Bool) {request : Request} {reply : Reply} {me : ℕ} {old new : List Event} → answers request reply ≡ true → CallStep me old request reply new → WasAnswered answers me old new
@@ -87,7 +68,7 @@ answered_before answers {asks} {me} {other} {a} {b} {c} w bc = record {
 }
 
 -- the cause of a refusal
-pub cause_after : {observed : Bool} {plan : List PlanEntry} {e : MakeError} {a b c : DirAt} → Follows observed a b → WorkCause observed plan e b c → WorkCause observed plan e a c
+pub cause_after : {observed : Bool} {plan : List PlanEntry} {e : MakeError} {a b c : DirAt} → Follows observed a b → MakingWorkCause observed plan e b c → MakingWorkCause observed plan e a c
 cause_after {observed} {plan} {e} {a} {b} {c} ab w = record {
   calm = w.calm;
   untaken = w.untaken;
@@ -96,7 +77,7 @@ cause_after {observed} {plan} {e} {a} {b} {c} ab w = record {
   lacks = λ place is t. lacks_after a b (ab.extends t) ab.same c (w.lacks place is t);
 }
 
-pub cause_before : {observed : Bool} {plan : List PlanEntry} {e : MakeError} {a b c : DirAt} → b.process ≡ a.process → WorkCause observed plan e a b → Follows observed b c → WorkCause observed plan e a c
+pub cause_before : {observed : Bool} {plan : List PlanEntry} {e : MakeError} {a b c : DirAt} → b.process ≡ a.process → MakingWorkCause observed plan e a b → Follows observed b c → MakingWorkCause observed plan e a c
 cause_before {observed} {plan} {e} {a} {b} {c} same w bc = record {
   calm = w.calm;
   untaken = w.untaken;
@@ -137,7 +118,7 @@ made_taken {draw} a b c makes same w = inl (record {
 })
 
 -- after it was brought to prepare
-pub brought_changed : {draw : PodId} (a b c : DirAt) → BringsPod draw a b → b.process ≡ a.process → LosesPod draw b c → LosesOwn draw a c
+pub brought_changed : {draw : PodId} (a b c : DirAt) → BringsToPrepare draw a b → b.process ≡ a.process → LosesPod draw b c → LosesOwn draw a c
 brought_changed {draw} a b c brings same w = inr (record { between = b.trace; earlier = brings; later = subst (λ (p : ℕ). WasAnswered (shows_changed draw) p b.trace c.trace) same w })
 
 -- of longer times
@@ -153,8 +134,8 @@ own_after {draw} {asks} a b c ab same (inl w) =
       loses = v.loses;
     })
 own_after {draw} {asks} a b c ab same (inr w) =
-    let v = subst (λ (p : ℕ). WasThenAnswered (is_brought draw) (shows_changed draw) p b.trace c.trace) same w in
-    inr (record { between = v.between; earlier = answered_after (is_brought draw) ab refl v.earlier; later = v.later })
+    let v = subst (λ (p : ℕ). WasThenAnswered (is_move_to_prepare draw) (shows_changed draw) p b.trace c.trace) same w in
+    inr (record { between = v.between; earlier = answered_after (is_move_to_prepare draw) ab refl v.earlier; later = v.later })
 
 pub own_before : {draw : PodId} {asks : Request → Bool} {other : ℕ} (a b c : DirAt) → LosesOwn draw a b → Extends asks other b.trace c.trace → LosesOwn draw a c
 own_before a b c (inl w) bc = inl (record { before = w.before; made = w.made; earlier = w.earlier; begins = w.begins; makes = w.makes; loses = taken_before w.loses bc })
@@ -175,7 +156,7 @@ none_lacking place u = by u.before u.is
     by [] is = cc
     by (x ∷ xs) is = cc
 
-pub cause_planned : {observed : Bool} {e : MakeError} {a b : DirAt} (plan : List PlanEntry) → WorkCause observed [] e a b → WorkCause observed plan e a b
+pub cause_planned : {observed : Bool} {e : MakeError} {a b : DirAt} (plan : List PlanEntry) → MakingWorkCause observed [] e a b → MakingWorkCause observed plan e a b
 cause_planned plan w = record { calm = w.calm; untaken = w.untaken; fault = w.fault; unlike = λ place is. absurd (none_copied place (w.unlike place is)); lacks = λ place is t. absurd (none_lacking place (w.lacks place is t)) }
 
 pub make_planned : {observed : Bool} {draw : PodId} {e : MakeError} {a b : DirAt} (plan : List PlanEntry) → MakeCause observed draw [] e a b → MakeCause observed draw plan e a b
@@ -201,11 +182,11 @@ folder_before a b c w same bc = record { free = at_before w.free same bc; locked
 abbrev HadLock : DirAt → DirAt → Type 0
 HadLock a b = HeldBetween a b (IsFreeElsewhere a.process Embryo Shared)
 
-pub folder_asked : {draw : PodId} {reply : Reply} {asks : Request → Bool} (a b c : DirAt) → HadLock a b → ExtendsBy (takes Embryo Shared) a b → b.process ≡ a.process → ExtendsBy asks b c → AsksFirst draw reply b.process b.trace c.trace → AsksFolder draw reply a c
+pub folder_asked : {draw : PodId} {reply : Reply} {asks : Request → Bool} (a b c : DirAt) → HadLock a b → ExtendsBy (is_taking_area Embryo Shared) a b → b.process ≡ a.process → ExtendsBy asks b c → AsksFirst draw reply b.process b.trace c.trace → AsksFolder draw reply a c
 folder_asked {draw} {reply} a b c free locks same bc first = record { free = at_before free same bc; locked = b.trace; locks = locks; first = subst (λ (me : ℕ). AsksFirst draw reply me b.trace c.trace) same first }
 
 -- the causes of longer parts
-pub embryo_cause : {observed : Bool} {draw : PodId} {e : MakeError} {a b c : DirAt} → Follows observed a b → WorkCause observed [] e b c → EmbryoCause observed draw e a c
+pub embryo_cause : {observed : Bool} {draw : PodId} {e : MakeError} {a b c : DirAt} → Follows observed a b → MakingWorkCause observed [] e b c → EmbryoCause observed draw e a c
 embryo_cause {observed} {draw} {e} {a} {b} {c} ab w = record {
   calm = w.calm;
   fault = λ is. rose_later a.faults b.faults c.faults ab.faults (w.fault is);
@@ -213,7 +194,7 @@ embryo_cause {observed} {draw} {e} {a} {b} {c} ab w = record {
   like = λ place is. none_copied place (w.unlike place is);
 }
 
-pub locked_cause : {observed : Bool} {draw : PodId} {e : MakeError} (a b c d : DirAt) → Follows observed a b → (observed ≡ true → HadLock a b) → (observed ≡ true → ExtendsBy (takes Embryo Shared) a b) → Follows observed b c → Follows observed c d
+pub locked_cause : {observed : Bool} {draw : PodId} {e : MakeError} (a b c d : DirAt) → Follows observed a b → (observed ≡ true → HadLock a b) → (observed ≡ true → ExtendsBy (is_taking_area Embryo Shared) a b) → Follows observed b c → Follows observed c d
     → (e ≡ Stray → observed ≡ true → LosesOwn draw a d) → EmbryoCause observed draw e b c → MakeCause observed draw [] e a d
 locked_cause a b c d ab free locks bc cd stray w = record {
   busy = λ is. absurd (w.calm is);
@@ -226,11 +207,11 @@ locked_cause a b c d ab free locks bc cd stray w = record {
   stray = stray;
 }
 
-pub calm_cause : {observed : Bool} {draw : PodId} {plan : List PlanEntry} {e : MakeError} {a b : DirAt} → (observed ≡ true → HasMadeFolder draw a b) → (e ≡ Stray → observed ≡ true → LosesOwn draw a b) → WorkCause observed plan e a b → MakeCause observed draw plan e a b
+pub calm_cause : {observed : Bool} {draw : PodId} {plan : List PlanEntry} {e : MakeError} {a b : DirAt} → (observed ≡ true → HasMadeFolder draw a b) → (e ≡ Stray → observed ≡ true → LosesOwn draw a b) → MakingWorkCause observed plan e a b → MakeCause observed draw plan e a b
 calm_cause made stray w = record { busy = λ is. absurd (w.calm is); alone = λ is. absurd (w.calm is); fault = w.fault; taken = λ is. absurd (w.untaken is); unlike = w.unlike; made = λ place is. made; lacks = w.lacks; stray = stray }
 
 -- work after work, and what is open then
-pub went_after : {observed : Bool} {asks : Request → Bool} {a b c : DirAt} (after : Local → Local) → Worked observed asks a b → Went observed asks (after b.local) b c → Went observed asks (after a.local) a c
+pub went_after : {observed : Bool} {asks : Request → Bool} {a b c : DirAt} (after : Local → Local) → OnlyAsks observed asks a b → LeavesOpen observed asks (after b.local) b c → LeavesOpen observed asks (after a.local) a c
 went_after {observed} {asks} {a} {b} {c} after ab bc = record {
   same = bc.same ∙ ab.same;
   faults = omega (arith, ab.faults, bc.faults);
@@ -238,19 +219,19 @@ went_after {observed} {asks} {a} {b} {c} after ab bc = record {
   extends = λ t. and_more (ab.extends t) ab.same (bc.extends t);
 }
 
-pub went_wider : {observed : Bool} {asks more : Request → Bool} {l : Local} {a b : DirAt} → ((r : Request) → asks r ≡ true → more r ≡ true) → Went observed asks l a b → Went observed more l a b
+pub went_wider : {observed : Bool} {asks more : Request → Bool} {l : Local} {a b : DirAt} → ((r : Request) → asks r ≡ true → more r ≡ true) → LeavesOpen observed asks l a b → LeavesOpen observed more l a b
 went_wider wider w = record { same = w.same; faults = w.faults; local_is = w.local_is; extends = λ t. extends_wider wider (w.extends t) }
 
-pub worked_went : {observed : Bool} {asks : Request → Bool} {a b : DirAt} → Went observed asks a.local a b → Worked observed asks a b
+pub worked_went : {observed : Bool} {asks : Request → Bool} {a b : DirAt} → LeavesOpen observed asks a.local a b → OnlyAsks observed asks a b
 worked_went w = record { same = w.same; faults = w.faults; local = w.local_is; extends = w.extends }
 
 -- a move in a part of the time
 pub moved_within : {observed : Bool} (from to : Spot) (entries : List Entry) (intent : Intent) (a b c d : DirAt) → observed ≡ true → Follows observed a b → Follows observed c d
-    → HasMoved b.process from to entries intent b.trace c.trace → HasMoved a.process from to entries intent a.trace d.trace
+    → HasMovedPod b.process from to entries intent b.trace c.trace → HasMovedPod a.process from to entries intent a.trace d.trace
 moved_within {observed} from to entries intent a b c d t ab cd x =
     let e = ab.extends t in
     let l = cd.extends t in
-    let y = subst (λ (me : ℕ). HasMoved me from to entries intent b.trace c.trace) ab.same x in
+    let y = subst (λ (me : ℕ). HasMovedPod me from to entries intent b.trace c.trace) ab.same x in
     record {
       before = y.before;
       later = y.later ++ l.more;

@@ -12,18 +12,18 @@ use Rattle.dir_model.specs.declared.spot.Spot.{Spot}
 use Rattle.dir_model.specs.Local.{Local}
 use Rattle.dir_model.proofs.Chains.{extends_wider, nothing_yet, and_call}
 use Rattle.dir_trait.specs.DirCalls.{DirAt, DirCall, ExtendsBy}
-use Rattle.dir_files.specs.AreaLocks.{takes, closes}
+use Rattle.dir_trait.specs.Effects.{OnlyAsks, LeavesOpen}
+use Rattle.dir_files.specs.AreaLocks.{is_taking_area, closes}
 use Rattle.folder_building.specs.declared.plan.PlanEntry.{PlanEntry}
 use Rattle.folder_building.specs.Sources.{in_images}
 use Rattle.folder_building.specs.Stored.{reads_contents}
-use Rattle.folder_building.specs.Work.{Worked, builds_at, either}
+use Rattle.folder_building.specs.Work.{builds_at, either}
 use Rattle.image_reading.specs.Trees.{reads_trees_of, ReadsNoTrees}
 use Rattle.image_reading.proofs.Trees.{trees_none, trees_more}
 use Rattle.pod_manifest.specs.Wishes.{Wishes}
 use Rattle.pod_plan.specs.PickedTrees.{copies_no_tree, ReadsAtMostPicked}
 use Rattle.pod_plan.proofs.NoTrees.{contents_read}
 use Rattle.pod_build.specs.MakingRequests.{begins_pod, hands_pod}
-use Rattle.pod_build.specs.Work.{Went}
 use Rattle.pod_build.specs.PickedReads.{ReadsPickedAlone}
 
 -- requests of which none reads a listing
@@ -45,7 +45,7 @@ builds_none : (spot : Spot) → ReadNoTree (builds_at spot)
 builds_none spot (ReadIn inner at room) is = cc
 builds_none spot request is = refl
 
-takes_none : (area : Area) (mode : Mode) → ReadNoTree (takes area mode)
+takes_none : (area : Area) (mode : Mode) → ReadNoTree (is_taking_area area mode)
 takes_none area mode (ReadIn inner at room) is = cc
 takes_none area mode request is = refl
 
@@ -61,20 +61,20 @@ fills_none spot plan no r is = by (builds_at spot r) refl is
     by false built h = contents_read plan no r h
 
 -- in embryo, while the pod is filled, and as it is handed over
-pub begun_unread : {observed : Bool} {local : Local} {a b : DirAt} (draw : PodId) → Went observed (begins_pod draw) local a b → ReadsNoTrees observed a b
+pub begun_unread : {observed : Bool} {local : Local} {a b : DirAt} (draw : PodId) → LeavesOpen observed (begins_pod draw) local a b → ReadsNoTrees observed a b
 begun_unread draw w = unread (begins_none draw) w.same w.extends
 
-pub filled_unread : {observed : Bool} {a b : DirAt} (spot : Spot) (plan : List PlanEntry) → copies_no_tree plan ≡ true → Worked observed (either (builds_at spot) (reads_contents in_images plan)) a b → ReadsNoTrees observed a b
+pub filled_unread : {observed : Bool} {a b : DirAt} (spot : Spot) (plan : List PlanEntry) → copies_no_tree plan ≡ true → OnlyAsks observed (either (builds_at spot) (reads_contents in_images plan)) a b → ReadsNoTrees observed a b
 filled_unread spot plan no w = unread (fills_none spot plan no) w.same w.extends
 
-pub handed_unread : {observed : Bool} {a b : DirAt} (draw : PodId) (to : Area) → Worked observed (hands_pod draw to) a b → ReadsNoTrees observed a b
+pub handed_unread : {observed : Bool} {a b : DirAt} (draw : PodId) (to : Area) → OnlyAsks observed (hands_pod draw to) a b → ReadsNoTrees observed a b
 handed_unread draw to w = unread (hands_none draw to) w.same w.extends
 
 pub closed_unread : {observed : Bool} {a b : DirAt} {handle : Handle} → DirCall observed a (Close handle) Done b → ReadsNoTrees observed a b
 closed_unread c = record { same = c.same; extends = λ t. and_call nothing_yet refl refl (c.step t) }
 
 -- the lock of an area
-pub locked_unread : {observed : Bool} {a b : DirAt} (area : Area) (mode : Mode) → b.process ≡ a.process → (observed ≡ true → ExtendsBy (takes area mode) a b) → ReadsNoTrees observed a b
+pub locked_unread : {observed : Bool} {a b : DirAt} (area : Area) (mode : Mode) → b.process ≡ a.process → (observed ≡ true → ExtendsBy (is_taking_area area mode) a b) → ReadsNoTrees observed a b
 locked_unread area mode same extends = unread (takes_none area mode) same extends
 
 pub unlocked_unread : {observed : Bool} {a b : DirAt} (handle : Handle) → b.process ≡ a.process → (observed ≡ true → ExtendsBy (closes handle) a b) → ReadsNoTrees observed a b

@@ -17,10 +17,10 @@ abbrev pub target : Bool → Area
 target keep = cond keep area.Run area.Prepared
 
 -- that pod, by the name that was drawn; and where it is kept, its own lock by a handle that wasn't open before
-abbrev pub IsAnswer : Bool → PodId → Local → Built → Type 0
-IsAnswer true draw m (Running owned) = IsOwned draw m owned
-IsAnswer false draw m (Prepared pod) = pod ≡ draw
-IsAnswer keep draw m built = ⊥
+abbrev pub IsBuildAnswer : Bool → PodId → Local → Built → Type 0
+IsBuildAnswer true draw m (Running owned) = IsOwned draw m owned
+IsBuildAnswer false draw m (Prepared pod) = pod ≡ draw
+IsBuildAnswer keep draw m built = ⊥
 
 -- what is open
 abbrev pub with_built : Local → PodId → Result Built BuildError → Local

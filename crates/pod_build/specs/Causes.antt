@@ -25,7 +25,7 @@ use Rattle.pod_build.specs.declared.error.BuildError.TheVariants.{Busy}
 use Rattle.pod_build.specs.Refusals.{gate_refusal, plan_refusal, IsMakeRefusal}
 
 -- the one stretch of time lies within the other
-pub record IsPartOf (start end old new : DirAt) : Type 0 where
+pub record IsStretchWithin (start end old new : DirAt) : Type 0 where
   pub same : start.process ≡ old.process
   pub before : List Event
   pub begins : start.trace ≡ old.trace ++ before
@@ -34,7 +34,7 @@ pub record IsPartOf (start end old new : DirAt) : Type 0 where
 
 -- it was so in a part of the time
 abbrev pub During : Bool → (DirAt → DirAt → Type 0) → DirAt → DirAt → Type 0
-During observed P old new = (start : DirAt) × (end : DirAt) × (observed ≡ true → IsPartOf start end old new) × P start end
+During observed P old new = (start : DirAt) × (end : DirAt) × (observed ≡ true → IsStretchWithin start end old new) × P start end
 
 -- the lock of images wasn't had: it was held against it; or the directory failed, or memory ran out
 abbrev pub FailsGate : Bool → BuildError → DirAt → DirAt → Type 0
@@ -72,10 +72,10 @@ abbrev pub IsRefusedUnderLock : Bool → List ImageRef → Wishes → Draw → �
 IsRefusedUnderLock observed refs options draw now error old new =
     During observed (λ a b. FailsPlan observed refs options error a b) old new ⊎ FailsAfterPlan observed refs options draw now error old new
 
-abbrev pub IsRefused : Bool → List ImageRef → Wishes → Draw → ℕ → BuildError → DirAt → DirAt → Type 0
-IsRefused observed refs options draw now error old new =
+abbrev pub IsBuildRefused : Bool → List ImageRef → Wishes → Draw → ℕ → BuildError → DirAt → DirAt → Type 0
+IsBuildRefused observed refs options draw now error old new =
     FailsGate observed error old new ⊎ (FindsImagesFree observed old new × IsRefusedUnderLock observed refs options draw now error old new)
 
 -- the lock of the area that is told was another process's, held so that it conflicts
-abbrev pub IsHeldElsewhere : BuildError → DirAt → DirAt → Type 0
-IsHeldElsewhere error old new = (area : Area) → error ≡ Busy area → HeldBetween old new (IsBusyElsewhere old.process area Shared)
+abbrev pub AreaHeldElsewhere : BuildError → DirAt → DirAt → Type 0
+AreaHeldElsewhere error old new = (area : Area) → error ≡ Busy area → HeldBetween old new (IsBusyElsewhere old.process area Shared)

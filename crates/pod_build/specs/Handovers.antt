@@ -26,14 +26,14 @@ is_handed_to Prepared = true
 is_handed_to Run = true
 is_handed_to area = false
 
-abbrev pub hands_over : Request → Bool
-hands_over (MoveFolder from to) = is_in Prepare from.area && is_handed_to to.area
-hands_over request = false
+abbrev pub is_pod_handover : Request → Bool
+is_pod_handover (MoveFolder from to) = is_in Prepare from.area && is_handed_to to.area
+is_pod_handover request = false
 
 -- this was so of the trace just before each own Ok move by which a pod was handed over, between these two traces
 pub record BeforeHandingOver (P : List Event → Type 0) (me : ℕ) (old new : List Event) : Type 0 where
   pub so : (before meanwhile later : List Event) (from to : Spot) → before ≡ old ++ meanwhile →
-      new ≡ before ++ event me (MoveFolder from to) Done ∷ later → hands_over (MoveFolder from to) ≡ true → P before
+      new ≡ before ++ event me (MoveFolder from to) Done ∷ later → is_pod_handover (MoveFolder from to) ≡ true → P before
 
 -- by what it knew, the folder in prepare held exactly what the plan asks for, each change Ok and all of it synced. It had begun so
 pub record KnewMade (me : ℕ) (draw : PodId) (plan : List PlanEntry) (intent : Intent) (before : List Event) : Type 0 where

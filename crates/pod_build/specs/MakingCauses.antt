@@ -13,7 +13,7 @@ use Rattle.dir_model.specs.declared.spot.Which.TheVariants.{Own}
 use Rattle.dir_model.specs.Calls.{CallStep, Extends}
 use Rattle.dir_model.specs.Causes.{Rose}
 use Rattle.dir_trait.specs.DirCalls.{DirAt, HeldBetween}
-use Rattle.dir_files.specs.AreaLocks.{IsBusy, IsBusyElsewhere, IsFreeElsewhere, takes}
+use Rattle.dir_files.specs.AreaLocks.{IsBusy, IsBusyElsewhere, IsFreeElsewhere, is_taking_area}
 use Rattle.folder_building.specs.declared.plan.PlanEntry.{PlanEntry}
 use Rattle.folder_building.specs.declared.plan.Content.{Content}
 use Rattle.folder_building.specs.declared.plan.Content.TheVariants.{Copied}
@@ -21,7 +21,7 @@ use Rattle.pod_build.specs.declared.make_error.MakeError.{MakeError}
 use Rattle.pod_build.specs.declared.make_error.MakeError.TheVariants.{Busy, Taken, Unlike, DirFault, Stray}
 use Rattle.folder_building.specs.Sources.{in_images}
 use Rattle.folder_building.specs.Stored.{LacksAt}
-use Rattle.pod_build.specs.MakingRequests.{pod_at, locks_own, shows_taken, is_brought, shows_changed}
+use Rattle.pod_build.specs.MakingRequests.{pod_at, locks_own, shows_taken, is_move_to_prepare, shows_changed}
 
 -- an own step was answered in this manner
 pub record WasAnswered (answers : Request → Reply → Bool) (me : ℕ) (old new : List Event) : Type 0 where
@@ -77,8 +77,8 @@ pub record WasThenAnswered (first then : Request → Reply → Bool) (me : ℕ) 
   pub later : WasAnswered then me between new
 
 -- the folder was brought to prepare
-abbrev pub BringsPod : PodId → DirAt → DirAt → Type 0
-BringsPod draw old new = WasAnswered (is_brought draw) old.process old.trace new.trace
+abbrev pub BringsToPrepare : PodId → DirAt → DirAt → Type 0
+BringsToPrepare draw old new = WasAnswered (is_move_to_prepare draw) old.process old.trace new.trace
 
 -- another changed what stands in prepare, or moved it
 abbrev pub LosesPod : PodId → DirAt → DirAt → Type 0
@@ -86,11 +86,11 @@ LosesPod draw old new = WasAnswered (shows_changed draw) old.process old.trace n
 
 -- the process made the folder, and another took it in embryo or changed it in prepare
 abbrev pub LosesOwn : PodId → DirAt → DirAt → Type 0
-LosesOwn draw old new = WasTakenMade draw old.process old.trace new.trace ⊎ WasThenAnswered (is_brought draw) (shows_changed draw) old.process old.trace new.trace
+LosesOwn draw old new = WasTakenMade draw old.process old.trace new.trace ⊎ WasThenAnswered (is_move_to_prepare draw) (shows_changed draw) old.process old.trace new.trace
 
 -- nothing was asked for but the lock of embryo
 abbrev pub AsksLockAlone : DirAt → DirAt → Type 0
-AsksLockAlone old new = Extends (takes Embryo Shared) old.process old.trace new.trace
+AsksLockAlone old new = Extends (is_taking_area Embryo Shared) old.process old.trace new.trace
 
 -- its first own call, the making of the folder in embryo, was answered so
 pub record AsksFirst (draw : PodId) (reply : Reply) (me : ℕ) (old new : List Event) : Type 0 where
@@ -110,15 +110,15 @@ MeetsFirst draw old new = AsksFirst draw (Refused Exists 0) old.process old.trac
 pub record AsksFolder (draw : PodId) (reply : Reply) (old new : DirAt) : Type 0 where
   pub free : HeldBetween old new (IsFreeElsewhere old.process Embryo Shared)
   pub locked : List Event
-  pub locks : Extends (takes Embryo Shared) old.process old.trace locked
+  pub locks : Extends (is_taking_area Embryo Shared) old.process old.trace locked
   pub first : AsksFirst draw reply old.process locked new.trace
 
 -- it was answered Ok, or refused since a folder stood there
 abbrev pub HasMadeFolder : PodId → DirAt → DirAt → Type 0
 HasMadeFolder draw old new = AsksFolder draw Done old new
 
-abbrev pub WasTaken : PodId → DirAt → DirAt → Type 0
-WasTaken draw old new = AsksFolder draw (Refused Exists 0) old new
+abbrev pub DrawWasTaken : PodId → DirAt → DirAt → Type 0
+DrawWasTaken draw old new = AsksFolder draw (Refused Exists 0) old new
 
 abbrev pub is_copied : Content → Bool
 is_copied (Copied origin size sha) = true
@@ -134,7 +134,7 @@ pub record IsCopiedAt (plan : List PlanEntry) (place : ℕ) : Type 0 where
   pub copied : is_copied entry.content ≡ true
 
 -- a part of the making that neither takes the lock of embryo nor makes the folder ends for one of these causes
-pub record WorkCause (observed : Bool) (plan : List PlanEntry) (error : MakeError) (old new : DirAt) : Type 0 where
+pub record MakingWorkCause (observed : Bool) (plan : List PlanEntry) (error : MakeError) (old new : DirAt) : Type 0 where
   pub calm : error ≡ Busy → ⊥
   pub untaken : error ≡ Taken → ⊥
   pub fault : error ≡ DirFault → Rose old.faults new.faults
@@ -153,12 +153,12 @@ pub record MakeCause (observed : Bool) (draw : PodId) (plan : List PlanEntry) (e
   pub busy : error ≡ Busy → observed ≡ true → HeldBetween old new (IsBusy Embryo Shared)
   pub alone : error ≡ Busy → observed ≡ true → AsksLockAlone old new
   pub fault : error ≡ DirFault → Rose old.faults new.faults
-  pub taken : error ≡ Taken → observed ≡ true → WasTaken draw old new
+  pub taken : error ≡ Taken → observed ≡ true → DrawWasTaken draw old new
   pub unlike : (place : ℕ) → error ≡ Unlike place → IsCopiedAt plan place
   pub made : (place : ℕ) → error ≡ Unlike place → observed ≡ true → HasMadeFolder draw old new
   pub lacks : (place : ℕ) → error ≡ Unlike place → observed ≡ true → LacksAt in_images plan place old new
   pub stray : error ≡ Stray → observed ≡ true → LosesOwn draw old new
 
 -- where the lock of embryo was refused, a handle of another process held it
-abbrev pub BusyElsewhere : MakeError → DirAt → DirAt → Type 0
-BusyElsewhere error old new = error ≡ Busy → HeldBetween old new (IsBusyElsewhere old.process Embryo Shared)
+abbrev pub EmbryoBusyElsewhere : MakeError → DirAt → DirAt → Type 0
+EmbryoBusyElsewhere error old new = error ≡ Busy → HeldBetween old new (IsBusyElsewhere old.process Embryo Shared)

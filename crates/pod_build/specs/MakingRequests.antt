@@ -14,8 +14,8 @@ use Rattle.dir_model.specs.declared.request.Request.TheVariants.{OpenArea, Open,
 use Rattle.dir_model.specs.Pods.{pod_text}
 use Rattle.dir_model.specs.State.{spot_eq}
 use Rattle.dir_rules.specs.Standing.{is_in}
-use Rattle.folder_building.specs.Sources.{reads_images}
-use Rattle.folder_building.specs.Work.{either, builds_at, is_stray}
+use Rattle.folder_building.specs.Sources.{reads_image_files}
+use Rattle.folder_building.specs.Work.{either, builds_at, is_stray_building}
 
 -- where the pod with this draw stands in an area
 abbrev pub pod_at : Area → PodId → Spot
@@ -38,7 +38,7 @@ begins_pod draw request = false
 
 -- the changes in the folder in prepare, and reads of images
 abbrev pub fills_pod : PodId → Request → Bool
-fills_pod draw = either (builds_at (pod_at Prepare draw)) reads_images
+fills_pod draw = either (builds_at (pod_at Prepare draw)) reads_image_files
 
 -- its last move
 abbrev pub hands_pod : PodId → Area → Request → Bool
@@ -68,9 +68,9 @@ shows_taken draw (MoveFolder from to) (Refused Exists left) = spot_eq from (pod_
 shows_taken draw request reply = false
 
 -- the move of the folder to prepare
-abbrev pub is_brought : PodId → Request → Reply → Bool
-is_brought draw (MoveFolder from to) Done = spot_eq from (pod_at Embryo draw) && spot_eq to (pod_at Prepare draw)
-is_brought draw request reply = false
+abbrev pub is_move_to_prepare : PodId → Request → Reply → Bool
+is_move_to_prepare draw (MoveFolder from to) Done = spot_eq from (pod_at Embryo draw) && spot_eq to (pod_at Prepare draw)
+is_move_to_prepare draw request reply = false
 
 -- its move from there to prepared or to run
 abbrev pub hands_on : PodId → Request → Bool
@@ -80,4 +80,4 @@ hands_on draw = either (hands_pod draw Prepared) (hands_pod draw Run)
 abbrev pub shows_changed : PodId → Request → Reply → Bool
 shows_changed draw (MoveFolder from to) (Refused Missing left) = hands_on draw (MoveFolder from to)
 shows_changed draw (MoveFolder from to) (Refused Exists left) = hands_on draw (MoveFolder from to)
-shows_changed draw request reply = fills_pod draw request && is_stray request reply
+shows_changed draw request reply = fills_pod draw request && is_stray_building request reply

@@ -21,17 +21,17 @@ use Rattle.folder_building.specs.Plans.{AreMade}
 use Rattle.pod_build.specs.declared.make_error.MakeError.{MakeError}
 use Rattle.pod_locks.specs.declared.owned.Owned.{Owned}
 use Rattle.pod_build.specs.MakingRequests.{pod_at}
-use Rattle.pod_build.specs.Progress.{at_work, holding, in_prepare, handed, and_own}
+use Rattle.pod_build.specs.Progress.{seen_making, holding, in_prepare, handed, and_own}
 use Rattle.pod_build.specs.Work.{Owns, MayMake}
 
 -- it has carried the plan out in the folder in prepare
-pub record HasFilled (plan : List PlanEntry) (draw : PodId) (intent : Intent) (hs : List Held) (new : DirAt) : Type 0 where
+pub record HasFilledPrepare (plan : List PlanEntry) (draw : PodId) (intent : Intent) (hs : List Held) (new : DirAt) : Type 0 where
   pub entries : List Entry
   pub made : AreMade plan entries
-  pub knows : Knows new (at_work intent hs (in_prepare draw entries))
+  pub knows : Knows new (seen_making intent hs (in_prepare draw entries))
 
 -- by its own Ok move the folder, which held this by what it knew, came to another location. It had begun so
-pub record HasMoved (me : ℕ) (from to : Spot) (entries : List Entry) (intent : Intent) (old new : List Event) : Type 0 where
+pub record HasMovedPod (me : ℕ) (from to : Spot) (entries : List Entry) (intent : Intent) (old new : List Event) : Type 0 where
   pub before : List Event
   pub later : List Event
   pub meanwhile : List Event
@@ -43,21 +43,21 @@ pub record HasMoved (me : ℕ) (from to : Spot) (entries : List Entry) (intent :
   pub knew : IsTied me before seen
 
 -- wherever it has carried the plan out
-abbrev pub FromFilled : Area → List PlanEntry → PodId → DirAt → (Intent → List Held → List Entry → Type 0) → Type 0
-FromFilled to plan draw old After = (intent : Intent) (hs : List Held) (entries : List Entry) → MayMake to plan draw intent → Owns draw hs → AreMade plan entries
-    → Knows old (at_work intent hs (in_prepare draw entries)) → After intent hs entries
+abbrev pub WherePlanFilled : Area → List PlanEntry → PodId → DirAt → (Intent → List Held → List Entry → Type 0) → Type 0
+WherePlanFilled to plan draw old After = (intent : Intent) (hs : List Held) (entries : List Entry) → MayMake to plan draw intent → Owns draw hs → AreMade plan entries
+    → Knows old (seen_making intent hs (in_prepare draw entries)) → After intent hs entries
 
 -- it moved the folder on
 pub record IsHanded (draw : PodId) (to : Area) (intent : Intent) (hs : List Held) (entries : List Entry) (old new : DirAt) : Type 0 where
-  pub knows : Knows new (at_work intent hs (handed draw to entries))
-  pub moved : HasMoved old.process (pod_at Prepare draw) (pod_at to draw) entries intent old.trace new.trace
+  pub knows : Knows new (seen_making intent hs (handed draw to entries))
+  pub moved : HasMovedPod old.process (pod_at Prepare draw) (pod_at to draw) entries intent old.trace new.trace
 
 -- it has carried the plan out, everything was answered Ok and synced, and then it moved the folder on
 pub record HasMade (draw : PodId) (to : Area) (plan : List PlanEntry) (intent : Intent) (hs : List Held) (old new : DirAt) : Type 0 where
   pub entries : List Entry
   pub made : AreMade plan entries
-  pub knows : Knows new (at_work intent hs (handed draw to entries))
-  pub moved : HasMoved old.process (pod_at Prepare draw) (pod_at to draw) entries intent old.trace new.trace
+  pub knows : Knows new (seen_making intent hs (handed draw to entries))
+  pub moved : HasMovedPod old.process (pod_at Prepare draw) (pod_at to draw) entries intent old.trace new.trace
 
 -- what is open after the making of a pod that its maker keeps
 abbrev pub with_owned : Local → PodId → Result Owned MakeError → Local

@@ -18,9 +18,9 @@ use Rattle.dir_rules.specs.declared.standing.Held.{Held}
 use Rattle.dir_rules.specs.declared.seen.Entry.{Entry}
 use Rattle.dir_trait.specs.DirCalls.{DirAt, ExtendsBy}
 use Rattle.dir_trait.specs.Knowledge.{Knows}
+use Rattle.dir_trait.specs.Effects.{OnlyAsks}
 use Rattle.dir_files.specs.AreaLocks.{on_gate}
 use Rattle.folder_building.specs.declared.plan.PlanEntry.{PlanEntry}
-use Rattle.folder_building.specs.Work.{Worked}
 use Rattle.folder_contents.specs.Entries.{entries_in}
 use Rattle.folder_contents.specs.Handing.{then_moved}
 use Rattle.image_reading.specs.Looks.{reads_images}
@@ -30,8 +30,8 @@ use Rattle.pod_plan.specs.Choices.{IsChoice}
 use Rattle.pod_manifest.specs.Wishes.{Wishes}
 use Rattle.pod_plan.specs.FaithfulPods.{PlansFaithfully}
 use Rattle.pod_build.specs.MakingRequests.{pod_at, makes_pod}
-use Rattle.pod_build.specs.Progress.{at_work, handed, nothing_made}
-use Rattle.pod_build.specs.Work.{leads_to, From}
+use Rattle.pod_build.specs.Progress.{seen_making, handed, nothing_made}
+use Rattle.pod_build.specs.Work.{leads_to, WhereMakingPod}
 use Rattle.pod_build.specs.Makings.{HasMade}
 use Rattle.pod_build.specs.Handovers.{BeforeHandingOver, KnewMade}
 use Rattle.pod_build.specs.FaithfulBuild.{IsFaithfulBuild, HandsOverFaithfully}
@@ -54,7 +54,7 @@ HasGateAlone gate hs = hs ≡ on_gate gate Images (Some Shared) ∷ []
 -- it read the images, and then made the pod by the plan that they gave
 pub record HasPrepared (refs : List ImageRef) (options : Wishes) (draw : Draw) (now : ℕ) (to : Area) (intent : Intent) (hs : List Held) (old new : DirAt) : Type 0 where
   pub mid : DirAt
-  pub reads : Worked true reads_images old mid
+  pub reads : OnlyAsks true reads_images old mid
   pub plan : List PlanEntry
   pub planned : PlansFaithfully refs options now draw.token plan old mid
   pub works : ExtendsBy (makes_pod draw.uuid to) mid new
@@ -63,7 +63,7 @@ pub record HasPrepared (refs : List ImageRef) (options : Wishes) (draw : Draw) (
 -- it read the images, and until then made the pod by the plan that they gave, and knew it whole
 pub record ReadsThenMakes (refs : List ImageRef) (options : Wishes) (draw : Draw) (now : ℕ) (to : Area) (intent : Intent) (old : DirAt) (before : List Event) : Type 0 where
   pub mid : DirAt
-  pub reads : Worked true reads_images old mid
+  pub reads : OnlyAsks true reads_images old mid
   pub plan : List PlanEntry
   pub planned : PlansFaithfully refs options now draw.token plan old mid
   pub makes : Extends (makes_pod draw.uuid to) mid.process mid.trace before
@@ -75,7 +75,7 @@ HandsOverPlanned refs options draw now to intent old new = BeforeHandingOver (Re
 
 -- it knows the pod in the area to which it brought it, and has these handles
 abbrev pub KnowsPrepared : PodId → Area → Intent → List Held → DirAt → Type 0
-KnowsPrepared draw to intent hs new = (entries : List Entry) × Knows new (at_work intent hs (handed draw to entries))
+KnowsPrepared draw to intent hs new = (entries : List Entry) × Knows new (seen_making intent hs (handed draw to entries))
 
 -- the pod came to the area by an own Ok move, and just before that it was made faithfully
 pub record IsHandedOver (me : ℕ) (draw : PodId) (to : Area) (old new : List Event) : Type 0 where
@@ -104,4 +104,4 @@ pub record IsPrepared (refs : List ImageRef) (options : Wishes) (me : ℕ) (draw
 
 -- in every run: whatever a process hands over that has begun so, and has made nothing, it made faithfully
 abbrev pub MakesFaithfully : Area → Draw → ℕ → DirAt → DirAt → Type 0
-MakesFaithfully to draw now old new = IsRun new.trace → From (Began to draw now) IsAlone nothing_made old (λ intent hs. HandsOverFaithfully old.process old.trace new.trace)
+MakesFaithfully to draw now old new = IsRun new.trace → WhereMakingPod (Began to draw now) IsAlone nothing_made old (λ intent hs. HandsOverFaithfully old.process old.trace new.trace)

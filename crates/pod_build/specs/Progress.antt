@@ -24,16 +24,16 @@ pub record Progress : Type 0 where
   -- the folder was made
   pub made : Bool
   -- it stands in embryo, under that area's lock
-  pub gated : Bool
+  pub embryo_under_lock : Bool
   -- where it was moved to, the last first
   pub moves : List Spot
   -- what is known of it
   pub making : Option Making
 
 -- it has begun so, has these handles, and has come so far. Each of its requests was allowed, and it has seen nothing else
-abbrev pub at_work : Intent → List Held → Progress → Seen
-at_work intent hs p = record nothing_seen {
-  standing = record nothing_standing { intent = Some intent; made = p.made; gated = p.gated; holdings = hs; moves = p.moves };
+abbrev pub seen_making : Intent → List Held → Progress → Seen
+seen_making intent hs p = record nothing_seen {
+  standing = record nothing_standing { intent = Some intent; made = p.made; embryo_under_lock = p.embryo_under_lock; holdings = hs; moves = p.moves };
   making = p.making;
 }
 
@@ -42,19 +42,19 @@ abbrev pub holding : Spot → List Entry → Making
 holding spot entries = record { spot = spot; clean = true; entries = entries; unsynced = [] }
 
 abbrev pub nothing_made : Progress
-nothing_made = record { made = false; gated = false; moves = []; making = None }
+nothing_made = record { made = false; embryo_under_lock = false; moves = []; making = None }
 
 -- an empty folder in embryo, under that area's lock
 abbrev pub in_embryo : PodId → Progress
-in_embryo draw = record { made = true; gated = true; moves = []; making = Some (holding (pod_at Embryo draw) []) }
+in_embryo draw = record { made = true; embryo_under_lock = true; moves = []; making = Some (holding (pod_at Embryo draw) []) }
 
 -- the folder in prepare, with this in it
 abbrev pub in_prepare : PodId → List Entry → Progress
-in_prepare draw entries = record { made = true; gated = false; moves = pod_at Prepare draw ∷ []; making = Some (holding (pod_at Prepare draw) entries) }
+in_prepare draw entries = record { made = true; embryo_under_lock = false; moves = pod_at Prepare draw ∷ []; making = Some (holding (pod_at Prepare draw) entries) }
 
 -- it was moved on to this area
 abbrev pub handed : PodId → Area → List Entry → Progress
-handed draw to entries = record { made = true; gated = false; moves = pod_at to draw ∷ pod_at Prepare draw ∷ []; making = Some (holding (pod_at to draw) entries) }
+handed draw to entries = record { made = true; embryo_under_lock = false; moves = pod_at to draw ∷ pod_at Prepare draw ∷ []; making = Some (holding (pod_at to draw) entries) }
 
 -- the pod's own lock, by a handle that was opened in embryo
 abbrev pub own_held : PodId → Handle → Option Mode → Held

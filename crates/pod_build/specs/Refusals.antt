@@ -11,7 +11,7 @@ use Rattle.pod_build.specs.declared.make_error.MakeError.{MakeError}
 use Rattle.pod_build.specs.declared.make_error.MakeError.TheVariants as make
 use Rattle.pod_build.specs.declared.error.BuildError.{BuildError}
 use Rattle.pod_build.specs.declared.error.BuildError.TheVariants.{Busy, Damaged, NoMatch, DepError, GenError, RenderError, ListingError, Taken, DirFault, Stray, NoMemory}
-use Rattle.pod_build.specs.Origins.{IsDamaged}
+use Rattle.pod_build.specs.Origins.{IsOriginDamaged}
 
 abbrev pub gate_refusal : LockError → BuildError
 gate_refusal lock.Busy = Busy Images
@@ -32,7 +32,7 @@ plan_refusal plan.NoMemory = NoMemory
 abbrev pub IsMakeRefusal : List PlanEntry → PodId → MakeError → BuildError → Type 0
 IsMakeRefusal entries draw make.Busy error = error ≡ Busy Embryo
 IsMakeRefusal entries draw make.Taken error = error ≡ Taken draw
-IsMakeRefusal entries draw (make.Unlike place) error = IsDamaged entries place error
+IsMakeRefusal entries draw (make.Unlike place) error = IsOriginDamaged entries place error
 IsMakeRefusal entries draw make.DirFault error = error ≡ DirFault
 IsMakeRefusal entries draw make.Stray error = error ≡ Stray
 IsMakeRefusal entries draw make.NoMemory error = error ≡ NoMemory

@@ -20,14 +20,7 @@ use Rattle.dir_trait.specs.Knowledge.{Knows}
 use Rattle.folder_building.specs.declared.plan.PlanEntry.{PlanEntry}
 use Rattle.pod_plan.specs.PodPlans.{ComesInTurn, MakesWhole}
 use Rattle.pod_build.specs.MakingRequests.{pod_at}
-use Rattle.pod_build.specs.Progress.{Progress, at_work, own_held}
-
--- calls were made, each for something of this kind, and this is open after them
-pub record Went (observed : Bool) (asks : Request → Bool) (local : Local) (old new : DirAt) : Type 0 where
-  pub same : new.process ≡ old.process
-  pub faults : old.faults ≤ new.faults
-  pub local_is : new.local ≡ local
-  pub extends : observed ≡ true → ExtendsBy asks old new
+use Rattle.pod_build.specs.Progress.{Progress, seen_making, own_held}
 
 -- it has begun as one that makes a pod, with this draw
 pub record IsMaker (draw : PodId) (intent : Intent) : Type 0 where
@@ -48,13 +41,13 @@ pub record MayMake (to : Area) (plan : List PlanEntry) (draw : PodId) (intent : 
   pub whole : MakesWhole plan
 
 -- it has the lock of images shared, and no handle on the lock of embryo or on the pod's own
-pub record UnderImages (draw : PodId) (hs : List Held) : Type 0 where
+pub record MakesUnderImages (draw : PodId) (hs : List Held) : Type 0 where
   pub images : list_any (is_gate_shared Images) hs ≡ true
   pub free : is_open_on (Gate Embryo) hs ≡ false
   pub apart : is_open_on (Own (pod_at Embryo draw)) hs ≡ false
 
 -- it has both locks shared, and no handle on the pod's own
-pub record UnderBoth (draw : PodId) (hs : List Held) : Type 0 where
+pub record UnderMakingLocks (draw : PodId) (hs : List Held) : Type 0 where
   pub images : list_any (is_gate_shared Images) hs ≡ true
   pub embryo : list_any (is_gate_shared Embryo) hs ≡ true
   pub apart : is_open_on (Own (pod_at Embryo draw)) hs ≡ false
@@ -68,16 +61,16 @@ pub record Owns (draw : PodId) (hs : List Held) : Type 0 where
   pub apart : is_open_on (Own (pod_at Embryo draw)) others ≡ false
 
 -- wherever a process has begun so, has such handles and has come so far
-abbrev pub From : (Intent → Type 0) → (List Held → Type 0) → Progress → DirAt → (Intent → List Held → Type 0) → Type 0
-From Began Under p old After = (intent : Intent) (hs : List Held) → Began intent → Under hs → Knows old (at_work intent hs p) → After intent hs
+abbrev pub WhereMakingPod : (Intent → Type 0) → (List Held → Type 0) → Progress → DirAt → (Intent → List Held → Type 0) → Type 0
+WhereMakingPod Began Under p old After = (intent : Intent) (hs : List Held) → Began intent → Under hs → Knows old (seen_making intent hs p) → After intent hs
 
 -- it has made no folder, or the one in embryo or prepare
-abbrev pub IsOwnFolder : PodId → Option Making → Type 0
-IsOwnFolder draw None = Unit {0}
-IsOwnFolder draw (Some m) = (m.spot ≡ pod_at Embryo draw) ⊎ (m.spot ≡ pod_at Prepare draw)
+abbrev pub IsMakerFolder : PodId → Option Making → Type 0
+IsMakerFolder draw None = Unit {0}
+IsMakerFolder draw (Some m) = (m.spot ≡ pod_at Embryo draw) ⊎ (m.spot ≡ pod_at Prepare draw)
 
 -- it has these handles, and at most its own folder in embryo or prepare
-pub record HasOwnFolder (draw : PodId) (intent : Intent) (hs : List Held) (new : DirAt) : Type 0 where
+pub record HasMakerFolder (draw : PodId) (intent : Intent) (hs : List Held) (new : DirAt) : Type 0 where
   pub progress : Progress
-  pub own : IsOwnFolder draw progress.making
-  pub knows : Knows new (at_work intent hs progress)
+  pub own : IsMakerFolder draw progress.making
+  pub knows : Knows new (seen_making intent hs progress)

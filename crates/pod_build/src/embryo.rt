@@ -2,12 +2,12 @@
 ghost use Rattle.std.specs.Prelude.{◌≡◌, Some, [], ◌∷◌, IfOk, IfErr, IsErrOf, true};
 ghost use Rattle.dir_trait.specs.Local.{IsActive, IsUnopened};
 ghost use Rattle.dir_trait.specs.Knowledge.{Knows};
-ghost use Rattle.folder_building.specs.Work.{Worked};
 ghost use Rattle.dir_trait.specs.DirCalls.{ExtendsBy};
+ghost use Rattle.dir_trait.specs.Effects.{OnlyAsks, LeavesOpen};
 ghost use Rattle.pod_build.specs.MakingRequests.{begins_pod, locks_own};
-ghost use Rattle.pod_build.specs.Progress.{at_work, nothing_made, in_embryo, in_prepare, own_held, with_own};
-ghost use Rattle.pod_build.specs.Work.{IsMaker, UnderImages, UnderBoth, Owns, From, HasOwnFolder, Went};
-ghost use Rattle.pod_build.specs.MakingCauses.{WorkCause, EmbryoCause, MakeCause, BusyElsewhere, MakesEmbryo, MakesFirst, HasMadeFolder, LosesEmbryo, BringsPod, LosesOwn};
+ghost use Rattle.pod_build.specs.Progress.{seen_making, nothing_made, in_embryo, in_prepare, own_held, with_own};
+ghost use Rattle.pod_build.specs.Work.{IsMaker, MakesUnderImages, UnderMakingLocks, Owns, WhereMakingPod, HasMakerFolder};
+ghost use Rattle.pod_build.specs.MakingCauses.{MakingWorkCause, EmbryoCause, MakeCause, EmbryoBusyElsewhere, MakesEmbryo, MakesFirst, HasMadeFolder, LosesEmbryo, BringsToPrepare, LosesOwn};
 
 use crate::make_error::{MakeError, change_refusal, lock_refusal, make_refusal};
 use crate::place::{area_before, pod_at};
@@ -18,14 +18,14 @@ use std::alloc::Global;
 // Makes the folder in embryo.
 fn make_embryo<D: Dir>(alloc: Global, dir: &mut D, draw: PodId) -> Result<(), MakeError>
     requires active { IsActive (D.shown dir.old).local }
-    ensures worked { Worked D.observed (begins_pod draw) (D.shown dir.old) (D.shown dir.new) }
+    ensures worked { OnlyAsks D.observed (begins_pod draw) (D.shown dir.old) (D.shown dir.new) }
     ensures cause { IfErr result (λ e. EmbryoCause D.observed draw e (D.shown dir.old) (D.shown dir.new)) }
     ensures plain { IsErrOf result MakeError.Stray → ⊥ }
     ensures makes { IfOk result (λ done. D.observed ≡ true → MakesEmbryo draw (D.shown dir.old) (D.shown dir.new)) }
-    ensures made { IfOk result (λ done. D.observed ≡ true → From (IsMaker draw) (UnderBoth draw) nothing_made (D.shown dir.old)
-        (λ intent hs. Knows (D.shown dir.new) (at_work intent hs (in_embryo draw)))) }
-    ensures left { IfErr result (λ e. D.observed ≡ true → From (IsMaker draw) (UnderBoth draw) nothing_made (D.shown dir.old)
-        (λ intent hs. HasOwnFolder draw intent hs (D.shown dir.new))) }
+    ensures made { IfOk result (λ done. D.observed ≡ true → WhereMakingPod (IsMaker draw) (UnderMakingLocks draw) nothing_made (D.shown dir.old)
+        (λ intent hs. Knows (D.shown dir.new) (seen_making intent hs (in_embryo draw)))) }
+    ensures left { IfErr result (λ e. D.observed ≡ true → WhereMakingPod (IsMaker draw) (UnderMakingLocks draw) nothing_made (D.shown dir.old)
+        (λ intent hs. HasMakerFolder draw intent hs (D.shown dir.new))) }
 {
     let spot = pod_at(Area::Embryo, draw);
     match dir.make_folder(alloc, spot) {
@@ -37,15 +37,15 @@ fn make_embryo<D: Dir>(alloc: Global, dir: &mut D, draw: PodId) -> Result<(), Ma
 // Opens the pod's own lock in embryo and takes it: from then on nobody takes the pod for given up.
 fn lock_own<D: Dir>(alloc: Global, dir: &mut D, draw: PodId) -> Result<Handle, MakeError>
     requires active { IsActive (D.shown dir.old).local }
-    ensures went { Went D.observed (begins_pod draw) (with_own (D.shown dir.old).local draw result) (D.shown dir.old) (D.shown dir.new) }
+    ensures went { LeavesOpen D.observed (begins_pod draw) (with_own (D.shown dir.old).local draw result) (D.shown dir.old) (D.shown dir.new) }
     ensures unopened { IfOk result (λ own. IsUnopened (D.shown dir.old).local own) }
-    ensures cause { IfErr result (λ e. WorkCause D.observed [] e (D.shown dir.old) (D.shown dir.new)) }
+    ensures cause { IfErr result (λ e. MakingWorkCause D.observed [] e (D.shown dir.old) (D.shown dir.new)) }
     ensures stray { IsErrOf result MakeError.Stray → D.observed ≡ true → LosesEmbryo draw (D.shown dir.old) (D.shown dir.new) }
     ensures locks { IfOk result (λ own. D.observed ≡ true → ExtendsBy (locks_own draw) (D.shown dir.old) (D.shown dir.new)) }
-    ensures held { IfOk result (λ own. D.observed ≡ true → From (IsMaker draw) (UnderBoth draw) (in_embryo draw) (D.shown dir.old)
-        (λ intent hs. Knows (D.shown dir.new) (at_work intent (own_held draw own (Some Mode.Exclusive) ∷ hs) (in_embryo draw)))) }
-    ensures left { IfErr result (λ e. D.observed ≡ true → From (IsMaker draw) (UnderBoth draw) (in_embryo draw) (D.shown dir.old)
-        (λ intent hs. HasOwnFolder draw intent hs (D.shown dir.new))) }
+    ensures held { IfOk result (λ own. D.observed ≡ true → WhereMakingPod (IsMaker draw) (UnderMakingLocks draw) (in_embryo draw) (D.shown dir.old)
+        (λ intent hs. Knows (D.shown dir.new) (seen_making intent (own_held draw own (Some Mode.Exclusive) ∷ hs) (in_embryo draw)))) }
+    ensures left { IfErr result (λ e. D.observed ≡ true → WhereMakingPod (IsMaker draw) (UnderMakingLocks draw) (in_embryo draw) (D.shown dir.old)
+        (λ intent hs. HasMakerFolder draw intent hs (D.shown dir.new))) }
 {
     let spot = pod_at(Area::Embryo, draw);
     match dir.open(alloc, spot, Which::Own) {
@@ -63,14 +63,14 @@ fn lock_own<D: Dir>(alloc: Global, dir: &mut D, draw: PodId) -> Result<Handle, M
 // Moves the folder to prepare.
 fn leave_embryo<D: Dir>(alloc: Global, dir: &mut D, draw: PodId) -> Result<(), MakeError>
     requires active { IsActive (D.shown dir.old).local }
-    ensures worked { Worked D.observed (begins_pod draw) (D.shown dir.old) (D.shown dir.new) }
-    ensures cause { IfErr result (λ e. WorkCause D.observed [] e (D.shown dir.old) (D.shown dir.new)) }
+    ensures worked { OnlyAsks D.observed (begins_pod draw) (D.shown dir.old) (D.shown dir.new) }
+    ensures cause { IfErr result (λ e. MakingWorkCause D.observed [] e (D.shown dir.old) (D.shown dir.new)) }
     ensures stray { IsErrOf result MakeError.Stray → D.observed ≡ true → LosesEmbryo draw (D.shown dir.old) (D.shown dir.new) }
-    ensures brings { IfOk result (λ done. D.observed ≡ true → BringsPod draw (D.shown dir.old) (D.shown dir.new)) }
-    ensures moved { IfOk result (λ done. D.observed ≡ true → From (IsMaker draw) (Owns draw) (in_embryo draw) (D.shown dir.old)
-        (λ intent hs. Knows (D.shown dir.new) (at_work intent hs (in_prepare draw [])))) }
-    ensures left { IfErr result (λ e. D.observed ≡ true → From (IsMaker draw) (Owns draw) (in_embryo draw) (D.shown dir.old)
-        (λ intent hs. Knows (D.shown dir.new) (at_work intent hs (in_embryo draw)))) }
+    ensures brings { IfOk result (λ done. D.observed ≡ true → BringsToPrepare draw (D.shown dir.old) (D.shown dir.new)) }
+    ensures moved { IfOk result (λ done. D.observed ≡ true → WhereMakingPod (IsMaker draw) (Owns draw) (in_embryo draw) (D.shown dir.old)
+        (λ intent hs. Knows (D.shown dir.new) (seen_making intent hs (in_prepare draw [])))) }
+    ensures left { IfErr result (λ e. D.observed ≡ true → WhereMakingPod (IsMaker draw) (Owns draw) (in_embryo draw) (D.shown dir.old)
+        (λ intent hs. Knows (D.shown dir.new) (seen_making intent hs (in_embryo draw)))) }
 {
     let from = pod_at(area_before(Area::Prepare), draw);
     let to = pod_at(Area::Prepare, draw);
@@ -83,15 +83,15 @@ fn leave_embryo<D: Dir>(alloc: Global, dir: &mut D, draw: PodId) -> Result<(), M
 // Takes the pod's own lock and moves the folder to prepare, under the lock of embryo.
 fn take_out<D: Dir>(alloc: Global, dir: &mut D, draw: PodId) -> Result<Handle, MakeError>
     requires active { IsActive (D.shown dir.old).local }
-    ensures went { Went D.observed (begins_pod draw) (with_own (D.shown dir.old).local draw result) (D.shown dir.old) (D.shown dir.new) }
+    ensures went { LeavesOpen D.observed (begins_pod draw) (with_own (D.shown dir.old).local draw result) (D.shown dir.old) (D.shown dir.new) }
     ensures unopened { IfOk result (λ own. IsUnopened (D.shown dir.old).local own) }
-    ensures cause { IfErr result (λ e. WorkCause D.observed [] e (D.shown dir.old) (D.shown dir.new)) }
+    ensures cause { IfErr result (λ e. MakingWorkCause D.observed [] e (D.shown dir.old) (D.shown dir.new)) }
     ensures stray { IsErrOf result MakeError.Stray → D.observed ≡ true → LosesEmbryo draw (D.shown dir.old) (D.shown dir.new) }
-    ensures brings { IfOk result (λ own. D.observed ≡ true → BringsPod draw (D.shown dir.old) (D.shown dir.new)) }
-    ensures held { IfOk result (λ own. D.observed ≡ true → From (IsMaker draw) (UnderBoth draw) (in_embryo draw) (D.shown dir.old)
-        (λ intent hs. Knows (D.shown dir.new) (at_work intent (own_held draw own (Some Mode.Exclusive) ∷ hs) (in_prepare draw [])))) }
-    ensures left { IfErr result (λ e. D.observed ≡ true → From (IsMaker draw) (UnderBoth draw) (in_embryo draw) (D.shown dir.old)
-        (λ intent hs. HasOwnFolder draw intent hs (D.shown dir.new))) }
+    ensures brings { IfOk result (λ own. D.observed ≡ true → BringsToPrepare draw (D.shown dir.old) (D.shown dir.new)) }
+    ensures held { IfOk result (λ own. D.observed ≡ true → WhereMakingPod (IsMaker draw) (UnderMakingLocks draw) (in_embryo draw) (D.shown dir.old)
+        (λ intent hs. Knows (D.shown dir.new) (seen_making intent (own_held draw own (Some Mode.Exclusive) ∷ hs) (in_prepare draw [])))) }
+    ensures left { IfErr result (λ e. D.observed ≡ true → WhereMakingPod (IsMaker draw) (UnderMakingLocks draw) (in_embryo draw) (D.shown dir.old)
+        (λ intent hs. HasMakerFolder draw intent hs (D.shown dir.new))) }
 {
     let own = lock_own(alloc, dir, draw)?;
     match leave_embryo(alloc, dir, draw) {
@@ -106,16 +106,16 @@ fn take_out<D: Dir>(alloc: Global, dir: &mut D, draw: PodId) -> Result<Handle, M
 // Makes the folder and brings it to prepare, under the lock of embryo.
 fn make_and_take_out<D: Dir>(alloc: Global, dir: &mut D, draw: PodId) -> Result<Handle, MakeError>
     requires active { IsActive (D.shown dir.old).local }
-    ensures went { Went D.observed (begins_pod draw) (with_own (D.shown dir.old).local draw result) (D.shown dir.old) (D.shown dir.new) }
+    ensures went { LeavesOpen D.observed (begins_pod draw) (with_own (D.shown dir.old).local draw result) (D.shown dir.old) (D.shown dir.new) }
     ensures unopened { IfOk result (λ own. IsUnopened (D.shown dir.old).local own) }
     ensures cause { IfErr result (λ e. EmbryoCause D.observed draw e (D.shown dir.old) (D.shown dir.new)) }
     ensures stray { IsErrOf result MakeError.Stray → D.observed ≡ true → LosesOwn draw (D.shown dir.old) (D.shown dir.new) }
     ensures first { IfOk result (λ own. D.observed ≡ true → MakesFirst draw (D.shown dir.old) (D.shown dir.new)) }
-    ensures brings { IfOk result (λ own. D.observed ≡ true → BringsPod draw (D.shown dir.old) (D.shown dir.new)) }
-    ensures held { IfOk result (λ own. D.observed ≡ true → From (IsMaker draw) (UnderBoth draw) nothing_made (D.shown dir.old)
-        (λ intent hs. Knows (D.shown dir.new) (at_work intent (own_held draw own (Some Mode.Exclusive) ∷ hs) (in_prepare draw [])))) }
-    ensures left { IfErr result (λ e. D.observed ≡ true → From (IsMaker draw) (UnderBoth draw) nothing_made (D.shown dir.old)
-        (λ intent hs. HasOwnFolder draw intent hs (D.shown dir.new))) }
+    ensures brings { IfOk result (λ own. D.observed ≡ true → BringsToPrepare draw (D.shown dir.old) (D.shown dir.new)) }
+    ensures held { IfOk result (λ own. D.observed ≡ true → WhereMakingPod (IsMaker draw) (UnderMakingLocks draw) nothing_made (D.shown dir.old)
+        (λ intent hs. Knows (D.shown dir.new) (seen_making intent (own_held draw own (Some Mode.Exclusive) ∷ hs) (in_prepare draw [])))) }
+    ensures left { IfErr result (λ e. D.observed ≡ true → WhereMakingPod (IsMaker draw) (UnderMakingLocks draw) nothing_made (D.shown dir.old)
+        (λ intent hs. HasMakerFolder draw intent hs (D.shown dir.new))) }
 {
     make_embryo(alloc, dir, draw)?;
     take_out(alloc, dir, draw)
@@ -129,17 +129,17 @@ pub(crate) fn begin_pod<D: Dir>(
     draw: PodId,
 ) -> Result<Handle, MakeError>
     requires active { IsActive (D.shown dir.old).local }
-    ensures went { Went D.observed (begins_pod draw) (with_own (D.shown dir.old).local draw result) (D.shown dir.old) (D.shown dir.new) }
+    ensures went { LeavesOpen D.observed (begins_pod draw) (with_own (D.shown dir.old).local draw result) (D.shown dir.old) (D.shown dir.new) }
     ensures unopened { IfOk result (λ own. IsUnopened (D.shown dir.old).local own) }
     ensures cause { IfErr result (λ e. MakeCause D.observed draw [] e (D.shown dir.old) (D.shown dir.new)) }
     ensures begins { IfOk result (λ own. D.observed ≡ true → HasMadeFolder draw (D.shown dir.old) (D.shown dir.new)) }
-    ensures brings { IfOk result (λ own. D.observed ≡ true → BringsPod draw (D.shown dir.old) (D.shown dir.new)) }
-    ensures another { IfErr result (λ e. D.observed ≡ true → From (IsMaker draw) (UnderImages draw) nothing_made (D.shown dir.old)
-        (λ intent hs. BusyElsewhere e (D.shown dir.old) (D.shown dir.new))) }
-    ensures held { IfOk result (λ own. D.observed ≡ true → From (IsMaker draw) (UnderImages draw) nothing_made (D.shown dir.old)
-        (λ intent hs. Knows (D.shown dir.new) (at_work intent (own_held draw own (Some Mode.Exclusive) ∷ hs) (in_prepare draw [])))) }
-    ensures left { IfErr result (λ e. D.observed ≡ true → From (IsMaker draw) (UnderImages draw) nothing_made (D.shown dir.old)
-        (λ intent hs. HasOwnFolder draw intent hs (D.shown dir.new))) }
+    ensures brings { IfOk result (λ own. D.observed ≡ true → BringsToPrepare draw (D.shown dir.old) (D.shown dir.new)) }
+    ensures by_other_process { IfErr result (λ e. D.observed ≡ true → WhereMakingPod (IsMaker draw) (MakesUnderImages draw) nothing_made (D.shown dir.old)
+        (λ intent hs. EmbryoBusyElsewhere e (D.shown dir.old) (D.shown dir.new))) }
+    ensures held { IfOk result (λ own. D.observed ≡ true → WhereMakingPod (IsMaker draw) (MakesUnderImages draw) nothing_made (D.shown dir.old)
+        (λ intent hs. Knows (D.shown dir.new) (seen_making intent (own_held draw own (Some Mode.Exclusive) ∷ hs) (in_prepare draw [])))) }
+    ensures left { IfErr result (λ e. D.observed ≡ true → WhereMakingPod (IsMaker draw) (MakesUnderImages draw) nothing_made (D.shown dir.old)
+        (λ intent hs. HasMakerFolder draw intent hs (D.shown dir.new))) }
 {
     match lock_area(alloc, dir, Area::Embryo, Mode::Shared) {
         Ok(gate) => {

@@ -2,13 +2,13 @@
 ghost use Rattle.std.specs.Prelude.{◌≡◌, ◌<◌, ℕ, length, IfOk};
 ghost use Rattle.pod_build.specs.Refusals.{gate_refusal, plan_refusal, IsMakeRefusal};
 
+use crate::MakeError;
 use crate::origin::damaged;
 use ac_types::{Text, memory};
-use dir_files::LockError;
 use dep_match::DepError;
+use dir_files::LockError;
 use dir_trait::{Area, PodId};
 use folder_building::PlanEntry;
-use crate::MakeError;
 use pod_manifest::GenError;
 use pod_plan::PlanError;
 use render::RenderError;

@@ -1,6 +1,6 @@
 // Why a pod wasn't made.
 ghost use Rattle.std.specs.Prelude.{◌≡◌};
-ghost use Rattle.pod_build.specs.MakingRefusals.{lock_refusal, change_refusal, make_refusal, build_refusal};
+ghost use Rattle.pod_build.specs.MakingRefusals.{making_lock_refusal, making_change_refusal, make_folder_refusal, make_error_of_build};
 
 use dir_files::LockError;
 use dir_trait::DirError;
@@ -25,7 +25,7 @@ pub enum MakeError {
 }
 
 pub(crate) fn lock_refusal(error: LockError) -> MakeError
-    ensures { result ≡ lock_refusal error }
+    ensures { result ≡ making_lock_refusal error }
 {
     match error {
         LockError::Busy => MakeError::Busy,
@@ -36,7 +36,7 @@ pub(crate) fn lock_refusal(error: LockError) -> MakeError
 
 /// What it means that the directory refused to change or to open what this process has made.
 pub(crate) fn change_refusal(error: DirError) -> MakeError
-    ensures { result ≡ change_refusal error }
+    ensures { result ≡ making_change_refusal error }
 {
     match error {
         DirError::Failed => MakeError::DirFault,
@@ -47,7 +47,7 @@ pub(crate) fn change_refusal(error: DirError) -> MakeError
 
 /// What it means that it refused to make the folder.
 pub(crate) fn make_refusal(error: DirError) -> MakeError
-    ensures { result ≡ make_refusal error }
+    ensures { result ≡ make_folder_refusal error }
 {
     match error {
         DirError::Exists => MakeError::Taken,
@@ -57,7 +57,7 @@ pub(crate) fn make_refusal(error: DirError) -> MakeError
 
 /// What it means that the folder wasn't filled. The files come from the directory itself.
 pub(crate) fn build_refusal(error: BuildError) -> MakeError
-    ensures { result ≡ build_refusal error }
+    ensures { result ≡ make_error_of_build error }
 {
     match error {
         BuildError::Unlike(place) => MakeError::Unlike(place),

@@ -1,24 +1,24 @@
 // A pod is made, for prepared or for run.
 ghost use Rattle.std.specs.Prelude.{◌≡◌, Some, ◌∷◌, IfOk, IfErr, IsErrOf, true};
 ghost use Rattle.dir_trait.specs.Local.{IsActive, IsUnopened};
+ghost use Rattle.dir_trait.specs.Effects.{OnlyAsks, LeavesOpen};
 ghost use Rattle.lifecycle.specs.Executions.{IsConforming};
 ghost use Rattle.folder_building.specs.Plans.{is_plan};
 ghost use Rattle.folder_building.specs.Sources.{in_images};
 ghost use Rattle.folder_building.specs.Stored.{HadContents};
-ghost use Rattle.folder_building.specs.Work.{Worked};
 ghost use Rattle.image_reading.specs.Trees.{ReadsNoTrees};
 ghost use Rattle.pod_plan.specs.PickedTrees.{copies_no_tree};
 ghost use Rattle.pod_build.specs.MakingRequests.{makes_pod};
 ghost use Rattle.pod_build.specs.Progress.{nothing_made, own_held};
-ghost use Rattle.pod_build.specs.Work.{MayMake, UnderImages, From, HasOwnFolder, Went};
-ghost use Rattle.pod_build.specs.MakingCauses.{MakeCause, BusyElsewhere, HasMadeFolder};
+ghost use Rattle.pod_build.specs.Work.{MayMake, MakesUnderImages, WhereMakingPod, HasMakerFolder};
+ghost use Rattle.pod_build.specs.MakingCauses.{MakeCause, EmbryoBusyElsewhere, HasMadeFolder};
 ghost use Rattle.pod_build.specs.Makings.{HasMade, with_owned};
 ghost use Rattle.pod_build.specs.Handovers.{HandsOverMade};
 ghost use Rattle.pod_locks.specs.Running.{IsOwned, RunsPod};
 
 use crate::embryo::begin_pod;
-use crate::make_error::MakeError;
 use crate::filling::finish_pod;
+use crate::make_error::MakeError;
 use dir_trait::{Area, Dir, Mode, PodId};
 use folder_building::PlanEntry;
 use pod_locks::Owned;
@@ -43,19 +43,19 @@ pub fn make_prepared<D: Dir>(
 ) -> Result<(), MakeError>
     requires active { IsActive (D.shown dir.old).local }
     requires plan { is_plan plan.now ≡ true }
-    ensures worked { Worked D.observed (makes_pod draw Area.Prepared) (D.shown dir.old) (D.shown dir.new) }
+    ensures worked { OnlyAsks D.observed (makes_pod draw Area.Prepared) (D.shown dir.old) (D.shown dir.new) }
     ensures trees { copies_no_tree plan.now ≡ true → ReadsNoTrees D.observed (D.shown dir.old) (D.shown dir.new) }
     ensures cause { IfErr result (λ e. MakeCause D.observed draw plan.now e (D.shown dir.old) (D.shown dir.new)) }
-    ensures another { IfErr result (λ e. D.observed ≡ true → From (MayMake Area.Prepared plan.now draw) (UnderImages draw) nothing_made (D.shown dir.old)
-        (λ intent hs. BusyElsewhere e (D.shown dir.old) (D.shown dir.new))) }
+    ensures by_other_process { IfErr result (λ e. D.observed ≡ true → WhereMakingPod (MayMake Area.Prepared plan.now draw) (MakesUnderImages draw) nothing_made (D.shown dir.old)
+        (λ intent hs. EmbryoBusyElsewhere e (D.shown dir.old) (D.shown dir.new))) }
     ensures begins { IfOk result (λ done. D.observed ≡ true → HasMadeFolder draw (D.shown dir.old) (D.shown dir.new)) }
     ensures had { IfOk result (λ done. D.observed ≡ true → HadContents in_images plan.now (D.shown dir.old) (D.shown dir.new)) }
-    ensures made { IfOk result (λ done. D.observed ≡ true → From (MayMake Area.Prepared plan.now draw) (UnderImages draw) nothing_made (D.shown dir.old)
+    ensures made { IfOk result (λ done. D.observed ≡ true → WhereMakingPod (MayMake Area.Prepared plan.now draw) (MakesUnderImages draw) nothing_made (D.shown dir.old)
         (λ intent hs. HasMade draw Area.Prepared plan.now intent hs (D.shown dir.old) (D.shown dir.new))) }
-    ensures whole { D.observed ≡ true → From (MayMake Area.Prepared plan.now draw) (UnderImages draw) nothing_made (D.shown dir.old)
+    ensures whole { D.observed ≡ true → WhereMakingPod (MayMake Area.Prepared plan.now draw) (MakesUnderImages draw) nothing_made (D.shown dir.old)
         (λ intent hs. HandsOverMade draw plan.now intent (D.shown dir.old) (D.shown dir.new)) }
-    ensures left { IfErr result (λ e. D.observed ≡ true → From (MayMake Area.Prepared plan.now draw) (UnderImages draw) nothing_made (D.shown dir.old)
-        (λ intent hs. HasOwnFolder draw intent hs (D.shown dir.new))) }
+    ensures left { IfErr result (λ e. D.observed ≡ true → WhereMakingPod (MayMake Area.Prepared plan.now draw) (MakesUnderImages draw) nothing_made (D.shown dir.old)
+        (λ intent hs. HasMakerFolder draw intent hs (D.shown dir.new))) }
     ensures lawful { IsErrOf result MakeError.Stray → D.observed ≡ true → IsConforming (D.shown dir.new).trace → ⊥ }
 {
     let own = begin_pod(alloc, dir, draw)?;
@@ -75,21 +75,21 @@ pub fn make_running<D: Dir>(
     requires active { IsActive (D.shown dir.old).local }
     requires plan { is_plan plan.now ≡ true }
     ensures owned { IfOk result (λ owned. IsOwned draw (D.shown dir.old).local owned) }
-    ensures went { Went D.observed (makes_pod draw Area.Run) (with_owned (D.shown dir.old).local draw result) (D.shown dir.old) (D.shown dir.new) }
+    ensures went { LeavesOpen D.observed (makes_pod draw Area.Run) (with_owned (D.shown dir.old).local draw result) (D.shown dir.old) (D.shown dir.new) }
     ensures trees { copies_no_tree plan.now ≡ true → ReadsNoTrees D.observed (D.shown dir.old) (D.shown dir.new) }
     ensures cause { IfErr result (λ e. MakeCause D.observed draw plan.now e (D.shown dir.old) (D.shown dir.new)) }
-    ensures another { IfErr result (λ e. D.observed ≡ true → From (MayMake Area.Run plan.now draw) (UnderImages draw) nothing_made (D.shown dir.old)
-        (λ intent hs. BusyElsewhere e (D.shown dir.old) (D.shown dir.new))) }
-    ensures runs { IfOk result (λ owned. D.observed ≡ true → From (MayMake Area.Run plan.now draw) (UnderImages draw) nothing_made (D.shown dir.old)
+    ensures by_other_process { IfErr result (λ e. D.observed ≡ true → WhereMakingPod (MayMake Area.Run plan.now draw) (MakesUnderImages draw) nothing_made (D.shown dir.old)
+        (λ intent hs. EmbryoBusyElsewhere e (D.shown dir.old) (D.shown dir.new))) }
+    ensures runs { IfOk result (λ owned. D.observed ≡ true → WhereMakingPod (MayMake Area.Run plan.now draw) (MakesUnderImages draw) nothing_made (D.shown dir.old)
         (λ intent hs. RunsPod draw (D.shown dir.new))) }
     ensures begins { IfOk result (λ done. D.observed ≡ true → HasMadeFolder draw (D.shown dir.old) (D.shown dir.new)) }
     ensures had { IfOk result (λ done. D.observed ≡ true → HadContents in_images plan.now (D.shown dir.old) (D.shown dir.new)) }
-    ensures made { IfOk result (λ owned. D.observed ≡ true → From (MayMake Area.Run plan.now draw) (UnderImages draw) nothing_made (D.shown dir.old)
+    ensures made { IfOk result (λ owned. D.observed ≡ true → WhereMakingPod (MayMake Area.Run plan.now draw) (MakesUnderImages draw) nothing_made (D.shown dir.old)
         (λ intent hs. HasMade draw Area.Run plan.now intent (own_held draw owned.own (Some Mode.Exclusive) ∷ hs) (D.shown dir.old) (D.shown dir.new))) }
-    ensures whole { D.observed ≡ true → From (MayMake Area.Run plan.now draw) (UnderImages draw) nothing_made (D.shown dir.old)
+    ensures whole { D.observed ≡ true → WhereMakingPod (MayMake Area.Run plan.now draw) (MakesUnderImages draw) nothing_made (D.shown dir.old)
         (λ intent hs. HandsOverMade draw plan.now intent (D.shown dir.old) (D.shown dir.new)) }
-    ensures left { IfErr result (λ e. D.observed ≡ true → From (MayMake Area.Run plan.now draw) (UnderImages draw) nothing_made (D.shown dir.old)
-        (λ intent hs. HasOwnFolder draw intent hs (D.shown dir.new))) }
+    ensures left { IfErr result (λ e. D.observed ≡ true → WhereMakingPod (MayMake Area.Run plan.now draw) (MakesUnderImages draw) nothing_made (D.shown dir.old)
+        (λ intent hs. HasMakerFolder draw intent hs (D.shown dir.new))) }
     ensures lawful { IsErrOf result MakeError.Stray → D.observed ≡ true → IsConforming (D.shown dir.new).trace → ⊥ }
 {
     let own = begin_pod(alloc, dir, draw)?;

@@ -1,6 +1,6 @@
 // From which file of the store an entry of a plan is copied.
 ghost use Rattle.std.specs.Prelude.{◌≡◌, ◌<◌, ◌++◌, ◌∷◌, length, IfOk};
-ghost use Rattle.pod_build.specs.Origins.{origin_path, IsDamaged};
+ghost use Rattle.pod_build.specs.Origins.{origin_path, IsOriginDamaged};
 
 use crate::error::BuildError;
 use ac_types::{NoMemory, Text};
@@ -33,7 +33,7 @@ fn origin_path(alloc: Global, entry: &PlanEntry) -> Result<Text, NoMemory>
 /// The refusal where the file of the entry with this number is missing or differs.
 pub(crate) fn damaged(alloc: Global, plan: &[PlanEntry], place: usize) -> BuildError
     requires { place < length plan.now }
-    ensures { IsDamaged plan.now place result }
+    ensures { IsOriginDamaged plan.now place result }
 {
     match origin_path(alloc, &plan[place]) {
         Ok(path) => BuildError::Damaged(path),

@@ -1,4 +1,4 @@
-pub mod Names
 pub mod Reading
 pub mod Lacking
 mod Tokens
+pub mod AppNames

@@ -7,7 +7,7 @@ use Rattle.manifests.specs.PodForm.{pod_manifest}
 use Rattle.dir_model.specs.declared.pod.PodId.{PodId}
 use Rattle.dir_trait.specs.DirCalls.{DirAt}
 use Rattle.image_reading.specs.Files.{ReadsFile, LacksFile, most_of_manifest}
-use Rattle.pod_files.specs.Places.{pod_file, manifest_name, token_name}
+use Rattle.pod_files.specs.Places.{pod_file, pod_manifest_name, token_name}
 
 -- the bytes are those of a pod manifest with this data
 abbrev pub IsManifestOf : PodData → List ℕ → Type 0
@@ -35,14 +35,14 @@ abbrev pub most_of_token : ℕ
 most_of_token = 33
 
 -- what was read
-abbrev pub ReadsManifest : PodId → PodData → DirAt → DirAt → Type 0
-ReadsManifest pod manifest old new = ReadsFile (pod_file pod manifest_name) most_of_manifest (IsManifestOf manifest) old new
+abbrev pub ReadsPodManifest : PodId → PodData → DirAt → DirAt → Type 0
+ReadsPodManifest pod manifest old new = ReadsFile (pod_file pod pod_manifest_name) most_of_manifest (IsManifestOf manifest) old new
 
-abbrev pub LacksManifest : PodId → DirAt → DirAt → Type 0
-LacksManifest pod old new = LacksFile (pod_file pod manifest_name) most_of_manifest IsNoManifest old new
+abbrev pub ReadsNoPodManifest : PodId → DirAt → DirAt → Type 0
+ReadsNoPodManifest pod old new = LacksFile (pod_file pod pod_manifest_name) most_of_manifest IsNoManifest old new
 
 abbrev pub ReadsToken : PodId → List ℕ → DirAt → DirAt → Type 0
 ReadsToken pod token old new = ReadsFile (pod_file pod token_name) most_of_token (IsTokenOf token) old new
 
-abbrev pub LacksToken : PodId → DirAt → DirAt → Type 0
-LacksToken pod old new = LacksFile (pod_file pod token_name) most_of_token IsNoToken old new
+abbrev pub ReadsNoToken : PodId → DirAt → DirAt → Type 0
+ReadsNoToken pod old new = LacksFile (pod_file pod token_name) most_of_token IsNoToken old new

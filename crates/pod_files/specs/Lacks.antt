@@ -3,6 +3,6 @@ use Rattle.pod_files.specs.declared.error.FileError.{FileError}
 use Rattle.pod_files.specs.declared.error.FileError.TheVariants.{Lacking}
 
 -- it is missing or has none, for this reason; or the directory failed, or memory ran out
-abbrev pub IsLack : Type 0 → FileError → Type 0
-IsLack Why Lacking = Why
-IsLack Why error = Unit {0}
+abbrev pub IsFileLack : Type 0 → FileError → Type 0
+IsFileLack Why Lacking = Why
+IsFileLack Why error = Unit {0}

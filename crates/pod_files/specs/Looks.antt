@@ -6,8 +6,8 @@ use Rattle.dir_model.specs.declared.request.Request.{Request}
 use Rattle.dir_model.specs.declared.request.Request.TheVariants.{ReadIn}
 use Rattle.dir_model.specs.State.{spot_eq}
 use Rattle.dir_trait.specs.DirCalls.{DirAt}
+use Rattle.dir_trait.specs.Effects.{OnlyAsksAndKeeps}
 use Rattle.dir_files.specs.Reads.{KeepsKnown}
-use Rattle.image_reading.specs.Looks.{OnlyAsks}
 use Rattle.pod_files.specs.Places.{run_spot}
 
 -- reads of its files
@@ -17,4 +17,4 @@ reads_pod pod _ = false
 
 -- nothing was asked for but these, nothing has changed, and whatever a process knew it knows
 abbrev pub OnlyReadsPod : Bool → PodId → DirAt → DirAt → Type 0
-OnlyReadsPod observed pod old new = OnlyAsks observed (reads_pod pod) (KeepsKnown Run) old new
+OnlyReadsPod observed pod old new = OnlyAsksAndKeeps observed (reads_pod pod) (KeepsKnown Run) old new

@@ -14,8 +14,8 @@ run_spot pod = record { area = Run; name = pod_text pod.bytes }
 abbrev pub pod_file : PodId → List ℕ → Inner
 pod_file pod path = inner_at (run_spot pod) path
 
-abbrev pub manifest_name : List ℕ
-manifest_name = codes "pod"
+abbrev pub pod_manifest_name : List ℕ
+pod_manifest_name = codes "pod"
 
 abbrev pub token_name : List ℕ
 token_name = codes "token"

@@ -1,6 +1,6 @@
 // Why a file of a pod has no reading.
 ghost use Rattle.std.specs.Prelude.{◌≡◌};
-ghost use Rattle.pod_files.specs.Lacks.{IsLack};
+ghost use Rattle.pod_files.specs.Lacks.{IsFileLack};
 
 use dir_files::ReadError;
 
@@ -18,7 +18,7 @@ pub enum FileError {
 /// The refusal of a read of a file.
 pub fn file_error(error: ReadError) -> FileError
     ensures fault { result ≡ FileError.DirFault → error ≡ ReadError.DirFault }
-    ensures outside { IsLack ⊥ result }
+    ensures outside { IsFileLack ⊥ result }
 {
     match error {
         ReadError::DirFault => FileError::DirFault,

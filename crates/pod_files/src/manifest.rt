@@ -5,8 +5,8 @@ ghost use Rattle.dir_model.specs.Local.{IsActive};
 ghost use Rattle.manifests.specs.PodData.{pod_data};
 ghost use Rattle.manifests.specs.ManifestRules.{IsPodManifest};
 ghost use Rattle.pod_files.specs.Looks.{OnlyReadsPod};
-ghost use Rattle.pod_files.specs.Files.{IsManifestOf, IsNoManifest, ReadsManifest, LacksManifest};
-ghost use Rattle.pod_files.specs.Lacks.{IsLack};
+ghost use Rattle.pod_files.specs.Files.{IsManifestOf, IsNoManifest, ReadsPodManifest, ReadsNoPodManifest};
+ghost use Rattle.pod_files.specs.Lacks.{IsFileLack};
 
 use crate::error::{FileError, file_error};
 use crate::part::read_part;
@@ -22,7 +22,7 @@ const MOST_OF_MANIFEST: usize = 1_048_577;
 fn manifest_of(alloc: Global, bytes: &[u8]) -> Result<PodManifest, FileError>
     ensures ok { IfOk result (λ manifest. IsManifestOf (pod_data manifest) bytes.now) }
     ensures kind { IfOk result (λ manifest. IsPodManifest (pod_data manifest)) }
-    ensures fault { IfErr result (IsLack (IsNoManifest bytes.now)) }
+    ensures fault { IfErr result (IsFileLack (IsNoManifest bytes.now)) }
     ensures calm { IsErrOf result FileError.DirFault → ⊥ }
 {
     match read_pod(alloc, bytes) {
@@ -43,8 +43,8 @@ pub fn read_manifest<D: Dir>(
     ensures cause { IsErrOf result FileError.DirFault → Rose (D.shown dir.old).faults (D.shown dir.new).faults }
     ensures only { OnlyReadsPod D.observed pod (D.shown dir.old) (D.shown dir.new) }
     ensures kind { IfOk result (λ manifest. IsPodManifest (pod_data manifest)) }
-    ensures read { IfOk result (λ manifest. D.observed ≡ true → ReadsManifest pod (pod_data manifest) (D.shown dir.old) (D.shown dir.new)) }
-    ensures lacks { IfErr result (IsLack (D.observed ≡ true → LacksManifest pod (D.shown dir.old) (D.shown dir.new))) }
+    ensures read { IfOk result (λ manifest. D.observed ≡ true → ReadsPodManifest pod (pod_data manifest) (D.shown dir.old) (D.shown dir.new)) }
+    ensures lacks { IfErr result (IsFileLack (D.observed ≡ true → ReadsNoPodManifest pod (D.shown dir.old) (D.shown dir.new))) }
 {
     match read_part(alloc, dir, pod, "pod", MOST_OF_MANIFEST) {
         Ok(Some(bytes)) => manifest_of(alloc, &bytes),

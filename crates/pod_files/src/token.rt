@@ -4,8 +4,8 @@ ghost use Rattle.std.specs.List.{list_all};
 ghost use Rattle.dir_model.specs.Causes.{Rose};
 ghost use Rattle.dir_model.specs.Local.{IsActive};
 ghost use Rattle.pod_files.specs.Looks.{OnlyReadsPod};
-ghost use Rattle.pod_files.specs.Files.{is_digit, is_token, IsTokenOf, IsNoToken, ReadsToken, LacksToken};
-ghost use Rattle.pod_files.specs.Lacks.{IsLack};
+ghost use Rattle.pod_files.specs.Files.{is_digit, is_token, IsTokenOf, IsNoToken, ReadsToken, ReadsNoToken};
+ghost use Rattle.pod_files.specs.Lacks.{IsFileLack};
 
 use crate::error::{FileError, file_error};
 use crate::part::read_part;
@@ -39,7 +39,7 @@ fn is_token(bytes: &[u8]) -> bool
 // The token that the bytes are.
 fn token_of(alloc: Global, bytes: &[u8]) -> Result<Text, FileError>
     ensures ok { IfOk result (λ token. IsTokenOf token bytes.now) }
-    ensures fault { IfErr result (IsLack (IsNoToken bytes.now)) }
+    ensures fault { IfErr result (IsFileLack (IsNoToken bytes.now)) }
     ensures calm { IsErrOf result FileError.DirFault → ⊥ }
 {
     if !is_token(bytes) {
@@ -61,7 +61,7 @@ pub fn read_token<D: Dir>(alloc: Global, dir: &mut D, pod: PodId) -> Result<Text
     ensures cause { IsErrOf result FileError.DirFault → Rose (D.shown dir.old).faults (D.shown dir.new).faults }
     ensures only { OnlyReadsPod D.observed pod (D.shown dir.old) (D.shown dir.new) }
     ensures read { IfOk result (λ token. D.observed ≡ true → ReadsToken pod token (D.shown dir.old) (D.shown dir.new)) }
-    ensures lacks { IfErr result (IsLack (D.observed ≡ true → LacksToken pod (D.shown dir.old) (D.shown dir.new))) }
+    ensures lacks { IfErr result (IsFileLack (D.observed ≡ true → ReadsNoToken pod (D.shown dir.old) (D.shown dir.new))) }
 {
     match read_part(alloc, dir, pod, "token", MOST_OF_TOKEN) {
         Ok(Some(bytes)) => token_of(alloc, &bytes),

@@ -14,11 +14,11 @@ use Rattle.dir_model.specs.State.{spot_eq}
 use Rattle.dir_model.proofs.Lists.{and_left, and_right, and_both, or_last}
 use Rattle.dir_rules.specs.Rules.{root_of}
 use Rattle.dir_rules.specs.Standing.{is_in}
-use Rattle.folder_removal.specs.Removal.{deletes_at}
-use Rattle.dir_files.specs.AreaLocks.{takes, closes}
+use Rattle.folder_removal.specs.Removal.{asks_deletion_at}
+use Rattle.dir_files.specs.AreaLocks.{is_taking_area, closes}
 use Rattle.phase_read.specs.Read.{pod_spot}
-use Rattle.pod_gc.specs.Requests.{lists, lists_marks, deals_with, sweeps}
-use Rattle.pod_gc.specs.Told.{pods_of, deals_with_some}
+use Rattle.pod_gc.specs.Requests.{lists_pod_area, lists_marks, deals_with_pod, sweeps}
+use Rattle.pod_gc.specs.Told.{pods_of, deals_with_pods}
 
 cases : (b c d : Bool) → (b ≡ true → d ≡ true) → (c ≡ true → d ≡ true) → (b || c) ≡ true → d ≡ true
 cases true c d f g h = f refl
@@ -51,7 +51,7 @@ marked_by f t e y is =
     let here = and_left run e (and_left (run && e) (aside && y) is) in
     and_both (is_stage f) ((run && aside) || is_in Garbage t) (stage_of Run f refl here) (ap (λ b. b || is_in Garbage t) (and_both run aside here (and_left aside y (and_right (run && e) (aside && y) is))))
 
-pub deals_sweep : (pod : PodId) (now : ℕ) (place : Area) → is_stage place ≡ true → (r : Request) → deals_with pod now place r ≡ true → sweeps now r ≡ true
+pub deals_sweep : (pod : PodId) (now : ℕ) (place : Area) → is_stage place ≡ true → (r : Request) → deals_with_pod pod now place r ≡ true → sweeps now r ≡ true
 deals_sweep pod now place stage (Open spot which) is = and_left (is_stage spot.area) _ is
 deals_sweep pod now place stage (TryLock handle mode) is = refl
 deals_sweep pod now place stage (Close handle) is = refl
@@ -69,8 +69,8 @@ deals_sweep pod now place stage (ListIn inner) is =
     let named : Area → Bool = λ a. bytes_eq (pod_spot pod a).name inner.spot.name in
     let kept : Area → Bool = λ a. bytes_eq inner.spot.name (pod_spot pod a).name in
     let root = bytes_eq (root_of (pod_spot pod place)).path inner.path in
-    let old = deletes_at (pod_spot pod ExitedGarbage) (ListIn inner) in
-    let new = deletes_at (pod_spot pod Garbage) (ListIn inner) in
+    let old = asks_deletion_at (pod_spot pod ExitedGarbage) (ListIn inner) in
+    let new = asks_deletion_at (pod_spot pod Garbage) (ListIn inner) in
     cases (lists_marks pod place (ListIn inner)) (old || new) (is_stage here) (λ h. stage_of place here stage (and_left (is_in place here) (named place) (and_left (spot_eq (pod_spot pod place) inner.spot) root h)))
     (cases old new (is_stage here) (λ h. stage_by ExitedGarbage here refl (and_left (is_in here ExitedGarbage) (kept ExitedGarbage) h)) (λ h. stage_by Garbage here refl (and_left (is_in here Garbage) (kept Garbage) h))) is
 deals_sweep pod now place stage (RemoveFileIn inner) is = aside_by inner.spot.area _ _ is
@@ -78,18 +78,18 @@ deals_sweep pod now place stage (RemoveDirIn inner) is = aside_by inner.spot.are
 deals_sweep pod now place stage (RemoveFolder spot) is = aside_by spot.area _ _ is
 deals_sweep pod now place stage _ is = cc
 
-any_deals : (now : ℕ) (place : Area) → is_stage place ≡ true → (r : Request) (pods : List PodId) → list_any (λ (pod : PodId). deals_with pod now place r) pods ≡ true → sweeps now r ≡ true
+any_deals : (now : ℕ) (place : Area) → is_stage place ≡ true → (r : Request) (pods : List PodId) → list_any (λ (pod : PodId). deals_with_pod pod now place r) pods ≡ true → sweeps now r ≡ true
 any_deals now place stage r [] is = cc
-any_deals now place stage r (pod ∷ pods) is = cases (deals_with pod now place r) _ (sweeps now r) (deals_sweep pod now place stage r) (any_deals now place stage r pods) is
+any_deals now place stage r (pod ∷ pods) is = cases (deals_with_pod pod now place r) _ (sweeps now r) (deals_sweep pod now place stage r) (any_deals now place stage r pods) is
 
-pub some_sweep : (now : ℕ) (place : Area) (names : List (List ℕ)) → is_stage place ≡ true → (r : Request) → deals_with_some now place names r ≡ true → sweeps now r ≡ true
+pub some_sweep : (now : ℕ) (place : Area) (names : List (List ℕ)) → is_stage place ≡ true → (r : Request) → deals_with_pods now place names r ≡ true → sweeps now r ≡ true
 some_sweep now place names stage r is = any_deals now place stage r (pods_of names) is
 
-pub lists_sweep : (now : ℕ) (place : Area) → is_stage place ≡ true → (r : Request) → lists place r ≡ true → sweeps now r ≡ true
+pub lists_sweep : (now : ℕ) (place : Area) → is_stage place ≡ true → (r : Request) → lists_pod_area place r ≡ true → sweeps now r ≡ true
 lists_sweep now place stage (ListArea here) is = stage_of place here stage is
 lists_sweep now place stage _ is = cc
 
-pub takes_sweep : (now : ℕ) (r : Request) → takes Embryo Exclusive r ≡ true → sweeps now r ≡ true
+pub takes_sweep : (now : ℕ) (r : Request) → is_taking_area Embryo Exclusive r ≡ true → sweeps now r ≡ true
 takes_sweep now (OpenArea here) is = is
 takes_sweep now (TryLock handle mode) is = refl
 takes_sweep now (Close handle) is = refl

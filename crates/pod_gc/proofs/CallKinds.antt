@@ -16,11 +16,10 @@ use Rattle.dir_model.specs.State.{spot_eq}
 use Rattle.dir_model.proofs.Chains.{and_call, and_more, extends_wider}
 use Rattle.dir_model.proofs.Lists.{and_left, or_last}
 use Rattle.dir_trait.specs.DirCalls.{DirAt, DirCall, ExtendsBy}
-use Rattle.folder_building.specs.Work.{Worked}
+use Rattle.dir_trait.specs.Effects.{OnlyAsks, LeavesOpen}
 use Rattle.phase_read.specs.Read.{pod_spot}
 use Rattle.phase_read.proofs.Stages.{pod_spot_only}
-use Rattle.pod_locks.specs.Holding.{Went}
-use Rattle.pod_locks.specs.Requests.{looks_at, moves}
+use Rattle.pod_locks.specs.Requests.{looks_at, moves_pod}
 use Rattle.pod_locks.specs.Taking.{takes_away, TookNothing}
 use Rattle.pod_locks.proofs.Taking.{took_by}
 use Rattle.pod_gc.specs.RemovalRequests.{marks_at, puts_aside, removes}
@@ -31,16 +30,16 @@ looks_remove pod now a stage (TryLock handle mode) is = refl
 looks_remove pod now a stage (Close handle) is = refl
 looks_remove pod now a stage _ is = cc
 
-pub first_remove : (pod : PodId) (now : ℕ) (r : Request) → moves pod Prepare Garbage r ≡ true → removes pod now r ≡ true
-first_remove pod now (MoveFolder from to) is = ap (λ b. b || (moves pod Prepared Garbage (MoveFolder from to) || moves pod Run ExitedGarbage (MoveFolder from to))) is
+pub first_remove : (pod : PodId) (now : ℕ) (r : Request) → moves_pod pod Prepare Garbage r ≡ true → removes pod now r ≡ true
+first_remove pod now (MoveFolder from to) is = ap (λ b. b || (moves_pod pod Prepared Garbage (MoveFolder from to) || moves_pod pod Run ExitedGarbage (MoveFolder from to))) is
 first_remove pod now _ is = cc
 
-pub second_remove : (pod : PodId) (now : ℕ) (r : Request) → moves pod Prepared Garbage r ≡ true → removes pod now r ≡ true
-second_remove pod now (MoveFolder from to) is = or_last (moves pod Prepare Garbage (MoveFolder from to)) _ (ap (λ b. b || moves pod Run ExitedGarbage (MoveFolder from to)) is)
+pub second_remove : (pod : PodId) (now : ℕ) (r : Request) → moves_pod pod Prepared Garbage r ≡ true → removes pod now r ≡ true
+second_remove pod now (MoveFolder from to) is = or_last (moves_pod pod Prepare Garbage (MoveFolder from to)) _ (ap (λ b. b || moves_pod pod Run ExitedGarbage (MoveFolder from to)) is)
 second_remove pod now _ is = cc
 
-pub third_remove : (pod : PodId) (now : ℕ) (r : Request) → moves pod Run ExitedGarbage r ≡ true → removes pod now r ≡ true
-third_remove pod now (MoveFolder from to) is = or_last (moves pod Prepare Garbage (MoveFolder from to)) _ (or_last (moves pod Prepared Garbage (MoveFolder from to)) _ is)
+pub third_remove : (pod : PodId) (now : ℕ) (r : Request) → moves_pod pod Run ExitedGarbage r ≡ true → removes pod now r ≡ true
+third_remove pod now (MoveFolder from to) is = or_last (moves_pod pod Prepare Garbage (MoveFolder from to)) _ (or_last (moves_pod pod Prepared Garbage (MoveFolder from to)) _ is)
 third_remove pod now _ is = cc
 
 pub marks_remove : (pod : PodId) (now : ℕ) (r : Request) → marks_at pod now r ≡ true → removes pod now r ≡ true
@@ -62,7 +61,7 @@ looks_aside pod from to (TryLock handle mode) is = refl
 looks_aside pod from to (Close handle) is = refl
 looks_aside pod from to _ is = cc
 
-pub moves_aside : (pod : PodId) (from to : Area) (r : Request) → moves pod from to r ≡ true → puts_aside pod from to r ≡ true
+pub moves_aside : (pod : PodId) (from to : Area) (r : Request) → moves_pod pod from to r ≡ true → puts_aside pod from to r ≡ true
 moves_aside pod from to (MoveFolder here there) is = is
 moves_aside pod from to _ is = cc
 
@@ -70,15 +69,15 @@ marks_aside : (pod : PodId) (now : ℕ) (to : Area) (r : Request) → marks_at p
 marks_aside pod now to (MakeFileIn inner) is = and_left (spot_eq (pod_spot pod Run) inner.spot) _ is
 marks_aside pod now to _ is = cc
 
-pub put_aside : {observed : Bool} {a b c : DirAt} (pod : PodId) (from to : Area) → Worked observed (looks_at pod from) a b → Worked observed (moves pod from to) b c → observed ≡ true → ExtendsBy (puts_aside pod from to) a c
+pub put_aside : {observed : Bool} {a b c : DirAt} (pod : PodId) (from to : Area) → OnlyAsks observed (looks_at pod from) a b → OnlyAsks observed (moves_pod pod from to) b c → observed ≡ true → ExtendsBy (puts_aside pod from to) a c
 put_aside pod from to looked moved t = and_more (extends_wider (looks_aside pod from to) (looked.extends t)) looked.same (extends_wider (moves_aside pod from to) (moved.extends t))
 
-pub put_marked : {observed : Bool} {a b c d : DirAt} (pod : PodId) (now : ℕ) (to : Area) → Worked observed (looks_at pod Run) a b → Worked observed (marks_at pod now) b c → Worked observed (moves pod Run to) c d → observed ≡ true → ExtendsBy (puts_aside pod Run to) a d
+pub put_marked : {observed : Bool} {a b c d : DirAt} (pod : PodId) (now : ℕ) (to : Area) → OnlyAsks observed (looks_at pod Run) a b → OnlyAsks observed (marks_at pod now) b c → OnlyAsks observed (moves_pod pod Run to) c d → observed ≡ true → ExtendsBy (puts_aside pod Run to) a d
 put_marked pod now to looked marked moved t =
     and_more (extends_wider (looks_aside pod Run to) (looked.extends t)) looked.same
     (and_more (extends_wider (marks_aside pod now to) (marked.extends t)) marked.same (extends_wider (moves_aside pod Run to) (moved.extends t)))
 
 -- under a lock that was taken before and given up after
-pub put_locked : {observed : Bool} {l : Local} {a b c d : DirAt} {h : Handle} (pod : PodId) (from to : Area) → Went observed (looks_at pod from) l a b → c.process ≡ b.process → DirCall observed c (Close h) Done d → observed ≡ true → ExtendsBy (puts_aside pod from to) b c
+pub put_locked : {observed : Bool} {l : Local} {a b c d : DirAt} {h : Handle} (pod : PodId) (from to : Area) → LeavesOpen observed (looks_at pod from) l a b → c.process ≡ b.process → DirCall observed c (Close h) Done d → observed ≡ true → ExtendsBy (puts_aside pod from to) b c
     → ExtendsBy (puts_aside pod from to) a d
 put_locked pod from to took same z t x = and_call (and_more (extends_wider (looks_aside pod from to) (took.extends t)) took.same x) (same ∙ took.same) refl (z.step t)

@@ -16,14 +16,15 @@ use Rattle.dir_model.proofs.Lists.{same_self}
 use Rattle.dir_rules.specs.declared.seen.Seen.{Seen}
 use Rattle.dir_trait.specs.DirCalls.{DirAt, ListCall, ExtendsBy, HeldBetween}
 use Rattle.dir_trait.specs.Knowledge.{Knows}
+use Rattle.dir_trait.proofs.ListCalls.{list_extends}
+use Rattle.dir_trait.specs.Effects.{Given}
 use Rattle.dir_files.specs.Listed.{ShowsAreaBetween}
-use Rattle.dir_files.specs.AreaLocks.{takes, closes, with_gate, MayLock, IsFreeElsewhere}
-use Rattle.folder_removal.proofs.Calls.{list_extends}
-use Rattle.pod_locks.specs.Holding.{KeepsReady, Stays}
+use Rattle.dir_files.specs.AreaLocks.{is_taking_area, closes, with_gate, MayLock, IsFreeElsewhere}
+use Rattle.pod_locks.specs.Holding.{KeepsReady}
 use Rattle.pod_locks.proofs.Calls.{Follows}
 use Rattle.pod_gc.specs.declared.ages.Times.{Times}
 use Rattle.pod_gc.specs.declared.line.GcLine.{GcLine}
-use Rattle.pod_gc.specs.Sweeping.{MayPass, MaySweepAll}
+use Rattle.pod_gc.specs.Sweeping.{MayPassPods, MaySweepAll}
 use Rattle.pod_gc.specs.Told.{AddsTold, AddsSwept, places}
 use Rattle.pod_gc.specs.Ended.{EndsAtPod, EndsAmong, EndsListing, EndsUnderGate, EndsPass, EndsAmongBetween, EndsListingBetween, EndsPassBetween, EndsSweepBetween}
 use Rattle.pod_gc.proofs.InTurn.{pass_kept}
@@ -56,7 +57,7 @@ under_as {CanA} {CanB} {me} {other} {old} {new} times f same u =
 
 pass_as : {CanA CanB : Type 0} {me other : ℕ} (times : Times) (here : Area) (old new : List Event) → (CanA → CanB) → other ≡ me → EndsPass CanB times here other old new → EndsPass CanA times here me old new
 pass_as times Embryo old new f same (inl u) = inl (under_as times f same u)
-pass_as times Embryo old new f same (inr w) = inr (subst (λ (p : ℕ). Extends (takes Embryo Exclusive) p old new) same w)
+pass_as times Embryo old new f same (inr w) = inr (subst (λ (p : ℕ). Extends (is_taking_area Embryo Exclusive) p old new) same w)
 pass_as times _ old new f same x = listing_as times f same x
 
 pass_plain : {CanA CanB : Type 0} {me : ℕ} {old new : List Event} (times : Times) (here : Area) → (here ≡ Embryo → ⊥) → (CanA → CanB) → EndsListing CanB times here me old new → EndsPass CanA times here me old new
@@ -79,7 +80,7 @@ ends_among a b c times here names earlier later name before mid are same x y = r
 }
 
 pub ends_listed : {observed : Bool} (a b c : DirAt) (times : Times) (here : Area) (names : List (List ℕ)) → observed ≡ true → ListCall observed a (ListArea here) (Names names) b → IsStrictlySortedBy (slice_cmp nat_cmp) names → ShowsAreaBetween a b here names
-    → Stays (MayPass here times.now times.expire) a (λ s. KeepsReady s b) → EndsAmongBetween times here names b c → EndsListingBetween times here a c
+    → Given (MayPassPods here times.now times.expire) a (λ s. KeepsReady s b) → EndsAmongBetween times here names b c → EndsListingBetween times here a c
 ends_listed a b c times here names t listing ordered shows ready x = inl (record {
   names = names;
   listed = b.trace;
@@ -90,7 +91,7 @@ ends_listed a b c times here names t listing ordered shows ready x = inl (record
 })
 
 pub ends_gate : (a b c d : DirAt) (times : Times) (h : Handle) → b.process ≡ a.process → c.process ≡ b.process → ((s : Seen) → Knows a s → MayLock s Embryo Exclusive → Knows b (with_gate s h Embryo (Some Exclusive)))
-    → ExtendsBy (takes Embryo Exclusive) a b → HeldBetween a b (IsFreeElsewhere a.process Embryo Exclusive) → EndsListingBetween times Embryo b c → ExtendsBy (closes h) c d → EndsPassBetween times Embryo a d
+    → ExtendsBy (is_taking_area Embryo Exclusive) a b → HeldBetween a b (IsFreeElsewhere a.process Embryo Exclusive) → EndsListingBetween times Embryo b c → ExtendsBy (closes h) c d → EndsPassBetween times Embryo a d
 ends_gate a b c d times h ab bc taken first free x last = inl (record {
   gate = h;
   locked = b.trace;
@@ -105,7 +106,7 @@ pub ends_plain : (a b : DirAt) (times : Times) (here : Area) → (here ≡ Embry
 ends_plain a b times here not x = pass_plain times here not (λ can. (can.0, can.1, record { sweeps = can.2.sweeps; gate = λ is. absurd (not is) })) x
 
 pub ends_sweep : {observed : Bool} (a b c : DirAt) (times : Times) (earlier later : List Area) (here : Area) (before mid : List GcLine) → places ≡ earlier ++ here ∷ later → Follows observed a b
-    → Stays (MaySweepAll times.now times.expire) a (λ s. KeepsReady s b) → AddsSwept times earlier a b before mid → EndsPassBetween times here b c → EndsSweepBetween times a c
+    → Given (MaySweepAll times.now times.expire) a (λ s. KeepsReady s b) → AddsSwept times earlier a b before mid → EndsPassBetween times here b c → EndsSweepBetween times a c
 ends_sweep a b c times earlier later here before mid are ab ready x y = record {
   earlier = earlier;
   here = here;

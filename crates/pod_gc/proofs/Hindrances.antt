@@ -15,23 +15,23 @@ use Rattle.dir_model.specs.Trace.{state_after}
 use Rattle.dir_model.proofs.Lists.{and_left, and_right, and_both, any_fewer, same_self}
 use Rattle.dir_model.proofs.Moments.{at_grown, at_weaker}
 use Rattle.dir_trait.specs.DirCalls.{DirAt}
+use Rattle.dir_trait.specs.Effects.{Given}
 use Rattle.lifecycle.specs.Executions.{IsConforming}
 use Rattle.phase_read.specs.Read.{pod_spot}
 use Rattle.phase_read.specs.Exact.{AtOwnEvent, IsNowhere}
-use Rattle.pod_locks.specs.ClaimCauses.{LacksManifest, is_lock, is_held_elsewhere}
+use Rattle.pod_locks.specs.ClaimCauses.{IsPreparedWithoutManifest, is_lock, is_held_elsewhere}
 use Rattle.pod_locks.specs.Elsewhere.{is_owned_phase, IsOwnedElsewhere}
 use Rattle.pod_locks.specs.Work.{Grew}
 use Rattle.pod_locks.proofs.Times.{at_part}
 use Rattle.pod_locks.proofs.Traces.{grown_none}
-use Rattle.pod_locks.specs.Causes.{is_held_against, WasStray}
-use Rattle.pod_locks.specs.Holding.{Stays}
+use Rattle.pod_locks.specs.Causes.{is_held_against, WasStrayStep}
 use Rattle.pod_gc.specs.declared.remove_error.RemoveError.{RemoveError}
 use Rattle.pod_gc.specs.declared.remove_error.RemoveError.TheVariants as error
 use Rattle.pod_gc.specs.RemovalRequests.{is_removable}
 use Rattle.pod_gc.specs.RemovalHolding.{MayRemovePod}
 use Rattle.pod_gc.specs.RemovalCauses.{IsBusyAt}
-use Rattle.pod_gc.specs.Removals.{MissedTimes, WasWrong, RemoveCause, RefusedByAnother}
-use Rattle.pod_gc.specs.Hindrances.{IsRemovable, IsDeletedBy, IsUnhindered, IsUnhinderedThroughout, IsFailure}
+use Rattle.pod_gc.specs.Removals.{MissedTimes, WasWrongToRemove, PodRemovalCause, RemovalRefusedByAnother}
+use Rattle.pod_gc.specs.Hindrances.{IsRemovable, IsDeletedBy, IsUnhindered, IsUnhinderedThroughout, IsRemovalFailure}
 use Rattle.pod_gc.proofs.Onward.{never_missed}
 
 -- a lock that opposes some mode is held
@@ -74,7 +74,7 @@ module _ (pod : PodId) (me : ℕ) (a c : List Event) (free : IsUnhinderedThrough
           let same : other.1.holds.owner ≡ me = cc in
           let clash : true ≡ false = sym (same_self me) ∙ (ap (λ (q : ℕ). q == me) (sym same) ∙ other.1.holds.other) in cc
 
-  pub never_wrong : (p : Phase) → WasWrong pod p me a c → (is_owned_phase p ≡ true → (x : Area) × AtOwnEvent me a c (IsOwnedElsewhere me pod p x)) → ⊥
+  pub never_wrong : (p : Phase) → WasWrongToRemove pod p me a c → (is_owned_phase p ≡ true → (x : Area) × AtOwnEvent me a c (IsOwnedElsewhere me pod p x)) → ⊥
   never_wrong p w other = by (at_event w.was).exists
     where
       by : IsRemovable pod (w.was.before ++ w.was.step ∷ []) ⊎ IsDeletedBy pod me (w.was.before ++ w.was.step ∷ []) → ⊥
@@ -88,7 +88,7 @@ module _ (pod : PodId) (me : ℕ) (a c : List Event) (free : IsUnhinderedThrough
           let owned : is_owned_phase p ≡ true = ap is_owned_phase same in
           never_other p w.wrong owned (other owned)
 
-  pub never_lacking : AtOwnStep me a c (LacksManifest pod) → ⊥
+  pub never_lacking : AtOwnStep me a c (IsPreparedWithoutManifest pod) → ⊥
   never_lacking at =
       let here = free at.before at.later at.rest at.step at.begins at.ends at.own in
       let e : true ≡ false = sym (here.manifest at.holds.folder at.holds.there) ∙ at.holds.without in cc
@@ -107,8 +107,8 @@ module _ (pod : PodId) (me : ℕ) (a c : List Event) (free : IsUnhinderedThrough
       let e : false ≡ true = sym none ∙ y.holds in cc
 
 -- then only a failure refuses it
-pub only_failures : {observed : Bool} {pod : PodId} {a c : DirAt} (e : RemoveError) → observed ≡ true → RemoveCause observed pod e a c → RefusedByAnother pod e a c → IsConforming c.trace → IsUnhinderedThroughout pod a.process a.trace c.trace
-    → IsFailure e a.process a.trace c.trace
+pub only_failures : {observed : Bool} {pod : PodId} {a c : DirAt} (e : RemoveError) → observed ≡ true → PodRemovalCause observed pod e a c → RemovalRefusedByAnother pod e a c → IsConforming c.trace → IsUnhinderedThroughout pod a.process a.trace c.trace
+    → IsRemovalFailure e a.process a.trace c.trace
 only_failures {observed} {pod} {a} {c} error.NoPod t x another conforming free = absurd (never_gone pod a.process a.trace c.trace free ((x.nowhere refl t).nowhere conforming))
 only_failures {observed} {pod} {a} {c} (error.WrongPhase p) t x another conforming free = absurd (never_wrong pod a.process a.trace c.trace free p (x.phase p refl t conforming) (λ owned. another.owner conforming p refl owned))
 only_failures {observed} {pod} {a} {c} error.NoManifest t x another conforming free = absurd (never_lacking pod a.process a.trace c.trace free (x.manifest refl t conforming))
@@ -117,13 +117,13 @@ only_failures {observed} {pod} {a} {c} (error.Busy other which) t x another conf
 only_failures error.DirFault t x another conforming free = inl refl
 only_failures {observed} {pod} {a} {c} error.Stray t x another conforming free = by (x.stray refl t)
   where
-    by : WasStray a.process a.trace c.trace ⊎ MissedTimes 6 pod a.process a.trace c.trace → IsFailure error.Stray a.process a.trace c.trace
+    by : WasStrayStep a.process a.trace c.trace ⊎ MissedTimes 6 pod a.process a.trace c.trace → IsRemovalFailure error.Stray a.process a.trace c.trace
     by (inl stray) = inr (inr (refl, stray))
     by (inr missed) = absurd (never_missed pod a.process a.trace c.trace conforming missed)
 only_failures error.NoMemory t x another conforming free = inr (inl refl)
 
-pub refused_so : (observed : Bool) (pod : PodId) (now : ℕ) (a c : DirAt) (r : Result (Unit {0}) RemoveError) → IfErr r (λ e. RemoveCause observed pod e a c)
-    → IfErr r (λ e. observed ≡ true → Stays (MayRemovePod pod now) a (λ s. RefusedByAnother pod e a c))
-    → IfErr r (λ e. observed ≡ true → Stays (MayRemovePod pod now) a (λ s. IsConforming c.trace → IsUnhinderedThroughout pod a.process a.trace c.trace → IsFailure e a.process a.trace c.trace))
+pub refused_so : (observed : Bool) (pod : PodId) (now : ℕ) (a c : DirAt) (r : Result (Unit {0}) RemoveError) → IfErr r (λ e. PodRemovalCause observed pod e a c)
+    → IfErr r (λ e. observed ≡ true → Given (MayRemovePod pod now) a (λ s. RemovalRefusedByAnother pod e a c))
+    → IfErr r (λ e. observed ≡ true → Given (MayRemovePod pod now) a (λ s. IsConforming c.trace → IsUnhinderedThroughout pod a.process a.trace c.trace → IsRemovalFailure e a.process a.trace c.trace))
 refused_so observed pod now a c (Ok done) cause another = tt
 refused_so observed pod now a c (Err e) cause another = λ t s k m conforming free. only_failures e t cause (another t s k m) conforming free

@@ -8,25 +8,26 @@ use Rattle.dir_rules.specs.declared.standing.Held.{Held}
 use Rattle.dir_rules.specs.declared.seen.Seen.{Seen}
 use Rattle.dir_rules.specs.Standing.{intends, is_gc, is_gate_exclusive}
 use Rattle.dir_trait.specs.DirCalls.{DirAt}
-use Rattle.pod_locks.specs.Holding.{Keeps, KeepsReady, Stays}
+use Rattle.dir_trait.specs.Effects.{Given}
+use Rattle.pod_locks.specs.Holding.{KeepsHoldings, KeepsReady}
 use Rattle.pod_gc.proofs.Rounds.{may_kept}
 use Rattle.pod_gc.specs.declared.gc_error.GcError.TheVariants as fault
 use Rattle.pod_gc.specs.Causes.{GcCause}
-use Rattle.pod_gc.specs.Sweeping.{MaySweep, MayPass}
+use Rattle.pod_gc.specs.Sweeping.{MaySweepPods, MayPassPods}
 
 pub no_memory : (observed : Bool) (old new : DirAt) → GcCause observed fault.NoMemory old new
 no_memory observed old new = record { fault = λ is. cc; stray = λ is. cc }
 
-pub sweep_kept : {now expire : ℕ} {s z : Seen} → Keeps s z → MaySweep now expire s → MaySweep now expire z
+pub sweep_kept : {now expire : ℕ} {s z : Seen} → KeepsHoldings s z → MaySweepPods now expire s → MaySweepPods now expire z
 sweep_kept {now} {expire} k m = record { may = may_kept k m.may; sweeps = ap (λ (o : Option Intent). intends (λ i. is_gc i.kind && (i.expire == expire)) o) k.intent ∙ m.sweeps }
 
-pub pass_kept : {place : Area} {now expire : ℕ} {s z : Seen} → Keeps s z → MayPass place now expire s → MayPass place now expire z
+pub pass_kept : {place : Area} {now expire : ℕ} {s z : Seen} → KeepsHoldings s z → MayPassPods place now expire s → MayPassPods place now expire z
 pass_kept k m = record { sweeps = sweep_kept k m.sweeps; gate = λ is. ap (λ (hs : List Held). list_any (is_gate_exclusive Embryo) hs) k.holdings ∙ m.gate is }
 
-pub pass_none : {place : Area} {now expire : ℕ} {d : DirAt} → Stays (MayPass place now expire) d (λ s. KeepsReady s d)
+pub pass_none : {place : Area} {now expire : ℕ} {d : DirAt} → Given (MayPassPods place now expire) d (λ s. KeepsReady s d)
 pass_none s k m = record { known = s; keeps = record { intent = refl; holdings = refl; kept = refl; bare = m.sweeps.may.bare }; knows = k }
 
-pub pass_more : {place : Area} {now expire : ℕ} {a b c : DirAt} → Stays (MayPass place now expire) a (λ s. KeepsReady s b) → Stays (MayPass place now expire) b (λ s. KeepsReady s c) → Stays (MayPass place now expire) a (λ s. KeepsReady s c)
+pub pass_more : {place : Area} {now expire : ℕ} {a b c : DirAt} → Given (MayPassPods place now expire) a (λ s. KeepsReady s b) → Given (MayPassPods place now expire) b (λ s. KeepsReady s c) → Given (MayPassPods place now expire) a (λ s. KeepsReady s c)
 pass_more ab bc s k m =
     let x = ab s k m in
     let y = bc x.known x.knows (pass_kept x.keeps m) in

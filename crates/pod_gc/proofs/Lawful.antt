@@ -13,6 +13,7 @@ use Rattle.dir_model.specs.Replies.{may_refuse}
 use Rattle.dir_rules.specs.declared.seen.Seen.{Seen}
 use Rattle.dir_trait.specs.DirCalls.{DirAt, ExtendsBy}
 use Rattle.dir_trait.specs.Knowledge.{Knows}
+use Rattle.dir_trait.specs.Effects.{Given}
 use Rattle.dir_files.specs.declared.lock_error.LockError.{LockError}
 use Rattle.dir_files.specs.declared.lock_error.LockError.TheVariants as lock
 use Rattle.dir_files.specs.AreaLocks.{closes, with_gate, MayLock}
@@ -21,7 +22,7 @@ use Rattle.phase_read.specs.declared.found.LookError.TheVariants as look
 use Rattle.pod_locks.proofs.Traces.{grown_by}
 use Rattle.pod_locks.specs.declared.setback.Setback.{Setback}
 use Rattle.pod_locks.specs.declared.setback.Setback.TheVariants as stop
-use Rattle.pod_locks.specs.Holding.{Keeps, KeepsReady, Stays}
+use Rattle.pod_locks.specs.Holding.{KeepsHoldings, KeepsReady}
 use Rattle.pod_locks.specs.Causes.{ByApp}
 use Rattle.pod_locks.proofs.Calls.{Follows, follows_none}
 use Rattle.pod_locks.proofs.Lawful.{by_app_part}
@@ -29,7 +30,7 @@ use Rattle.pod_gc.specs.declared.gc_error.GcError.{GcError}
 use Rattle.pod_gc.specs.declared.gc_error.GcError.TheVariants as fault
 use Rattle.pod_gc.specs.declared.line.Deed.{Deed}
 use Rattle.pod_gc.specs.Causes.{listing_fault, look_fault, lock_fault, deed_of}
-use Rattle.pod_gc.specs.Sweeping.{MayPass, MaySweepAll}
+use Rattle.pod_gc.specs.Sweeping.{MayPassPods, MaySweepAll}
 use Rattle.pod_gc.proofs.Gates.{may_lock, passes_under}
 
 -- what is never stray
@@ -72,12 +73,12 @@ step_stray Q done (Err stop.DirFault) says = λ is. cc
 step_stray Q done (Err stop.NoMemory) says = λ is. cc
 
 -- after other steps that keep what is known
-pub by_app_later : {observed : Bool} {May : Seen → Type 0} {a b : DirAt} (c : DirAt) → ((s z : Seen) → Keeps s z → May s → May z) → Follows observed a b → (observed ≡ true → Stays May a (λ s. KeepsReady s b)) → ByApp observed May b c → ByApp observed May a c
+pub by_app_later : {observed : Bool} {May : Seen → Type 0} {a b : DirAt} (c : DirAt) → ((s z : Seen) → KeepsHoldings s z → May s → May z) → Follows observed a b → (observed ≡ true → Given May a (λ s. KeepsReady s b)) → ByApp observed May b c → ByApp observed May a c
 by_app_later {observed} {May} {a} {b} c keeps ab ready x = by_app_part ab (follows_none {a = c}) (λ t s k m. let z = ready t s k m in (z.known, z.knows, keeps s z.known z.keeps m)) x
 
 -- under the lock of embryo
 pub gate_passes : {observed : Bool} {now expire : ℕ} {a b : DirAt} (h : Handle) → (observed ≡ true → (s : Seen) → Knows a s → MayLock s Embryo Exclusive → Knows b (with_gate s h Embryo (Some Exclusive)))
-    → observed ≡ true → Stays (MaySweepAll now expire) a (λ s. (z : Seen) × Knows b z × MayPass Embryo now expire z)
+    → observed ≡ true → Given (MaySweepAll now expire) a (λ s. (z : Seen) × Knows b z × MayPassPods Embryo now expire z)
 gate_passes h taken t s k m = (with_gate s h Embryo (Some Exclusive), taken t s k (may_lock m), passes_under h m)
 
 pub follows_unlock : {observed : Bool} {c d : DirAt} (h : Handle) → d.process ≡ c.process → d.faults ≡ c.faults → (observed ≡ true → ExtendsBy (closes h) c d) → Follows observed c d

@@ -1,29 +1,22 @@
 -- The name of a remover's mark: a path of one name, outside every started app's root.
-use Rattle.std.proofs.Common.{◌≡◌, ◌+◌, ◌/◌, ◌%◌, ◌<◌, ◌==◌, ℕ, zero, suc, true, false, not, codes, List, [], ◌∷◌, ◌++◌, length, refl, ap, arith}
+use Rattle.std.proofs.Common.{◌≡◌, ◌+◌, ◌/◌, ◌%◌, ◌<◌, ◌==◌, ℕ, true, false, not, codes, List, [], ◌∷◌, ◌++◌, length, refl, ap, arith}
 use Rattle.std.specs.List.{AllByRecursion}
-use Rattle.std.specs.Str.{IsAscii}
-use Rattle.std.proofs.lemmas.Bool.Decides.{nat_tests}
-use Rattle.std.proofs.lemmas.Grind.{common_steps}
 use Rattle.std.proofs.lemmas.List.Sums.{AllPass-from_list_all}
 use Rattle.std.proofs.lemmas.Str.{IsUtf8-from_ascii}
+use Rattle.plain_laws.proofs.Texts.{not_empty}
 use Rattle.dir_model.specs.Names.{is_file_byte, IsFileName}
 use Rattle.dir_model.specs.Paths.{is_path, is_directly_in, lies_below}
 use Rattle.dir_model.proofs.Lists.{and_both, all_both}
 use Rattle.dir_rules.specs.Marks.{has_slash, digits, marked_mark}
 use Rattle.folder_removal.proofs.Paths.{path_of}
-use Rattle.gate_reading.specs.Files.{is_plain}
-use Rattle.folder_building.proofs.Marks.{IsPlain, file_bytes, plain_digits, no_slashes, letter}
+use Rattle.gate_reading.specs.Files.{is_outside_stage1}
+use Rattle.folder_building.proofs.Marks.{IsPlain, file_bytes, plain_digits, no_slashes, letter, ascii}
 
 plain_front : AllByRecursion IsPlain (codes "marked-")
 plain_front = (letter 109 refl refl (omega arith), (letter 97 refl refl (omega arith), (letter 114 refl refl (omega arith), (letter 107 refl refl (omega arith), (letter 101 refl refl (omega arith), (letter 100 refl refl (omega arith), (letter 45 refl refl (omega arith), tt)))))))
 
 plain_mark : (now : ℕ) → AllByRecursion IsPlain (marked_mark now)
 plain_mark now = all_both IsPlain (codes "marked-") (digits 20 now) plain_front (plain_digits 20 now)
-
-ascii : (bs : List ℕ) → AllByRecursion IsPlain bs → IsAscii bs
-ascii [] p i = omega arith
-ascii (b ∷ bs) p zero = p.0.ascii
-ascii (b ∷ bs) p (suc i) = ascii bs p.1 i
 
 mark_length : (now : ℕ) → length (marked_mark now) ≡ 27
 mark_length now = refl
@@ -36,17 +29,14 @@ mark_is_name now =
 pub marked_is_path : (now : ℕ) → is_path (marked_mark now) ≡ true
 marked_is_path now = path_of [] (marked_mark now) refl (mark_is_name now)
 
-some_length : (b : ℕ) (bs : List ℕ) → (length (b ∷ bs) == 0) ≡ false
-some_length b bs = grind (arith, nat_tests, common_steps)
-
 one_name : (b : ℕ) (bs : List ℕ) → has_slash (b ∷ bs) ≡ false → is_directly_in [] (b ∷ bs) ≡ true
 unfolding lies_below
-one_name b bs none = and_both (not (length (b ∷ bs) == 0)) (not (has_slash (b ∷ bs))) (ap not (some_length b bs)) (ap not none)
+one_name b bs none = and_both (not (length (b ∷ bs) == 0)) (not (has_slash (b ∷ bs))) (ap not (not_empty b bs)) (ap not none)
 
 -- it stands in the folder itself
 pub marked_directly : (now : ℕ) → is_directly_in [] (marked_mark now) ≡ true
 marked_directly now = one_name 109 (codes "arked-" ++ digits 20 now) (no_slashes (marked_mark now) (plain_mark now))
 
 -- not below `stage1`
-pub marked_plain : (now : ℕ) → is_plain (marked_mark now) ≡ true
+pub marked_plain : (now : ℕ) → is_outside_stage1 (marked_mark now) ≡ true
 marked_plain now = refl

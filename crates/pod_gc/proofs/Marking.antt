@@ -1,6 +1,7 @@
 -- What a process knows that listed the marks of a pod, and what the listing tells.
 use Rattle.std.proofs.Common.{◌≡◌, ◌&&◌, ℕ, Bool, true, false, not, cond, codes, bytes_eq, find, Option, Some, None, is_some, Result, Ok, Err, List, [], ◌∷◌, refl, sym, ap, subst, ◌∙◌}
 use Rattle.std.specs.List.{list_any}
+use Rattle.plain_laws.proofs.Texts.{same_bytes}
 use Rattle.dir_model.specs.declared.area.Area.{Area}
 use Rattle.dir_model.specs.declared.area.Area.TheVariants.{Prepared, ExitedGarbage}
 use Rattle.dir_model.specs.declared.item.Item.{Item}
@@ -27,19 +28,19 @@ use Rattle.dir_rules.specs.Marks.{created_moment}
 use Rattle.dir_rules.specs.declared.seen.Created.{Created}
 use Rattle.dir_rules.specs.declared.seen.Seen.{Seen}
 use Rattle.dir_rules.specs.LockRules.{is_removal_held, is_removal_target, may_remove}
-use Rattle.dir_rules.specs.Rules.{root_of, may_look, is_gate}
+use Rattle.dir_rules.specs.Rules.{root_of, may_read_area, is_gate}
 use Rattle.dir_rules.specs.Seen.{later, created_among, note_created, with_items}
 use Rattle.dir_rules.specs.Conforms.{seen_listed}
-use Rattle.dir_rules.proofs.Looks.{same_bytes}
 use Rattle.dir_trait.specs.DirCalls.{DirAt, ListCall, HeldBetween, ExtendsBy}
+use Rattle.dir_trait.proofs.ListCalls.{list_extends}
+use Rattle.dir_trait.specs.Effects.{OnlyAsks, Given}
 use Rattle.dir_files.specs.Listed.{ShowsDirectoryBetween}
 use Rattle.dir_files.proofs.Folders.{tells_absent, tells_present}
-use Rattle.folder_building.specs.Work.{Worked}
-use Rattle.folder_removal.proofs.Calls.{list_extends, knows_list}
+use Rattle.folder_removal.proofs.Calls.{knows_list}
 use Rattle.phase_read.specs.Read.{pod_spot}
 use Rattle.pod_locks.specs.ClaimHolding.{is_on_folder}
 use Rattle.pod_locks.proofs.Traces.{grown_none}
-use Rattle.pod_locks.specs.Holding.{is_in_garbage, Keeps, KeepsReady, Stays}
+use Rattle.pod_locks.specs.Holding.{is_in_garbage, KeepsHoldings, KeepsReady}
 use Rattle.pod_locks.specs.Causes.{IsAbsentAt}
 use Rattle.pod_gc.specs.RemovalHolding.{MayRemove}
 use Rattle.pod_gc.specs.Requests.{counts_time, lists_marks}
@@ -53,7 +54,7 @@ with_root {observed} {old} {new} {spot} {reply} pod area is c = subst (λ (s : S
 asks_root : (pod : PodId) (area : Area) → lists_marks pod area (ListIn (root_of (pod_spot pod area))) ≡ true
 asks_root pod area = and_both _ _ (spot_self (pod_spot pod area)) refl
 
-pub worked_listing : {observed : Bool} {old new : DirAt} (pod : PodId) (area : Area) (r : Result (List Item) DirError) → ListCall observed old (ListIn (root_of (pod_spot pod area))) (items_reply r) new → Worked observed (lists_marks pod area) old new
+pub worked_listing : {observed : Bool} {old new : DirAt} (pod : PodId) (area : Area) (r : Result (List Item) DirError) → ListCall observed old (ListIn (root_of (pod_spot pod area))) (items_reply r) new → OnlyAsks observed (lists_marks pod area) old new
 worked_listing {observed} {old} {new} pod area r x = record { same = x.same; faults = x.faults; local = by r x; extends = λ t. list_extends (asks_root pod area) (x.step t) }
   where
     by : (r : Result (List Item) DirError) → ListCall observed old (ListIn (root_of (pod_spot pod area))) (items_reply r) new → new.local ≡ old.local
@@ -87,7 +88,7 @@ listing_cause spot path Locked other may rose = cc
 
 -- what is known after it
 
-looks_there : (s : Seen) (area : Area) → counts_time area ≡ true → may_look s area ≡ true
+looks_there : (s : Seen) (area : Area) → counts_time area ≡ true → may_read_area s area ≡ true
 looks_there s Prepared is = refl
 looks_there s ExitedGarbage is = refl
 looks_there s _ is = cc
@@ -103,7 +104,7 @@ no_removal : {now : ℕ} {s : Seen} (pod : PodId) (area : Area) → counts_time 
 no_removal {now} {s} pod area place m = any_fewer (is_removal_held (pod_spot pod area)) is_on_folder (λ h is. never_gate pod area place h.target (is_exclusive h.lock) is) s.standing.holdings m.apart
 
 module _ {now : ℕ} (pod : PodId) (area : Area) (place : counts_time area ≡ true) (s : Seen) (m : MayRemove now s) where
-  listing_keeps : (r : Result (List Item) DirError) → Keeps s (seen_listed s (ListIn (root_of (pod_spot pod area))) (items_reply r))
+  listing_keeps : (r : Result (List Item) DirError) → KeepsHoldings s (seen_listed s (ListIn (root_of (pod_spot pod area))) (items_reply r))
   listing_keeps (Ok items) = record {
     intent = refl;
     holdings = refl;
@@ -113,7 +114,7 @@ module _ {now : ℕ} (pod : PodId) (area : Area) (place : counts_time area ≡ t
   listing_keeps (Err e) = record { intent = refl; holdings = refl; kept = ap (λ b. b && (b && s.kept)) (looks_there s area place); bare = m.bare }
 
 pub ready_listed : {observed : Bool} {now : ℕ} {old new : DirAt} (pod : PodId) (area : Area) (r : Result (List Item) DirError) → counts_time area ≡ true → ListCall observed old (ListIn (root_of (pod_spot pod area))) (items_reply r) new → observed ≡ true
-    → Stays (MayRemove now) old (λ s. KeepsReady s new)
+    → Given (MayRemove now) old (λ s. KeepsReady s new)
 ready_listed pod area r place x t s k m = record { known = _; keeps = listing_keeps pod area place s m r; knows = knows_list (root_of (pod_spot pod area)) r t k x }
 
 -- the mark that tells whether the pod is asked for
@@ -135,7 +136,7 @@ noted_by pod area s items (Some m) stage is =
     ∙ ap (λ b. cond b (Some (record { name = pod_text pod.bytes; moment = m })) (find (λ (c : Created). bytes_eq c.name (pod_text pod.bytes)) s.created)) (same_bytes (pod_text pod.bytes)))
 
 pub notes_mark : {observed : Bool} {now : ℕ} {old new : DirAt} (items : List Item) (pod : PodId) (area : Area) (text : List ℕ) (moment : Option ℕ) → counts_time area ≡ true → text ≡ codes "created-" → moment ≡ moment_among text items
-    → ListCall observed old (ListIn (root_of (pod_spot pod area))) (Items items) new → observed ≡ true → Stays (MayRemove now) old (λ s. NotesMark pod moment s new)
+    → ListCall observed old (ListIn (root_of (pod_spot pod area))) (Items items) new → observed ≡ true → Given (MayRemove now) old (λ s. NotesMark pod moment s new)
 notes_mark {observed} {now} {old} {new} items pod area text moment place named greatest x t s k m = record {
   known = _;
   keeps = listing_keeps pod area place s m (Ok items);

@@ -7,9 +7,7 @@ use Rattle.dir_model.specs.declared.area.Phase.{Phase}
 use Rattle.dir_model.specs.declared.area.Phase.TheVariants as kind
 use Rattle.dir_model.specs.declared.event.Event.{Event}
 use Rattle.dir_model.specs.declared.pod.PodId.{PodId}
-use Rattle.dir_model.specs.declared.request.Request.{Request}
 use Rattle.dir_model.specs.declared.request.Request.TheVariants.{MoveFolder}
-use Rattle.dir_model.specs.declared.request.Reply.{Reply}
 use Rattle.dir_model.specs.declared.request.Reply.TheVariants.{Done}
 use Rattle.dir_model.specs.declared.spot.Spot.{Spot}
 use Rattle.dir_model.specs.Areas.{rank, is_stage, phase_in}
@@ -17,7 +15,7 @@ use Rattle.dir_model.specs.Calls.{AtOwnStep, CallStep, TookPlace, LeftNothing, e
 use Rattle.dir_model.specs.State.{DirState, stands, folder_at, empty_state}
 use Rattle.dir_model.specs.Trace.{state_next, state_after}
 use Rattle.dir_model.proofs.Chains.{states_next-append}
-use Rattle.dir_model.proofs.Moments.{at_grown, at_weaker, some_number}
+use Rattle.dir_model.proofs.Moments.{at_weaker, some_number}
 use Rattle.dir_model.proofs.Spots.{spot_self}
 use Rattle.folder_contents.proofs.Spots.{one_area}
 use Rattle.lifecycle.specs.Executions.{IsConforming}
@@ -29,48 +27,49 @@ use Rattle.phase_read.specs.Read.{pod_spot, WasFound, stages_before}
 use Rattle.phase_read.proofs.InTurn.{left_out_grown}
 use Rattle.pod_locks.specs.Work.{Grew}
 use Rattle.pod_locks.proofs.Times.{at_part}
-use Rattle.pod_locks.proofs.Traces.{grown_none}
+use Rattle.pod_locks.proofs.Traces.{grown_none, grown_more, grown_call}
 use Rattle.pod_locks.specs.Causes.{IsAbsentAt}
-use Rattle.pod_gc.specs.RemovalRequests.{is_removable, aside, place_of}
+use Rattle.pod_locks.proofs.ClaimLawful.{grew_at}
+use Rattle.pod_gc.specs.RemovalRequests.{is_removable, aside, area_of_phase}
 use Rattle.pod_gc.specs.Found.{is_moved, PutAway}
 use Rattle.pod_gc.specs.Removals.{MissedOnItsWay, FoundThenMissed, MissedTimes}
 use Rattle.dir_model.proofs.Allowed.{allowed_reply}
 
 -- places and phases
 
-place_is : (a : Area) (owned : Bool) (p : Phase) → phase_in a owned ≡ Some p → is_removable p ≡ true → a ≡ place_of p
+place_is : (a : Area) (owned : Bool) (p : Phase) → phase_in a owned ≡ Some p → is_removable p ≡ true → a ≡ area_of_phase p
 place_is area.Embryo owned p is r = let e : kind.Embryo ≡ p = cc in let clash : true ≡ false = sym r ∙ ap is_removable (sym e) in cc
 place_is area.Prepare true p is r = let e : kind.Preparing ≡ p = cc in let clash : true ≡ false = sym r ∙ ap is_removable (sym e) in cc
-place_is area.Prepare false p is r = let e : kind.AbortedPrepare ≡ p = cc in ap place_of e
-place_is area.Prepared owned p is r = let e : kind.Prepared ≡ p = cc in ap place_of e
+place_is area.Prepare false p is r = let e : kind.AbortedPrepare ≡ p = cc in ap area_of_phase e
+place_is area.Prepared owned p is r = let e : kind.Prepared ≡ p = cc in ap area_of_phase e
 place_is area.Run true p is r = let e : kind.Running ≡ p = cc in let clash : true ≡ false = sym r ∙ ap is_removable (sym e) in cc
-place_is area.Run false p is r = let e : kind.Exited ≡ p = cc in ap place_of e
+place_is area.Run false p is r = let e : kind.Exited ≡ p = cc in ap area_of_phase e
 place_is area.ExitedGarbage true p is r = let e : kind.Deleting ≡ p = cc in let clash : true ≡ false = sym r ∙ ap is_removable (sym e) in cc
-place_is area.ExitedGarbage false p is r = let e : kind.ExitedGarbage ≡ p = cc in ap place_of e
+place_is area.ExitedGarbage false p is r = let e : kind.ExitedGarbage ≡ p = cc in ap area_of_phase e
 place_is area.Garbage true p is r = let e : kind.Deleting ≡ p = cc in let clash : true ≡ false = sym r ∙ ap is_removable (sym e) in cc
-place_is area.Garbage false p is r = let e : kind.Garbage ≡ p = cc in ap place_of e
+place_is area.Garbage false p is r = let e : kind.Garbage ≡ p = cc in ap area_of_phase e
 place_is a owned p is r = cc
 
-late_place : (p : Phase) → 1 ≤ rank (place_of p)
+late_place : (p : Phase) → 1 ≤ rank (area_of_phase p)
 late_place kind.AbortedPrepare = omega arith
 late_place kind.Prepared = omega arith
 late_place kind.Exited = omega arith
 late_place kind.ExitedGarbage = omega arith
 late_place p = omega arith
 
-pub stage_place : (p : Phase) → is_stage (place_of p) ≡ true
+pub stage_place : (p : Phase) → is_stage (area_of_phase p) ≡ true
 stage_place kind.AbortedPrepare = refl
 stage_place kind.Prepared = refl
 stage_place kind.Exited = refl
 stage_place kind.ExitedGarbage = refl
 stage_place p = refl
 
-stage_aside : (p : Phase) → is_stage (aside p) ≡ true
+pub stage_aside : (p : Phase) → is_stage (aside p) ≡ true
 stage_aside kind.Exited = refl
 stage_aside kind.ExitedGarbage = refl
 stage_aside p = refl
 
-unmoved_place : (p : Phase) → is_moved p ≡ false → aside p ≡ place_of p
+unmoved_place : (p : Phase) → is_moved p ≡ false → aside p ≡ area_of_phase p
 unmoved_place kind.AbortedPrepare is = cc
 unmoved_place kind.Prepared is = cc
 unmoved_place kind.Exited is = cc
@@ -103,20 +102,6 @@ moved_stands me from to a b s = by s.own
         subst (λ (z : DirState). stands z.namespace to ≡ true) (sym next)
         (ap (λ (o : Option ℕ). is_some o) (moved_there w.namespace to from to (none_stands w.namespace to stood.1) (spot_self to)) ∙ stood.0)
 
--- how far a trace has grown
-grown_with : {a b c : List Event} → Grew a b → Grew b c → Grew a c
-grown_with {a} ab bc = record { more = ab.more ++ bc.more; grown = bc.grown ∙ (ap (λ h. h ++ bc.more) ab.grown ∙ append_assoc a ab.more bc.more) }
-
-grown_at : {me : ℕ} {a b : List Event} {P : DirState → Type 0} → AtOwnStep me a b P → Grew a b
-grown_at at = let g = at_grown at in record { more = g.0; grown = g.1 }
-
-grown_step : {me : ℕ} {request : Request} {reply : Reply} {a b : List Event} → CallStep me a request reply b → Grew a b
-grown_step {me} {request} {reply} {a} {b} s = by s.own
-  where
-    by : TookPlace s.before me request reply b ⊎ LeftNothing s.before me request reply b → Grew a b
-    by (inl took) = grown_with (record { more = s.meanwhile.others; grown = s.meanwhile.grown }) (record { more = event me request reply ∷ []; grown = took.grown })
-    by (inr late) = record { more = s.meanwhile.others; grown = late.same ∙ s.meanwhile.grown }
-
 grown_put : (pod : PodId) (p : Phase) {me : ℕ} {a b : List Event} → PutAway pod p me a b → Grew a b
 grown_put pod p {me} {a} {b} x = by (is_moved p) refl
   where
@@ -125,8 +110,8 @@ grown_put pod p {me} {a} {b} x = by (is_moved p) refl
     by false is = subst (λ (c : List Event). Grew a c) (sym (x.still is)) grown_none
 
 grown_missed : (pod : PodId) (p : Phase) {me : ℕ} {a b : List Event} → MissedOnItsWay pod p me a b → Grew a b
-grown_missed pod p (inl at) = grown_at at
-grown_missed pod p (inr x) = grown_with (grown_put pod p x.1) (grown_at x.2)
+grown_missed pod p (inl at) = grew_at at
+grown_missed pod p (inr x) = grown_more (grown_put pod p x.1) (grew_at x.2)
 
 -- a read that found it, at a moment
 record FoundAt (spot : Spot) (me : ℕ) (a b : List Event) : Type 0 where
@@ -136,9 +121,9 @@ found_moment : (spot : Spot) (p : Phase) {me : ℕ} {a b : List Event} → WasFo
 found_moment spot p (inl stood) = record { at = stood.there }
 found_moment spot p (inr x) =
     let told = x.1 in
-    record { at = at_part grown_none refl (grown_at told.told) (at_weaker (λ s. stands s.namespace spot ≡ true) (λ s is. ap (λ (o : Option ℕ). is_some o) is) told.found) }
+    record { at = at_part grown_none refl (grew_at told.told) (at_weaker (λ s. stands s.namespace spot ≡ true) (λ s is. ap (λ (o : Option ℕ). is_some o) is) told.found) }
 
-found_place : (spot : Spot) (p : Phase) {me : ℕ} {a b : List Event} → WasFound me a b spot p → is_removable p ≡ true → spot.area ≡ place_of p
+found_place : (spot : Spot) (p : Phase) {me : ℕ} {a b : List Event} → WasFound me a b spot p → is_removable p ≡ true → spot.area ≡ area_of_phase p
 found_place spot p (inl stood) r = place_is spot.area false p stood.is r
 found_place spot p (inr x) r = place_is spot.area x.0 p x.2 r
 
@@ -224,15 +209,15 @@ module _ (pod : PodId) (me : ℕ) (a c : List Event) (conforming : IsConforming 
     abbrev at : AtOwnStep me f.read.between f.between (λ s. stands s.namespace (pod_spot pod f.area) ≡ true)
     at = seen.at
 
-    here : f.area ≡ place_of f.phase
+    here : f.area ≡ area_of_phase f.phase
     here = found_place (pod_spot pod f.area) f.phase f.read.found f.removable
 
-    abbrev stood : Stood pod (rank (place_of f.phase)) f.between
+    abbrev stood : Stood pod (rank (area_of_phase f.phase)) f.between
     stood = record {
       moment = at.before ++ at.step ∷ [];
       more = at.rest;
       upto_is = at.ends;
-      place = place_of f.phase;
+      place = area_of_phase f.phase;
       stage = stage_place f.phase;
       there = subst (λ (x : Area). stands (state_after (at.before ++ at.step ∷ [])).namespace (pod_spot pod x) ≡ true) here at.holds;
       reached = omega arith;
@@ -241,46 +226,46 @@ module _ (pod : PodId) (me : ℕ) (a c : List Event) (conforming : IsConforming 
     from_found : Grew f.between b
     from_found = grown_missed pod f.phase f.way
 
-    found_far : {far : ℕ} → Past pod far start c → far ≤ rank (place_of f.phase)
+    found_far : {far : ℕ} → Past pod far start c → far ≤ rank (area_of_phase f.phase)
     found_far x =
         let later : at.before ++ at.step ∷ [] ≡ start ++ (out.0 ++ (at.later ++ at.step ∷ [])) =
         ap (λ (h : List Event). h ++ at.step ∷ []) (at.begins ∙ ap (λ (h : List Event). h ++ at.later) out.1) ∙ simp append_assoc in
         let rest_is : c ≡ (at.before ++ at.step ∷ []) ++ (at.rest ++ (from_found.more ++ rest)) =
         whole ∙ (ap (λ (h : List Event). h ++ rest) (from_found.grown ∙ ap (λ (h : List Event). h ++ from_found.more) at.ends) ∙ simp append_assoc) in
-        x.on (at.before ++ at.step ∷ []) (out.0 ++ (at.later ++ at.step ∷ [])) (at.rest ++ (from_found.more ++ rest)) (place_of f.phase) later rest_is (stage_place f.phase) stood.there
+        x.on (at.before ++ at.step ∷ []) (out.0 ++ (at.later ++ at.step ∷ [])) (at.rest ++ (from_found.more ++ rest)) (area_of_phase f.phase) later rest_is (stage_place f.phase) stood.there
 
-    missed_far : Past pod (suc (rank (place_of f.phase))) b c
+    missed_far : Past pod (suc (rank (area_of_phase f.phase))) b c
     missed_far = by f.way
       where
-        here_missed : AtOwnStep me f.between b (IsAbsentAt pod (place_of f.phase)) → Past pod (suc (rank (place_of f.phase))) b c
-        here_missed absent = missed_past (place_of f.phase) stood.moment stood.more rest stood.upto_is whole (stage_place f.phase) stood.there absent
+        here_missed : AtOwnStep me f.between b (IsAbsentAt pod (area_of_phase f.phase)) → Past pod (suc (rank (area_of_phase f.phase))) b c
+        here_missed absent = missed_past (area_of_phase f.phase) stood.moment stood.more rest stood.upto_is whole (stage_place f.phase) stood.there absent
 
-        aside_missed : (moved : List Event) → PutAway pod f.phase me f.between moved → AtOwnStep me moved b (IsAbsentAt pod (aside f.phase)) → (m : Bool) → is_moved f.phase ≡ m → Past pod (suc (rank (place_of f.phase))) b c
+        aside_missed : (moved : List Event) → PutAway pod f.phase me f.between moved → AtOwnStep me moved b (IsAbsentAt pod (aside f.phase)) → (m : Bool) → is_moved f.phase ≡ m → Past pod (suc (rank (area_of_phase f.phase))) b c
         aside_missed moved put absent false is =
-            here_missed (subst (λ (h : List Event). AtOwnStep me h b (IsAbsentAt pod (place_of f.phase))) (put.still is) (subst (λ (x : Area). AtOwnStep me moved b (IsAbsentAt pod x)) (unmoved_place f.phase is) absent))
+            here_missed (subst (λ (h : List Event). AtOwnStep me h b (IsAbsentAt pod (area_of_phase f.phase))) (put.still is) (subst (λ (x : Area). AtOwnStep me moved b (IsAbsentAt pod x)) (unmoved_place f.phase is) absent))
         aside_missed moved put absent true is =
             let did = (put.moved is).each in
             let after = did.1 in
             let step = did.3 in
             let from_after : Grew after moved = did.4 in
             let to_before : Grew f.between did.0 = did.2 in
-            let arrived = moved_stands me (pod_spot pod (place_of f.phase)) (pod_spot pod (aside f.phase)) did.0 after step in
-            let took = grown_step step in
-            let from_absent = grown_at absent in
+            let arrived = moved_stands me (pod_spot pod (area_of_phase f.phase)) (pod_spot pod (aside f.phase)) did.0 after step in
+            let took = grown_call step in
+            let from_absent = grew_at absent in
             let later : after ≡ f.between ++ (to_before.more ++ took.more) = took.grown ∙ (ap (λ (h : List Event). h ++ took.more) to_before.grown ∙ append_assoc f.between to_before.more took.more) in
             let rest_is : c ≡ after ++ (from_after.more ++ (from_absent.more ++ rest)) =
             whole ∙ (ap (λ (h : List Event). h ++ rest) (from_absent.grown ∙ ap (λ (h : List Event). h ++ from_absent.more) from_after.grown) ∙ simp append_assoc) in
-            let on : rank (place_of f.phase) ≤ rank (aside f.phase) = onward stood after (to_before.more ++ took.more) (from_after.more ++ (from_absent.more ++ rest)) (aside f.phase) later rest_is (stage_aside f.phase) arrived in
+            let on : rank (area_of_phase f.phase) ≤ rank (aside f.phase) = onward stood after (to_before.more ++ took.more) (from_after.more ++ (from_absent.more ++ rest)) (aside f.phase) later rest_is (stage_aside f.phase) arrived in
             at_less (omega (arith, on)) (missed_past (aside f.phase) after from_after.more rest from_after.grown whole (stage_aside f.phase) arrived absent)
 
-        by : AtOwnStep me f.between b (IsAbsentAt pod (place_of f.phase)) ⊎ ((moved : List Event) × PutAway pod f.phase me f.between moved × AtOwnStep me moved b (IsAbsentAt pod (aside f.phase))) → Past pod (suc (rank (place_of f.phase))) b c
+        by : AtOwnStep me f.between b (IsAbsentAt pod (area_of_phase f.phase)) ⊎ ((moved : List Event) × PutAway pod f.phase me f.between moved × AtOwnStep me moved b (IsAbsentAt pod (aside f.phase))) → Past pod (suc (rank (area_of_phase f.phase))) b c
         by (inl absent) = here_missed absent
         by (inr x) = aside_missed x.0 x.1 x.2 (is_moved f.phase) refl
 
   grown_found : (start b : List Event) → FoundThenMissed pod me start b → Grew start b
   grown_found start b f =
       let out = left_out_grown pod me start f.read.between (stages_before f.area) f.read.earlier in
-      grown_with (grown_with (record { more = out.0; grown = out.1 }) (grown_at (found_moment (pod_spot pod f.area) f.phase f.read.found).at)) (grown_missed pod f.phase f.way)
+      grown_more (grown_more (record { more = out.0; grown = out.1 }) (grew_at (found_moment (pod_spot pod f.area) f.phase f.read.found).at)) (grown_missed pod f.phase f.way)
 
   -- each miss finds it further along
   missed_onward : (n : ℕ) (b rest : List Event) → c ≡ b ++ rest → MissedTimes (suc n) pod me a b → Past pod (suc (suc n)) b c
@@ -298,4 +283,4 @@ module _ (pod : PodId) (me : ℕ) (a c : List Event) (conforming : IsConforming 
       let step : Grew m.0 c = grown_found m.0 c f in
       let before = missed_onward 4 m.0 step.more step.grown m.1 in
       let far = found_far m.0 c [] (sym (append-nil c)) f before in
-      five_at_most (place_of f.phase) (stage_place f.phase) (omega (arith, far))
+      five_at_most (area_of_phase f.phase) (stage_place f.phase) (omega (arith, far))

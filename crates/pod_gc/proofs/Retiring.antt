@@ -2,6 +2,7 @@
 use Rattle.std.proofs.Common.{◌≡◌, ◌⊎◌, inl, inr, ◌==◌, ◌&&◌, ◌||◌, ℕ, Bool, true, false, not, cond, bytes_eq, Option, Some, None, is_some, Result, Ok, Err, List, [], ◌∷◌, ◌++◌, option_to_list, append-nil, refl, sym, ap, subst, ◌∙◌}
 use Rattle.std.specs.List.{list_any}
 use Rattle.std.proofs.lemmas.Bool.{eqb-true}
+use Rattle.plain_laws.proofs.Texts.{same_bytes}
 use Rattle.dir_model.specs.declared.area.Area.TheVariants.{Run, ExitedGarbage}
 use Rattle.dir_model.specs.declared.event.Event.{Event}
 use Rattle.dir_model.specs.declared.intent.Intent.{Intent}
@@ -22,7 +23,7 @@ use Rattle.dir_model.specs.Calls.{AtOwnStep, CallStep, Extends, TookPlace, LeftN
 use Rattle.dir_model.specs.Causes.{Rose}
 use Rattle.dir_model.specs.Pods.{pod_text}
 use Rattle.dir_model.specs.Paths.{is_directly_in}
-use Rattle.dir_model.specs.Replies.{refused_in, make_refusal, is_error, is_own_of, is_any_reply, is_reply, is_state_reply, may_refuse, done_reply}
+use Rattle.dir_model.specs.Replies.{refused_in, make_refusal, is_error, is_apps_inner, is_any_reply, is_reply, is_state_reply, may_refuse, done_reply}
 use Rattle.dir_model.specs.State.{DirState, folder_at, spot_eq}
 use Rattle.dir_model.specs.Trace.{state_after, placed}
 use Rattle.dir_model.specs.Trees.{has_any, has_dir, has_file, has_parent, is_file_entry, is_parent_entry}
@@ -37,23 +38,23 @@ use Rattle.dir_rules.specs.Marks.{marked_mark}
 use Rattle.dir_rules.specs.Standing.{intends, began_as, is_remover, has_place}
 use Rattle.dir_rules.specs.LockRules.{is_open_on}
 use Rattle.dir_rules.specs.Seen.{is_own_mark, is_free, marks}
-use Rattle.dir_rules.specs.Rules.{allows, may_note, may_mark, spares, is_deleting}
+use Rattle.dir_rules.specs.Rules.{allows, may_note, may_mark, spares_deleted_pod, is_deleting}
 use Rattle.dir_rules.specs.Conforms.{seen_replied}
-use Rattle.dir_rules.proofs.Looks.{same_bytes, deletes_none}
+use Rattle.dir_rules.proofs.Looks.{deletes_none}
 use Rattle.dir_trait.specs.DirCalls.{DirAt, DirCall}
 use Rattle.dir_trait.specs.Knowledge.{Knows}
 use Rattle.dir_trait.proofs.Knowing.{knows_call}
-use Rattle.folder_building.specs.Work.{Worked}
+use Rattle.dir_trait.specs.Effects.{OnlyAsks, Given}
 use Rattle.gate_reading.proofs.PlainPaths.{plain_own}
 use Rattle.phase_read.specs.Read.{pod_spot}
 use Rattle.pod_locks.proofs.ClaimSeen.{off}
 use Rattle.pod_locks.proofs.Times.{at_part}
 use Rattle.pod_locks.proofs.Traces.{grown_none}
 use Rattle.pod_locks.specs.declared.setback.Setback.TheVariants as stop
-use Rattle.pod_locks.specs.Setbacks.{set_back}
-use Rattle.pod_locks.specs.Holding.{IsBare, MayLook, LooksFree, with_look, MayMove, Keeps, KeepsReady, Stays}
-use Rattle.pod_locks.specs.Requests.{moves}
-use Rattle.pod_locks.specs.Causes.{Stopped, IsAbsentAt}
+use Rattle.pod_locks.specs.Setbacks.{step_setback_of}
+use Rattle.pod_locks.specs.Holding.{IsBare, MayLook, LooksFree, with_look, MayMove, KeepsHoldings, KeepsReady}
+use Rattle.pod_locks.specs.Requests.{moves_pod}
+use Rattle.pod_locks.specs.Causes.{StepWasStopped, IsAbsentAt}
 use Rattle.pod_locks.proofs.Calls.{Follows}
 use Rattle.pod_gc.specs.RemovalCauses.{IsMarkedIn, IsMarkedBetween, MarkedFirst}
 use Rattle.pod_gc.specs.RemovalRequests.{marks_at}
@@ -74,7 +75,7 @@ with_mark {observed} {old} {new} {spot} {path} {reply} pod now at name c =
 pub asks_mark : (pod : PodId) (now : ℕ) → marks_at pod now (MakeFileIn (mark_of pod now)) ≡ true
 asks_mark pod now = and_both _ _ (spot_self (pod_spot pod Run)) (same_bytes (marked_mark now))
 
-pub worked_mark : {observed : Bool} {old new : DirAt} (pod : PodId) (now : ℕ) (answer : Result (Unit {0}) DirError) → DirCall observed old (MakeFileIn (mark_of pod now)) (done_reply answer) new → Worked observed (marks_at pod now) old new
+pub worked_mark : {observed : Bool} {old new : DirAt} (pod : PodId) (now : ℕ) (answer : Result (Unit {0}) DirError) → DirCall observed old (MakeFileIn (mark_of pod now)) (done_reply answer) new → OnlyAsks observed (marks_at pod now) old new
 worked_mark {observed} {old} {new} pod now answer x = record { same = x.same; faults = x.faults; local = by answer x; extends = λ t. and_call nothing_yet refl (asks_mark pod now) (x.step t) }
   where
     by : (answer : Result (Unit {0}) DirError) → DirCall observed old (MakeFileIn (mark_of pod now)) (done_reply answer) new → new.local ≡ old.local
@@ -98,13 +99,13 @@ module _ (pod : PodId) (now : ℕ) (s : Seen) (may : MayMark pod now s) where
 
   allowed_mark : allows s (MakeFileIn Mark) ≡ true
   allowed_mark =
-      and_both (may_note s Mark || may_mark s Mark) (spares s Mark)
+      and_both (may_note s Mark || may_mark s Mark) (spares_deleted_pod s Mark)
       (or_last (may_note s Mark) (may_mark s Mark)
       (and_both (began_as is_remover s.standing) (is_own_mark s.standing.intent (marked_mark now) && is_free s (pod_spot pod Run)) may.began
       (and_both (is_own_mark s.standing.intent (marked_mark now)) (is_free s (pod_spot pod Run)) own_mark may.free)))
       (ap not (deletes_none (pod_text pod.bytes) s.standing.holdings may.alone))
 
-  mark_keeps : (answer : Result (Unit {0}) DirError) → Keeps s (seen_replied s (MakeFileIn Mark) (done_reply answer))
+  mark_keeps : (answer : Result (Unit {0}) DirError) → KeepsHoldings s (seen_replied s (MakeFileIn Mark) (done_reply answer))
   mark_keeps (Ok done) = record { intent = refl; holdings = refl; kept = ap (λ b. b && s.kept) allowed_mark; bare = may.bare }
   mark_keeps (Err e) = record { intent = refl; holdings = refl; kept = ap (λ b. b && s.kept) allowed_mark; bare = may.bare }
 
@@ -119,13 +120,13 @@ module _ (pod : PodId) (now : ℕ) (s : Seen) (may : MayMark pod now s) where
       ∙ ap (λ b. b || list_any (spot_eq (pod_spot pod Run)) s.marked) (spot_self (pod_spot pod Run))
 
 module _ {observed : Bool} {old new : DirAt} (pod : PodId) (now : ℕ) where
-  pub knows_marked : DirCall observed old (MakeFileIn (mark_of pod now)) Done new → observed ≡ true → Stays (MayMark pod now) old (λ s. Marked pod s new)
+  pub knows_marked : DirCall observed old (MakeFileIn (mark_of pod now)) Done new → observed ≡ true → Given (MayMark pod now) old (λ s. Marked pod s new)
   knows_marked x t s k may = record { known = seen_replied s (MakeFileIn (mark_of pod now)) Done; keeps = mark_keeps pod now s may (Ok tt); standing = refl; marked = made_marked pod now s may; knows = knows_call t k refl refl x }
 
-  pub knows_there : DirCall observed old (MakeFileIn (mark_of pod now)) (Refused Exists 0) new → observed ≡ true → Stays (MayMark pod now) old (λ s. Marked pod s new)
+  pub knows_there : DirCall observed old (MakeFileIn (mark_of pod now)) (Refused Exists 0) new → observed ≡ true → Given (MayMark pod now) old (λ s. Marked pod s new)
   knows_there x t s k may = record { known = seen_replied s (MakeFileIn (mark_of pod now)) (Refused Exists 0); keeps = mark_keeps pod now s may (Err Exists); standing = refl; marked = there_marked pod now s may; knows = knows_call t k refl refl x }
 
-  pub ready_mark : (answer : Result (Unit {0}) DirError) → DirCall observed old (MakeFileIn (mark_of pod now)) (done_reply answer) new → observed ≡ true → Stays (MayMark pod now) old (λ s. KeepsReady s new)
+  pub ready_mark : (answer : Result (Unit {0}) DirError) → DirCall observed old (MakeFileIn (mark_of pod now)) (done_reply answer) new → observed ≡ true → Given (MayMark pod now) old (λ s. KeepsReady s new)
   ready_mark answer x t s k may = record { known = seen_replied s (MakeFileIn (mark_of pod now)) (done_reply answer); keeps = mark_keeps pod now s may answer; knows = by answer x }
     where
       by : (answer : Result (Unit {0}) DirError) → DirCall observed old (MakeFileIn (mark_of pod now)) (done_reply answer) new → Knows new (seen_replied s (MakeFileIn (mark_of pod now)) (done_reply answer))
@@ -133,7 +134,7 @@ module _ {observed : Bool} {old new : DirAt} (pod : PodId) (now : ℕ) where
       by (Err e) x = knows_call t k refl refl x
 
 -- nothing was asked for
-pub ready_unasked : {d : DirAt} (pod : PodId) (now : ℕ) → Stays (MayMark pod now) d (λ s. KeepsReady s d)
+pub ready_unasked : {d : DirAt} (pod : PodId) (now : ℕ) → Given (MayMark pod now) d (λ s. KeepsReady s d)
 ready_unasked pod now s k may = record { known = s; keeps = record { intent = refl; holdings = refl; kept = refl; bare = may.bare }; knows = k }
 
 -- why it wasn't marked
@@ -147,8 +148,8 @@ absent_by path es (Some folder) direct h = by (has_any es folder path) (has_pare
     by false true p h = cc
     by false false p h = cc
 
-by_state : (s : DirState) (me : ℕ) (inner : Inner) (reply : Reply) → is_own_of s (Some inner) ≡ false → is_reply s me (MakeFileIn inner) reply ≡ true → is_state_reply s me (MakeFileIn inner) reply ≡ true
-by_state s me inner reply off h = by (is_own_of s (Some inner)) off h
+by_state : (s : DirState) (me : ℕ) (inner : Inner) (reply : Reply) → is_apps_inner s (Some inner) ≡ false → is_reply s me (MakeFileIn inner) reply ≡ true → is_state_reply s me (MakeFileIn inner) reply ≡ true
+by_state s me inner reply off h = by (is_apps_inner s (Some inner)) off h
   where
     by : (b : Bool) → b ≡ false → cond b (is_any_reply s me (MakeFileIn inner) reply) (is_state_reply s me (MakeFileIn inner) reply) ≡ true → is_state_reply s me (MakeFileIn inner) reply ≡ true
     by true is h = cc
@@ -225,16 +226,16 @@ pub noted_already : {observed : Bool} {old new : DirAt} (pod : PodId) (now : ℕ
 noted_already pod now x t = noted_there pod now (x.step t)
 
 -- and then it was moved
-pub marked_first : {observed : Bool} {a b c d : DirAt} (pod : PodId) (now : ℕ) → observed ≡ true → Follows observed a b → IsMarkedBetween pod now b c → c.process ≡ b.process → Worked observed (moves pod Run ExitedGarbage) c d → MarkedFirst pod now a.process a.trace d.trace
+pub marked_first : {observed : Bool} {a b c d : DirAt} (pod : PodId) (now : ℕ) → observed ≡ true → Follows observed a b → IsMarkedBetween pod now b c → c.process ≡ b.process → OnlyAsks observed (moves_pod pod Run ExitedGarbage) c d → MarkedFirst pod now a.process a.trace d.trace
 marked_first {observed} {a} {b} {c} {d} pod now t ab x same w = record {
   folder = x.0;
   between = c.trace;
   marked = at_part (ab.grown t) ab.same grown_none x.1;
-  only = subst (λ (p : ℕ). Extends (moves pod Run ExitedGarbage) p c.trace d.trace) (same ∙ ab.same) (w.extends t);
+  only = subst (λ (p : ℕ). Extends (moves_pod pod Run ExitedGarbage) p c.trace d.trace) (same ∙ ab.same) (w.extends t);
 }
 
 pub mark_stops : {observed : Bool} {old new : DirAt} (inner : Inner) (pod : PodId) (now : ℕ) (e : DirError) → (e ≡ Exists → ⊥) → may_refuse (MakeFileIn inner) e ≡ true → (e ≡ Failed → Rose old.faults new.faults)
-    → DirCall observed old (MakeFileIn (mark_of pod now)) (Refused e 0) new → Stopped observed pod (IsAbsentAt pod Run) (set_back e) old new
+    → DirCall observed old (MakeFileIn (mark_of pod now)) (Refused e 0) new → StepWasStopped observed pod (IsAbsentAt pod Run) (step_setback_of e) old new
 mark_stops inner pod now Missing other may rose x = record { fault = λ is. cc; missing = λ is t. missed_mark pod now (x.step t); manifest = λ is. cc; stray = λ is. cc }
 mark_stops inner pod now Exists other may rose x = absurd (other refl)
 mark_stops inner pod now Failed other may rose x = record { fault = λ is. rose refl; missing = λ is. cc; manifest = λ is. cc; stray = λ is. cc }
@@ -242,7 +243,7 @@ mark_stops inner pod now dir.NoMemory other may rose x = record { fault = λ is.
 mark_stops inner pod now Locked other may rose x = cc
 mark_stops inner pod now NotEmpty other may rose x = cc
 
-pub unnamed_stops : {observed : Bool} {d : DirAt} {pod : PodId} {Missed : DirState → Type 0} → Stopped observed pod Missed stop.NoMemory d d
+pub unnamed_stops : {observed : Bool} {d : DirAt} {pod : PodId} {Missed : DirState → Type 0} → StepWasStopped observed pod Missed stop.NoMemory d d
 unnamed_stops = record { fault = λ is. cc; missing = λ is. cc; manifest = λ is. cc; stray = λ is. cc }
 
 -- an exited pod: it was looked at, marked, and moved
@@ -272,14 +273,14 @@ moves_exited {now} {s} pod may m =
     (ap (λ (z : Standing). is_open_on (target.Own (pod_spot pod Run)) z.holdings) m.standing ∙ off Own (pod_spot pod Run) s.standing.holdings may.apart)
     m.keeps.bare
 
-pub ready_exited : {now : ℕ} {a b c d : DirAt} (pod : PodId) → Stays (MayLook pod Run) a (λ s. LooksFree pod Run s b) → Stays (MayMark pod now) b (λ s. Marked pod s c) → Stays (MayMove pod Run ExitedGarbage) c (λ s. KeepsReady s d)
-    → Stays (MayRemove now) a (λ s. KeepsReady s d)
-ready_exited pod free marked moves s k may =
+pub ready_exited : {now : ℕ} {a b c d : DirAt} (pod : PodId) → Given (MayLook pod Run) a (λ s. LooksFree pod Run s b) → Given (MayMark pod now) b (λ s. Marked pod s c) → Given (MayMove pod Run ExitedGarbage) c (λ s. KeepsReady s d)
+    → Given (MayRemove now) a (λ s. KeepsReady s d)
+ready_exited pod free marked moves_pod s k may =
     let m = marked (with_look pod Run s) (free s k (looks_exited pod may)) (marks_exited pod may) in
-    let x = moves m.known m.knows (moves_exited pod may m) in
+    let x = moves_pod m.known m.knows (moves_exited pod may m) in
     record { known = x.known; keeps = record { intent = x.keeps.intent ∙ m.keeps.intent; holdings = x.keeps.holdings ∙ m.keeps.holdings; kept = x.keeps.kept ∙ m.keeps.kept; bare = x.keeps.bare }; knows = x.knows }
 
-pub ready_unmarked : {now : ℕ} {a b c : DirAt} (pod : PodId) → Stays (MayLook pod Run) a (λ s. LooksFree pod Run s b) → Stays (MayMark pod now) b (λ s. KeepsReady s c) → Stays (MayRemove now) a (λ s. KeepsReady s c)
+pub ready_unmarked : {now : ℕ} {a b c : DirAt} (pod : PodId) → Given (MayLook pod Run) a (λ s. LooksFree pod Run s b) → Given (MayMark pod now) b (λ s. KeepsReady s c) → Given (MayRemove now) a (λ s. KeepsReady s c)
 ready_unmarked pod free left s k may =
     let x = left (with_look pod Run s) (free s k (looks_exited pod may)) (marks_exited pod may) in
     record { known = x.known; keeps = record { intent = x.keeps.intent; holdings = x.keeps.holdings; kept = x.keeps.kept; bare = x.keeps.bare }; knows = x.knows }

@@ -1,5 +1,6 @@
 -- What a step at a listed pod comes to as a deed.
 use Rattle.std.proofs.Common.{◌≡◌, ◌≤◌, ◌||◌, ◌⊎◌, inl, inr, ℕ, Bool, true, false, Option, Some, None, codes, Result, Ok, Err, IfOk, IfErr, List, refl, sym, ap, subst, ◌∙◌, not}
+use Rattle.plain_laws.proofs.Results.{err_all}
 use Rattle.dir_model.specs.declared.area.Area.{Area}
 use Rattle.dir_model.specs.declared.area.Area.TheVariants as area
 use Rattle.dir_model.specs.declared.area.Phase.{Phase}
@@ -23,6 +24,7 @@ use Rattle.dir_model.proofs.Moments.{at_weaker, settle}
 use Rattle.dir_rules.specs.declared.seen.Seen.{Seen}
 use Rattle.dir_trait.specs.DirCalls.{DirAt, HeldBetween, LockToldBetween, ExtendsBy}
 use Rattle.dir_trait.specs.Knowledge.{Knows, OnlyLooks}
+use Rattle.dir_trait.specs.Effects.{Given}
 use Rattle.lifecycle.specs.Executions.{IsConforming}
 use Rattle.lifecycle.proofs.Stays.{stays_between}
 use Rattle.phase_read.specs.declared.found.LookError.{LookError}
@@ -31,43 +33,45 @@ use Rattle.phase_read.specs.Read.{pod_spot, HasPhase, is_pod_spot}
 use Rattle.phase_read.specs.Exact.{AtOwnEvent, IsInPhase}
 use Rattle.phase_read.proofs.Exact.{found_exactly}
 use Rattle.pod_locks.specs.Work.{Grew}
-use Rattle.pod_locks.proofs.ClaimSeen.{off}
+use Rattle.pod_locks.proofs.ClaimSeen.{off, none_kind}
 use Rattle.pod_locks.proofs.Times.{at_part, deeds_part}
 use Rattle.pod_locks.proofs.Traces.{grown_none, grown_more}
 use Rattle.pod_locks.specs.declared.setback.Setback.{Setback}
 use Rattle.pod_locks.specs.declared.setback.Setback.TheVariants as stop
-use Rattle.pod_locks.specs.Requests.{looks_at, moves, peeks_at}
-use Rattle.pod_locks.specs.Holding.{MayLook, LooksFree, with_look, KeepsReady, Stays}
-use Rattle.pod_locks.specs.Causes.{Stopped, IsAbsentAt, Did, WasStray, BusyElsewhere, HeldByAnother, FreeOfOthers, FreeWhere}
-use Rattle.pod_locks.proofs.Calls.{Follows, stray_part, rose_later}
+use Rattle.pod_locks.specs.Requests.{looks_at, moves_pod, peeks_at}
+use Rattle.pod_locks.specs.Holding.{MayLook, LooksFree, with_look, KeepsReady}
+use Rattle.pod_locks.specs.Causes.{StepWasStopped, IsAbsentAt, Did, WasStrayStep, LockBusyElsewhere, PodHeldByAnother, FreeOfOthers, FreeIfObserved}
+use Rattle.pod_locks.proofs.Calls.{Follows, stray_part}
 use Rattle.pod_gc.specs.RemovalRequests.{is_garbage_place, removes}
 use Rattle.pod_gc.specs.RemovalHolding.{MayRemove}
 use Rattle.pod_gc.proofs.CallKinds.{looks_remove}
-use Rattle.pod_gc.proofs.Stages.{none_kind, same_ready, err_all}
-use Rattle.pod_gc.proofs.Rounds.{may_kept, looked_keeps, event_after}
+use Rattle.pod_gc.proofs.Stages.{same_ready}
+use Rattle.pod_gc.proofs.Rounds.{may_kept, looked_keeps}
 use Rattle.dir_model.specs.declared.spot.Mode.TheVariants.{Shared, Exclusive}
 use Rattle.dir_model.specs.Replies.{is_look_at}
 use Rattle.dir_model.proofs.Chains.{and_more, extends_wider}
 use Rattle.dir_rules.specs.Standing.{is_in}
+use Rattle.dir_laws.proofs.Rose.{rose_later}
 use Rattle.pod_locks.specs.Elsewhere.{is_owned_phase}
 use Rattle.pod_locks.proofs.Elsewhere.{met_elsewhere}
 use Rattle.pod_locks.proofs.Within.{held_within, free_within, told_within}
+use Rattle.pod_locks.proofs.Outcomes.{event_part}
 use Rattle.phase_read.proofs.Stages.{pod_spot_only}
 use Rattle.pod_gc.specs.declared.gc_error.GcError.{GcError}
 use Rattle.pod_gc.specs.declared.line.Deed.{Deed}
 use Rattle.pod_gc.specs.declared.line.Deed.TheVariants.{Moved, Deleted, Kept, Busy, Left}
-use Rattle.pod_gc.specs.Requests.{deals_with, lists_marks, goes_to, moves_pods, lets_be}
+use Rattle.pod_gc.specs.Requests.{deals_with_pod, lists_marks, goes_to, moves_pods, lets_be}
 use Rattle.pod_gc.specs.Causes.{deed_of, look_fault, GcCause}
 use Rattle.pod_gc.specs.declared.ages.Times.{Times}
 use Rattle.pod_gc.specs.Ages.{Showed, is_young}
-use Rattle.pod_gc.specs.Deeds.{IsGoneFrom, SaysThere, DoesNothing, DeedCause, refused_lock, RestsBy, RestedSo, is_under_claim, is_resting, busy_mode, asked_mode, LeftToAnother, LeavesToAnother, LeavesWhere}
+use Rattle.pod_gc.specs.Deeds.{IsGoneFrom, SaysThere, DoesNothing, DeedCause, refused_lock, RestsBy, RestedByAge, is_under_claim, is_resting, busy_mode, mode_of_deed, LeftToAnother, LeavesToAnother, LeavesIfObserved}
 
 -- the calls are of their kind
 
-pub removes_deal : (pod : PodId) (now : ℕ) (place : Area) (r : Request) → removes pod now r ≡ true → deals_with pod now place r ≡ true
+pub removes_deal : (pod : PodId) (now : ℕ) (place : Area) (r : Request) → removes pod now r ≡ true → deals_with_pod pod now place r ≡ true
 removes_deal pod now place r is = or_last (lists_marks pod place r) _ (or_last _ (removes pod now r) is)
 
-pub looks_deal : (pod : PodId) (now : ℕ) (place : Area) → rank place ≤ 5 → (r : Request) → looks_at pod place r ≡ true → deals_with pod now place r ≡ true
+pub looks_deal : (pod : PodId) (now : ℕ) (place : Area) → rank place ≤ 5 → (r : Request) → looks_at pod place r ≡ true → deals_with_pod pod now place r ≡ true
 looks_deal pod now place stage r is = removes_deal pod now place r (looks_remove pod now place stage r is)
 
 -- why a step was set back, told of the place of the pass
@@ -75,9 +79,9 @@ pub record SetBackAt (observed : Bool) (pod : PodId) (place : Area) (e : Setback
   pub fault : e ≡ stop.DirFault → Rose old.faults new.faults
   pub gone : e ≡ stop.Missing → observed ≡ true → HeldBetween old new (IsGoneFrom pod place)
   pub lacking : e ≡ stop.NoManifest → observed ≡ true → HeldBetween old new (IsGoneFrom pod place)
-  pub stray : e ≡ stop.Stray → observed ≡ true → WasStray old.process old.trace new.trace
+  pub stray : e ≡ stop.Stray → observed ≡ true → WasStrayStep old.process old.trace new.trace
 
-pub set_stopped : {observed : Bool} {e : Setback} {old new : DirAt} (pod : PodId) (place : Area) → ((s : DirState) → IsAbsentAt pod place s → IsGoneFrom pod place s) → Stopped observed pod (IsAbsentAt pod place) e old new → SetBackAt observed pod place e old new
+pub set_stopped : {observed : Bool} {e : Setback} {old new : DirAt} (pod : PodId) (place : Area) → ((s : DirState) → IsAbsentAt pod place s → IsGoneFrom pod place s) → StepWasStopped observed pod (IsAbsentAt pod place) e old new → SetBackAt observed pod place e old new
 set_stopped pod place only x = record { fault = x.fault; gone = λ is t. at_weaker (IsGoneFrom pod place) only (x.missing is t); lacking = λ is t. absurd (x.manifest is); stray = x.stray }
 
 pub gone_garbage : (pod : PodId) (a : Area) → is_garbage_place a ≡ true → (s : DirState) → IsAbsentAt pod a s → IsGoneFrom pod a s
@@ -100,8 +104,8 @@ cause_busy which claimed = record { moved = λ to is. cc; deleted = λ is. cc; k
 
 pub cause_moved : {me : ℕ} {old new : List Event} (pod : PodId) (place to : Area) → moves_pods place ≡ true → to ≡ goes_to place → Did (MoveFolder (pod_spot pod place) (pod_spot pod to)) Done me old new
     → (place ≡ area.Prepared → FreeOfOthers pod place Claim Exclusive me old new) → (not (is_in area.Embryo place) ≡ true → LockTold me old new (pod_spot pod place) false) → DeedCause pod place (Moved to) me old new
-cause_moved {me} {old} {new} pod place to moves goes did claimed freed = record {
-  moved = λ other is. let same : to ≡ other = cc in (moves, sym same ∙ goes, subst (λ (a : Area). Did (MoveFolder (pod_spot pod place) (pod_spot pod a)) Done me old new) same did);
+cause_moved {me} {old} {new} pod place to moves_pod goes did claimed freed = record {
+  moved = λ other is. let same : to ≡ other = cc in (moves_pod, sym same ∙ goes, subst (λ (a : Area). Did (MoveFolder (pod_spot pod place) (pod_spot pod a)) Done me old new) same did);
   deleted = λ is. cc;
   kept = λ p is. cc;
   left = λ is. cc;
@@ -128,7 +132,7 @@ cause_kept {me} {old} {new} pod place p fits so freed = record {
 
 -- its own lock was refused in prepared
 abbrev pub ClaimsFirst : Bool → PodId → Area → Setback → DirAt → DirAt → Type 0
-ClaimsFirst observed pod place e old new = e ≡ stop.Busy Own → place ≡ area.Prepared → FreeWhere observed pod place Claim Exclusive old new
+ClaimsFirst observed pod place e old new = e ≡ stop.Busy Own → place ≡ area.Prepared → FreeIfObserved observed pod place Claim Exclusive old new
 
 own_alone : (which : Which) → is_under_claim (Busy which) ≡ true → stop.Busy which ≡ stop.Busy Own
 own_alone Own is = refl
@@ -149,9 +153,9 @@ left_gone = record { held = λ which is. cc; owner = λ conforming p is. cc }
 
 -- another process held the lock that was refused here
 abbrev pub BusyHere : PodId → Area → Setback → DirAt → DirAt → Type 0
-BusyHere pod place e old new = (which : Which) → e ≡ stop.Busy which → HeldByAnother pod place which (busy_mode place which) old.process old.trace new.trace
+BusyHere pod place e old new = (which : Which) → e ≡ stop.Busy which → PodHeldByAnother pod place which (busy_mode place which) old.process old.trace new.trace
 
-pub busy_garbage : (pod : PodId) (place : Area) (e : Setback) (old new : DirAt) → is_garbage_place place ≡ true → BusyElsewhere pod place Exclusive e old new → BusyHere pod place e old new
+pub busy_garbage : (pod : PodId) (place : Area) (e : Setback) (old new : DirAt) → is_garbage_place place ≡ true → LockBusyElsewhere pod place Exclusive e old new → BusyHere pod place e old new
 busy_garbage pod area.ExitedGarbage e old new garbage busy which is = busy which is
 busy_garbage pod area.Garbage e old new garbage busy which is = busy which is
 busy_garbage pod _ e old new garbage busy which is = cc
@@ -175,12 +179,12 @@ module _ (observed : Bool) (pod : PodId) (place : Area) (done : Deed) (old new :
   step_cause (Err stop.NoMemory) err = record { fault = λ is. cc; stray = λ is. cc }
 
   module _ (May : Seen → Type 0) (calm : (which : Which) → refused_lock done ≡ Some which → ⊥) (acts : (p : Phase) → done ≡ Kept p → ⊥) where
-    pub step_another : (r : Result (Unit {0}) Setback) → IfErr r (λ e. observed ≡ true → Stays May old (λ s. BusyHere pod place e old new)) → IfOk (deed_of r done) (λ deed. LeavesWhere observed May pod place deed old new)
+    pub step_another : (r : Result (Unit {0}) Setback) → IfErr r (λ e. observed ≡ true → Given May old (λ s. BusyHere pod place e old new)) → IfOk (deed_of r done) (λ deed. LeavesIfObserved observed May pod place deed old new)
     step_another (Ok d) busy = λ t s k m. record { held = λ which is. absurd (calm which is); owner = λ conforming p is. absurd (acts p is) }
     step_another (Err stop.Missing) busy = λ t s k m. left_gone
     step_another (Err stop.NoManifest) busy = λ t s k m. left_gone
     step_another (Err (stop.Busy w)) busy = λ t s k m. record {
-      held = λ which is. let same : w ≡ which = cc in subst (λ (v : Which). HeldByAnother pod place v (busy_mode place w) old.process old.trace new.trace) same (busy t s k m w refl);
+      held = λ which is. let same : w ≡ which = cc in subst (λ (v : Which). PodHeldByAnother pod place v (busy_mode place w) old.process old.trace new.trace) same (busy t s k m w refl);
       owner = λ conforming p is. cc;
     }
     step_another (Err stop.DirFault) busy = tt
@@ -221,7 +225,7 @@ lock_kept d p (inr left) which is = let e : None ≡ Some which = sym (ap refuse
 
 -- by a phase that has no owner
 pub said_calm : (observed : Bool) (May : Seen → Type 0) (pod : PodId) (place : Area) (p : Phase) (old mid new : DirAt) → refused_lock (Kept p) ≡ None → is_owned_phase p ≡ false → (r : Result Deed GcError) → IfOk r (λ deed. SaysThere observed pod place p deed mid new)
-    → IfOk r (λ deed. LeavesWhere observed May pod place deed old new)
+    → IfOk r (λ deed. LeavesIfObserved observed May pod place deed old new)
 said_calm observed May pod place p old mid new free unowned (Err e) x = tt
 said_calm observed May pod place p old mid new free unowned (Ok deed) x = λ t s k m. record {
   held = λ which is. let e : None ≡ Some which = sym free ∙ lock_kept deed p x.is which is in cc;
@@ -236,7 +240,7 @@ own_kept kind.Deleting which is = cc
 own_kept _ which is = cc
 
 module _ (observed : Bool) (now : ℕ) (pod : PodId) (place : Area) (w : Which) (p : Phase) (old mid new : DirAt) (stage : rank place ≤ 5) (same : mid.process ≡ old.process) (bc : Follows observed mid new) (named : w ≡ Own)
-    (busy : observed ≡ true → Stays (MayRemove now) old (λ s. BusyElsewhere pod place Shared (stop.Busy w) old mid)) (first : observed ≡ true → ExtendsBy (peeks_at pod place) old mid) (then : observed ≡ true → ExtendsBy (peeks_at pod place) mid new) where
+    (busy : observed ≡ true → Given (MayRemove now) old (λ s. LockBusyElsewhere pod place Shared (stop.Busy w) old mid)) (first : observed ≡ true → ExtendsBy (peeks_at pod place) old mid) (then : observed ≡ true → ExtendsBy (peeks_at pod place) mid new) where
   peeks_its : (r : Request) → peeks_at pod place r ≡ true → is_look_at (is_pod_spot pod) r ≡ true
   peeks_its (Open spot which) is = pod_spot_only pod (pod_spot pod place) spot stage refl is
   peeks_its (TryLock handle Shared) is = refl
@@ -244,25 +248,25 @@ module _ (observed : Bool) (now : ℕ) (pod : PodId) (place : Area) (w : Which) 
   peeks_its (Close handle) is = refl
   peeks_its _ is = cc
 
-  pub said_refused : (r : Result Deed GcError) → IfOk r (λ deed. SaysThere observed pod place p deed mid new) → IfOk r (λ deed. observed ≡ true → DeedCause pod place deed old.process old.trace new.trace) → IfOk r (λ deed. LeavesWhere observed (MayRemove now) pod place deed old new)
+  pub said_refused : (r : Result Deed GcError) → IfOk r (λ deed. SaysThere observed pod place p deed mid new) → IfOk r (λ deed. observed ≡ true → DeedCause pod place deed old.process old.trace new.trace) → IfOk r (λ deed. LeavesIfObserved observed (MayRemove now) pod place deed old new)
   said_refused (Err e) x cause = tt
   said_refused (Ok deed) x cause = λ t s k m. record {
-    held = λ which is. subst (λ (mode : Mode). HeldByAnother pod place which mode old.process old.trace new.trace) (kept_mode deed p x.is which is)
-        (subst (λ (l : Which). HeldByAnother pod place l Shared old.process old.trace new.trace) (named ∙ sym (own_kept p which (lock_kept deed p x.is which is)))
+    held = λ which is. subst (λ (mode : Mode). PodHeldByAnother pod place which mode old.process old.trace new.trace) (kept_mode deed p x.is which is)
+        (subst (λ (l : Which). PodHeldByAnother pod place l Shared old.process old.trace new.trace) (named ∙ sym (own_kept p which (lock_kept deed p x.is which is)))
         (held_within grown_none refl (bc.grown t) (busy t s k m w refl)));
     owner = λ conforming q is owned. met_elsewhere pod old new (extends_wider peeks_its (and_more (first t) same (then t))) conforming s k m.apart q place owned (((cause t).kept q is).1 conforming);
   }
     where
-      kept_mode : (d : Deed) (q : Phase) → (d ≡ Kept q) ⊎ (d ≡ Left) → (which : Which) → refused_lock d ≡ Some which → Shared ≡ asked_mode place d
-      kept_mode d q (inl kept) which is = ap (asked_mode place) (sym kept)
-      kept_mode d q (inr left) which is = ap (asked_mode place) (sym left)
+      kept_mode : (d : Deed) (q : Phase) → (d ≡ Kept q) ⊎ (d ≡ Left) → (which : Which) → refused_lock d ≡ Some which → Shared ≡ mode_of_deed place d
+      kept_mode d q (inl kept) which is = ap (mode_of_deed place) (sym kept)
+      kept_mode d q (inr left) which is = ap (mode_of_deed place) (sym left)
 
 pub cause_after : {observed : Bool} {e : GcError} {a b c : DirAt} → Follows observed a b → GcCause observed e b c → GcCause observed e a c
 cause_after {observed} {e} {a} {b} {c} ab x = record { fault = λ is. rose_later a.faults b.faults c.faults ab.faults (x.fault is); stray = λ is t. stray_part (ab.grown t) ab.same grown_none (x.stray is t) }
 
 -- a look after a step
 
-pub ready_looked : {now : ℕ} {a b c : DirAt} → Stays (MayRemove now) a (λ s. KeepsReady s b) → OnlyLooks b c → Stays (MayRemove now) a (λ s. KeepsReady s c)
+pub ready_looked : {now : ℕ} {a b c : DirAt} → Given (MayRemove now) a (λ s. KeepsReady s b) → OnlyLooks b c → Given (MayRemove now) a (λ s. KeepsReady s c)
 ready_looked ready looks s k m =
     let x = ready s k m in
     let y = looks x.known x.knows in
@@ -299,10 +303,10 @@ said_rests p deed (inr left) = subst (λ (d : Deed). DoesNothing d) (sym left) t
 pub looks_resting : {now : ℕ} {s : Seen} (pod : PodId) → MayRemove now s → MayLook pod area.ExitedGarbage s
 looks_resting {now} {s} pod m = record { alone = off Own (pod_spot pod area.ExitedGarbage) s.standing.holdings m.apart; single = none_kind Own s.standing.holdings m.apart; may = refl }
 
-pub ready_probed : {now : ℕ} {a b : DirAt} (pod : PodId) → Stays (MayLook pod area.ExitedGarbage) a (λ s. LooksFree pod area.ExitedGarbage s b) → Stays (MayRemove now) a (λ s. KeepsReady s b)
+pub ready_probed : {now : ℕ} {a b : DirAt} (pod : PodId) → Given (MayLook pod area.ExitedGarbage) a (λ s. LooksFree pod area.ExitedGarbage s b) → Given (MayRemove now) a (λ s. KeepsReady s b)
 ready_probed pod free s k m = record { known = with_look pod area.ExitedGarbage s; keeps = record { intent = refl; holdings = refl; kept = refl; bare = m.bare }; knows = free s k (looks_resting pod m) }
 
-pub ready_unprobed : {now : ℕ} {a b : DirAt} (pod : PodId) → Stays (MayLook pod area.ExitedGarbage) a (λ s. Knows b s) → Stays (MayRemove now) a (λ s. KeepsReady s b)
+pub ready_unprobed : {now : ℕ} {a b : DirAt} (pod : PodId) → Given (MayLook pod area.ExitedGarbage) a (λ s. Knows b s) → Given (MayRemove now) a (λ s. KeepsReady s b)
 ready_unprobed pod left s k m = same_ready m (left s k (looks_resting pod m))
 
 -- a step that no lock stops
@@ -355,14 +359,14 @@ pub showed_longer : {pod : PodId} {place : Area} {text : List ℕ} {m : Option �
 showed_longer x more = record { items = x.items; after = x.after; only = x.only; shows = x.shows; last = grown_more x.last more; greatest = x.greatest }
 
 pub rested_so : {observed : Bool} {b c : DirAt} (times : Times) (pod : PodId) (a : DirAt) (m : Option ℕ) (deed : Deed) → observed ≡ true → Follows observed b c → Showed pod area.ExitedGarbage (codes "marked-") m a.process a.trace b.trace → RestsBy (is_young times.now times.grace m) deed
-    → RestedSo times pod deed a.process a.trace c.trace
+    → RestedByAge times pod deed a.process a.trace c.trace
 rested_so times pod a m deed t bc shows by = record { rests = λ p is. (m, showed_longer shows (bc.grown t), by.rests p is); over = λ is. (m, showed_longer shows (bc.grown t), by.over is) }
 
 deed_after : {pod : PodId} {place : Area} {deed : Deed} {me other : ℕ} {a b c : List Event} → Grew a b → other ≡ me → DeedCause pod place deed other b c → DeedCause pod place deed me a c
 deed_after ab same x = record {
   moved = λ to is. let y = x.moved to is in (y.0, y.1, deeds_part ab same grown_none y.2);
   deleted = λ is. let y = x.deleted is in (y.0, deeds_part ab same grown_none y.1);
-  kept = λ p is. let y = x.kept p is in (y.0, λ conforming. event_after ab same (y.1 conforming));
+  kept = λ p is. let y = x.kept p is in (y.0, λ conforming. event_part ab same (y.1 conforming));
   left = λ is. at_part ab same grown_none (x.left is);
   gate = x.gate;
   claimed = λ here is. free_within ab same grown_none (x.claimed here is);
@@ -376,13 +380,13 @@ deed_later c t ab x = deed_after (ab.grown t) ab.same x
 pub left_after : {pod : PodId} {place : Area} {deed : Deed} {me other : ℕ} {a b c : List Event} → Grew a b → other ≡ me → LeftToAnother pod place deed other b c → LeftToAnother pod place deed me a c
 left_after {pod} {place} {deed} {me} {other} {a} {b} {c} ab same x =
     let y = subst (λ (p : ℕ). LeftToAnother pod place deed p b c) same x in
-    record { held = λ which is. held_within ab refl grown_none (y.held which is); owner = λ conforming p is owned. event_after ab refl (y.owner conforming p is owned) }
+    record { held = λ which is. held_within ab refl grown_none (y.held which is); owner = λ conforming p is owned. event_part ab refl (y.owner conforming p is owned) }
 
-pub busy_later : {observed : Bool} {now : ℕ} {pod : PodId} {place : Area} {a b : DirAt} (deed : Deed) (c : DirAt) → observed ≡ true → Follows observed a b → Stays (MayRemove now) a (λ s. KeepsReady s b) → Stays (MayRemove now) b (λ s. LeavesToAnother pod place deed b c)
-    → Stays (MayRemove now) a (λ s. LeavesToAnother pod place deed a c)
+pub busy_later : {observed : Bool} {now : ℕ} {pod : PodId} {place : Area} {a b : DirAt} (deed : Deed) (c : DirAt) → observed ≡ true → Follows observed a b → Given (MayRemove now) a (λ s. KeepsReady s b) → Given (MayRemove now) b (λ s. LeavesToAnother pod place deed b c)
+    → Given (MayRemove now) a (λ s. LeavesToAnother pod place deed a c)
 busy_later deed c t ab ready busy s k m = let x = ready s k m in left_after (ab.grown t) ab.same (busy x.known x.knows (may_kept x.keeps m))
 
-pub ready_later : {now : ℕ} {a b c : DirAt} → Stays (MayRemove now) a (λ s. KeepsReady s b) → Stays (MayRemove now) b (λ s. KeepsReady s c) → Stays (MayRemove now) a (λ s. KeepsReady s c)
+pub ready_later : {now : ℕ} {a b c : DirAt} → Given (MayRemove now) a (λ s. KeepsReady s b) → Given (MayRemove now) b (λ s. KeepsReady s c) → Given (MayRemove now) a (λ s. KeepsReady s c)
 ready_later ab bc s k m =
     let x = ab s k m in
     let y = bc x.known x.knows (may_kept x.keeps m) in
@@ -392,5 +396,5 @@ ready_later ab bc s k m =
 pub gone_deed : {observed : Bool} {pod : PodId} (old new : DirAt) (place : Area) → ((s : DirState) → IsAbsentAt pod place s → IsGoneFrom pod place s) → (observed ≡ true → HeldBetween old new (IsAbsentAt pod place)) → observed ≡ true → DeedCause pod place Left old.process old.trace new.trace
 gone_deed {observed} {pod} old new place only absent t = cause_left (at_weaker (IsGoneFrom pod place) only (absent t))
 
-pub lists_deal : (pod : PodId) (now : ℕ) (place : Area) (r : Request) → lists_marks pod place r ≡ true → deals_with pod now place r ≡ true
-lists_deal pod now place r is = ap (λ b. b || (moves pod area.Embryo area.Garbage r || removes pod now r)) is
+pub lists_deal : (pod : PodId) (now : ℕ) (place : Area) (r : Request) → lists_marks pod place r ≡ true → deals_with_pod pod now place r ≡ true
+lists_deal pod now place r is = ap (λ b. b || (moves_pod pod area.Embryo area.Garbage r || removes pod now r)) is

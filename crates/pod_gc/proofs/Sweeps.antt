@@ -10,35 +10,36 @@ use Rattle.dir_rules.specs.declared.standing.Held.{Held}
 use Rattle.dir_rules.specs.declared.seen.Seen.{Seen}
 use Rattle.dir_rules.specs.LockRules.{is_open_on}
 use Rattle.dir_trait.specs.DirCalls.{DirAt}
-use Rattle.pod_locks.specs.Holding.{Keeps, KeepsReady, Stays}
+use Rattle.dir_trait.specs.Effects.{Given}
+use Rattle.pod_locks.specs.Holding.{KeepsHoldings, KeepsReady}
 use Rattle.pod_locks.proofs.Calls.{Follows}
 use Rattle.pod_gc.specs.declared.ages.Times.{Times}
 use Rattle.pod_gc.specs.declared.line.GcLine.{GcLine}
 use Rattle.pod_gc.specs.Sweeping.{MaySweepAll}
-use Rattle.pod_gc.specs.Told.{Knew, Passed, ArePassed, places, AddsPassed, AddsSwept, IsSweptBetween}
+use Rattle.pod_gc.specs.Told.{Knew, PassedOverPods, ArePassed, places, AddsPassed, AddsSwept, IsSweptBetween}
 use Rattle.pod_gc.proofs.InTurn.{sweep_kept}
 use Rattle.pod_gc.proofs.Telling.{knew_on}
 use Rattle.pod_gc.proofs.Gates.{passed_by}
 
-pub all_kept : {now expire : ℕ} {s z : Seen} → Keeps s z → MaySweepAll now expire s → MaySweepAll now expire z
+pub all_kept : {now expire : ℕ} {s z : Seen} → KeepsHoldings s z → MaySweepAll now expire s → MaySweepAll now expire z
 all_kept k m = record { sweeps = sweep_kept k m.sweeps; free = ap (λ (hs : List Held). not (is_open_on (Gate Embryo) hs)) k.holdings ∙ m.free }
 
-pub all_none : {now expire : ℕ} {d : DirAt} → Stays (MaySweepAll now expire) d (λ s. KeepsReady s d)
+pub all_none : {now expire : ℕ} {d : DirAt} → Given (MaySweepAll now expire) d (λ s. KeepsReady s d)
 all_none s k m = record { known = s; keeps = record { intent = refl; holdings = refl; kept = refl; bare = m.sweeps.may.bare }; knows = k }
 
-pub all_more : {now expire : ℕ} {a b c : DirAt} → Stays (MaySweepAll now expire) a (λ s. KeepsReady s b) → Stays (MaySweepAll now expire) b (λ s. KeepsReady s c) → Stays (MaySweepAll now expire) a (λ s. KeepsReady s c)
+pub all_more : {now expire : ℕ} {a b c : DirAt} → Given (MaySweepAll now expire) a (λ s. KeepsReady s b) → Given (MaySweepAll now expire) b (λ s. KeepsReady s c) → Given (MaySweepAll now expire) a (λ s. KeepsReady s c)
 all_more ab bc s k m =
     let x = ab s k m in
     let y = bc x.known x.knows (all_kept x.keeps m) in
     record { known = y.known; keeps = record { intent = y.keeps.intent ∙ x.keeps.intent; holdings = y.keeps.holdings ∙ x.keeps.holdings; kept = y.keeps.kept ∙ x.keeps.kept; bare = y.keeps.bare }; knows = y.knows }
 
-passed_push : (Can : Type 0) (me : ℕ) (a b c : List Event) (times : Times) (before : List Area) (here : Area) (ls ms : List GcLine) → ArePassed Can times before ls me a b → Passed Can times here ms me b c → ArePassed Can times (before ++ here ∷ []) (ls ++ ms) me a c
+passed_push : (Can : Type 0) (me : ℕ) (a b c : List Event) (times : Times) (before : List Area) (here : Area) (ls ms : List GcLine) → ArePassed Can times before ls me a b → PassedOverPods Can times here ms me b c → ArePassed Can times (before ++ here ∷ []) (ls ++ ms) me a c
 passed_push Can me a b c times [] here ls ms x y = record {
   between = c;
   own = ms;
   others = [];
   lines_are = ap (λ (l : List GcLine). l ++ ms) x.0 ∙ sym (append-nil ms);
-  first = subst (λ (h : List Event). Passed Can times here ms me h c) x.1 y;
+  first = subst (λ (h : List Event). PassedOverPods Can times here ms me h c) x.1 y;
   rest = (refl, refl);
 }
 passed_push Can me a b c times (p ∷ ps) here ls ms x y = record {
@@ -53,7 +54,7 @@ passed_push Can me a b c times (p ∷ ps) here ls ms x y = record {
 pub swept_none : (times : Times) (lines : List GcLine) (d : DirAt) → AddsSwept times [] d d lines lines
 swept_none times lines d = ([], sym (append-nil lines), (refl, refl))
 
-pub swept_more : {observed : Bool} (a b c : DirAt) (times : Times) (done : List Area) (here : Area) (before mid after : List GcLine) → Follows observed a b → Stays (MaySweepAll times.now times.expire) a (λ s. KeepsReady s b)
+pub swept_more : {observed : Bool} (a b c : DirAt) (times : Times) (done : List Area) (here : Area) (before mid after : List GcLine) → Follows observed a b → Given (MaySweepAll times.now times.expire) a (λ s. KeepsReady s b)
     → AddsSwept times done a b before mid → AddsPassed times here b c mid after → AddsSwept times (done ++ here ∷ []) a c before after
 swept_more a b c times done here before mid after ab ready x y = (
   x.0 ++ y.0,

@@ -1,5 +1,6 @@
 -- The steps of a round read no phase, and where a step is refused no folder was removed in it.
 use Rattle.std.proofs.Common.{◌≡◌, inl, inr, ◌||◌, ℕ, suc, Bool, true, false, not, Result, Ok, Err, IfErr, List, [], refl, sym, subst, append-nil, arith}
+use Rattle.plain_laws.proofs.Booleans.{or_nothing}
 use Rattle.dir_model.specs.declared.area.Area.{Area}
 use Rattle.dir_model.specs.declared.area.Area.TheVariants.{ExitedGarbage, Garbage}
 use Rattle.dir_model.specs.declared.area.Phase.{Phase}
@@ -16,7 +17,7 @@ use Rattle.dir_model.proofs.Lists.{all_weaker, or_map}
 use Rattle.dir_model.specs.Local.{Local}
 use Rattle.dir_model.specs.Replies.{is_look_at}
 use Rattle.dir_trait.specs.DirCalls.{DirAt, ExtendsBy}
-use Rattle.folder_building.specs.Work.{Worked}
+use Rattle.dir_trait.specs.Effects.{OnlyAsks, LeavesOpen}
 use Rattle.folder_removal.specs.Removal.{removes_folder, KeptFolders, KeepsFolders}
 use Rattle.folder_removal.proofs.Keeping.{kept_by, kept_more}
 use Rattle.phase_read.specs.Read.{is_pod_spot}
@@ -24,11 +25,10 @@ use Rattle.phase_read.specs.Often.{begins_read, ReadsAtMost}
 use Rattle.phase_read.proofs.Often.{unread_by, opens_past}
 use Rattle.pod_locks.specs.declared.setback.Setback.{Setback}
 use Rattle.pod_locks.specs.declared.setback.Setback.TheVariants as stop
-use Rattle.pod_locks.specs.Holding.{Went}
-use Rattle.pod_locks.specs.Requests.{looks_at, moves}
+use Rattle.pod_locks.specs.Requests.{looks_at, moves_pod}
 use Rattle.pod_locks.specs.Taking.{takes_away, TookNothing}
-use Rattle.pod_gc.specs.RemovalRequests.{is_garbage_place, marks_at, deletes_in, puts_aside, aside, place_of}
-use Rattle.pod_gc.specs.Removals.{round_of}
+use Rattle.pod_gc.specs.RemovalRequests.{is_garbage_place, marks_at, deletes_in, puts_aside, aside, area_of_phase}
+use Rattle.pod_gc.specs.Removals.{removal_round_of}
 use Rattle.pod_gc.specs.Found.{is_moved, PutAway, WasMissed, FoundAnd}
 
 -- reads
@@ -40,7 +40,7 @@ looks_unread : (pod : PodId) (a : Area) (n : ℕ) → rank a ≡ suc n → (r : 
 looks_unread pod a n is (Open spot which) looks = opens_past pod a n is spot looks which
 looks_unread pod a n is r looks = refl
 
-moves_unread : (pod : PodId) (from to : Area) (r : Request) → moves pod from to r ≡ true → begins_read pod r ≡ false
+moves_unread : (pod : PodId) (from to : Area) (r : Request) → moves_pod pod from to r ≡ true → begins_read pod r ≡ false
 moves_unread pod from to (Open spot which) moved = cc
 moves_unread pod from to r moved = refl
 
@@ -48,27 +48,23 @@ marks_unread : (pod : PodId) (now : ℕ) (r : Request) → marks_at pod now r �
 marks_unread pod now (Open spot which) marked = cc
 marks_unread pod now r marked = refl
 
-first_alone : (b : Bool) → (b || false) ≡ true → b ≡ true
-first_alone true is = refl
-first_alone false is = is
-
 deletes_unread : (pod : PodId) (a : Area) (n : ℕ) → rank a ≡ suc n → (r : Request) → deletes_in pod a r ≡ true → begins_read pod r ≡ false
-deletes_unread pod a n is (Open spot which) asked = opens_past pod a n is spot (first_alone (looks_at pod a (Open spot which)) asked) which
+deletes_unread pod a n is (Open spot which) asked = opens_past pod a n is spot (or_nothing (looks_at pod a (Open spot which)) asked) which
 deletes_unread pod a n is r asked = refl
 
-pub unread_looks : {observed : Bool} {a b : DirAt} (pod : PodId) (area : Area) (n : ℕ) → rank area ≡ suc n → Worked observed (looks_at pod area) a b → ReadsAtMost 0 observed pod a b
+pub unread_looks : {observed : Bool} {a b : DirAt} (pod : PodId) (area : Area) (n : ℕ) → rank area ≡ suc n → OnlyAsks observed (looks_at pod area) a b → ReadsAtMost 0 observed pod a b
 unread_looks pod area n is w = unread_by (looks_unread pod area n is) (λ t. w.extends t)
 
-pub unread_took : {observed : Bool} {l : Local} {a b : DirAt} (pod : PodId) (area : Area) (n : ℕ) → rank area ≡ suc n → Went observed (looks_at pod area) l a b → ReadsAtMost 0 observed pod a b
+pub unread_took : {observed : Bool} {l : Local} {a b : DirAt} (pod : PodId) (area : Area) (n : ℕ) → rank area ≡ suc n → LeavesOpen observed (looks_at pod area) l a b → ReadsAtMost 0 observed pod a b
 unread_took pod area n is w = unread_by (looks_unread pod area n is) (λ t. w.extends t)
 
-pub unread_move : {observed : Bool} {a b : DirAt} (pod : PodId) (from to : Area) → Worked observed (moves pod from to) a b → ReadsAtMost 0 observed pod a b
+pub unread_move : {observed : Bool} {a b : DirAt} (pod : PodId) (from to : Area) → OnlyAsks observed (moves_pod pod from to) a b → ReadsAtMost 0 observed pod a b
 unread_move pod from to w = unread_by (moves_unread pod from to) (λ t. w.extends t)
 
-pub unread_mark : {observed : Bool} {a b : DirAt} (pod : PodId) (now : ℕ) → Worked observed (marks_at pod now) a b → ReadsAtMost 0 observed pod a b
+pub unread_mark : {observed : Bool} {a b : DirAt} (pod : PodId) (now : ℕ) → OnlyAsks observed (marks_at pod now) a b → ReadsAtMost 0 observed pod a b
 unread_mark pod now w = unread_by (marks_unread pod now) (λ t. w.extends t)
 
-pub unread_delete : {observed : Bool} {a b : DirAt} (pod : PodId) (area : Area) (n : ℕ) → rank area ≡ suc n → Worked observed (deletes_in pod area) a b → ReadsAtMost 0 observed pod a b
+pub unread_delete : {observed : Bool} {a b : DirAt} (pod : PodId) (area : Area) (n : ℕ) → rank area ≡ suc n → OnlyAsks observed (deletes_in pod area) a b → ReadsAtMost 0 observed pod a b
 unread_delete pod area n is w = unread_by (deletes_unread pod area n is) (λ t. w.extends t)
 
 -- both garbage places come late in a pod's life
@@ -114,7 +110,7 @@ pub kept_aside : (pod : PodId) (p : Phase) {me : ℕ} {a b : List Event} → Put
 kept_aside pod p {me} {a} {b} x = by (is_moved p) refl
   where
     by : (m : Bool) → is_moved p ≡ m → KeptFolders me a b
-    by true is = kept_by (aside_keep pod (place_of p) (aside p)) (x.only is)
+    by true is = kept_by (aside_keep pod (area_of_phase p) (aside p)) (x.only is)
     by false is = subst (λ (c : List Event). KeptFolders me a c) (sym (x.still is)) (record { more = []; grown = sym (append-nil a); kept = tt })
 
 pub kept_missed : (pod : PodId) {me : ℕ} {a b : List Event} → FoundAnd pod (WasMissed pod) me a b → KeptFolders me a b
@@ -125,7 +121,7 @@ kept_missed pod {me} {a} {b} x = kept_more (kept_read pod x.looks) refl (by x.so
     by (inr there) = kept_more (kept_aside pod x.phase there.1) refl (kept_untaken there.2.untaken)
 
 pub kept_round : {observed : Bool} (pod : PodId) (old mid new : DirAt) → (observed ≡ true → ExtendsBy (is_look_at (is_pod_spot pod)) old mid) → mid.process ≡ old.process
-    → (r : Result (Unit {0}) Setback) → IfErr r (λ e. observed ≡ true → KeepsFolders mid new) → IfErr (round_of pod r) (λ e. observed ≡ true → KeepsFolders old new)
+    → (r : Result (Unit {0}) Setback) → IfErr r (λ e. observed ≡ true → KeepsFolders mid new) → IfErr (removal_round_of pod r) (λ e. observed ≡ true → KeepsFolders old new)
 kept_round pod old mid new looks same (Ok done) kept = tt
 kept_round pod old mid new looks same (Err stop.Missing) kept = tt
 kept_round pod old mid new looks same (Err stop.NoManifest) kept = λ t. kept_more (kept_read pod (looks t)) same (kept t)

@@ -1,5 +1,6 @@
 -- A pod that is let be was looked at alone, of one that isn't there nothing was moved or removed, and of one that was moved nothing was removed.
 use Rattle.std.proofs.Common.{◌≡◌, ◌||◌, ℕ, Bool, true, false, not, refl, Result, Ok, Err, IfOk, IfErr, List, sym, ap, subst, ◌∙◌}
+use Rattle.plain_laws.proofs.Results.{err_all}
 use Rattle.dir_model.specs.declared.area.Area.{Area}
 use Rattle.dir_model.specs.declared.area.Area.TheVariants as area
 use Rattle.dir_model.specs.declared.event.Event.{Event}
@@ -21,12 +22,11 @@ use Rattle.pod_locks.proofs.Taking.{took_by, took_looks, took_more}
 use Rattle.pod_gc.specs.RemovalRequests.{is_garbage_place, puts_aside}
 use Rattle.pod_gc.specs.RemovalCauses.{BusyByLooks, MissedUntaken, BusyByPeeks}
 use Rattle.pod_gc.proofs.CallKinds.{looks_aside}
-use Rattle.pod_gc.proofs.Stages.{err_all}
 use Rattle.pod_gc.specs.declared.line.Deed.{Deed}
 use Rattle.pod_gc.specs.declared.line.Deed.TheVariants.{Moved, Busy, Left}
-use Rattle.pod_gc.specs.Requests.{lists_marks, looks_over, moves_on, may_be_busy}
+use Rattle.pod_gc.specs.Requests.{lists_marks, looks_over, puts_aside_only, may_be_busy}
 use Rattle.pod_gc.specs.Causes.{deed_of}
-use Rattle.pod_gc.specs.Deeds.{is_let_be, LetBeSo, LetBe}
+use Rattle.pod_gc.specs.Deeds.{is_let_be, TouchesAsDeedSays, LetBe}
 
 looks_also : (pod : PodId) (place : Area) (r : Request) → looks_at pod place r ≡ true → looks_over pod place r ≡ true
 looks_also pod place r is = or_last (lists_marks pod place r) (looks_at pod place r) is
@@ -34,24 +34,24 @@ looks_also pod place r is = or_last (lists_marks pod place r) (looks_at pod plac
 lists_also : (pod : PodId) (place : Area) (r : Request) → lists_marks pod place r ≡ true → looks_over pod place r ≡ true
 lists_also pod place r is = ap (λ b. b || looks_at pod place r) is
 
-lists_on : (pod : PodId) (place to : Area) (r : Request) → lists_marks pod place r ≡ true → moves_on pod place to r ≡ true
+lists_on : (pod : PodId) (place to : Area) (r : Request) → lists_marks pod place r ≡ true → puts_aside_only pod place to r ≡ true
 lists_on pod place to r is = ap (λ b. b || puts_aside pod place to r) is
 
-asides_on : (pod : PodId) (place to : Area) (r : Request) → puts_aside pod place to r ≡ true → moves_on pod place to r ≡ true
+asides_on : (pod : PodId) (place to : Area) (r : Request) → puts_aside pod place to r ≡ true → puts_aside_only pod place to r ≡ true
 asides_on pod place to r is = or_last (lists_marks pod place r) (puts_aside pod place to r) is
 
-looks_on : (pod : PodId) (place to : Area) (r : Request) → looks_at pod place r ≡ true → moves_on pod place to r ≡ true
+looks_on : (pod : PodId) (place to : Area) (r : Request) → looks_at pod place r ≡ true → puts_aside_only pod place to r ≡ true
 looks_on pod place to r is = asides_on pod place to r (looks_aside pod place to r is)
 
-pub moved_on : (pod : PodId) (place to : Area) {me : ℕ} {old new : List Event} → Extends (puts_aside pod place to) me old new → (other : Area) → Moved to ≡ Moved other → Extends (moves_on pod place other) me old new
+pub moved_on : (pod : PodId) (place to : Area) {me : ℕ} {old new : List Event} → Extends (puts_aside pod place to) me old new → (other : Area) → Moved to ≡ Moved other → Extends (puts_aside_only pod place other) me old new
 moved_on pod place to {me} {old} {new} x other is =
     let same : to ≡ other = cc in
-    subst (λ (p : Area). Extends (moves_on pod place p) me old new) same (extends_wider (asides_on pod place to) x)
+    subst (λ (p : Area). Extends (puts_aside_only pod place p) me old new) same (extends_wider (asides_on pod place to) x)
 
-pub let_moved : {pod : PodId} {place to : Area} {me : ℕ} {old new : List Event} → Extends (puts_aside pod place to) me old new → LetBeSo pod place (Moved to) me old new
+pub let_moved : {pod : PodId} {place to : Area} {me : ℕ} {old new : List Event} → Extends (puts_aside pod place to) me old new → TouchesAsDeedSays pod place (Moved to) me old new
 let_moved {pod} {place} {to} x = record { still = λ is. cc; left = λ is. cc; moved = λ other is. moved_on pod place to x other is; busy = λ which is. cc; own = λ which is. cc }
 
-pub let_left : {pod : PodId} {place : Area} {me : ℕ} {old new : List Event} → TookNothing me old new → LetBeSo pod place Left me old new
+pub let_left : {pod : PodId} {place : Area} {me : ℕ} {old new : List Event} → TookNothing me old new → TouchesAsDeedSays pod place Left me old new
 let_left took = record { still = λ is. cc; left = λ is. took; moved = λ to is. cc; busy = λ which is. cc; own = λ which is. cc }
 
 -- listings of its marks take nothing away
@@ -63,11 +63,11 @@ pub took_lists : {me : ℕ} {a b : List Event} (pod : PodId) (place : Area) → 
 took_lists pod place e = took_by (lists_spare pod place) e
 
 -- by looks, and no lock is named
-pub let_looked : {pod : PodId} {place : Area} {deed : Deed} {me : ℕ} {old new : List Event} → Extends (looks_at pod place) me old new → ((which : Which) → deed ≡ Busy which → ⊥) → LetBeSo pod place deed me old new
+pub let_looked : {pod : PodId} {place : Area} {deed : Deed} {me : ℕ} {old new : List Event} → Extends (looks_at pod place) me old new → ((which : Which) → deed ≡ Busy which → ⊥) → TouchesAsDeedSays pod place deed me old new
 let_looked {pod} {place} looks calm = record { still = λ is. extends_wider (looks_also pod place) looks; left = λ is. took_looks pod place looks; moved = λ to is. extends_wider (looks_on pod place to) looks; busy = λ which is. absurd (calm which is); own = λ which is. absurd (calm which is) }
 
 -- after its marks were listed
-pub let_listed : {pod : PodId} {place : Area} {deed : Deed} {me other : ℕ} {a b c : List Event} → Extends (lists_marks pod place) me a b → other ≡ me → LetBeSo pod place deed other b c → LetBeSo pod place deed me a c
+pub let_listed : {pod : PodId} {place : Area} {deed : Deed} {me other : ℕ} {a b c : List Event} → Extends (lists_marks pod place) me a b → other ≡ me → TouchesAsDeedSays pod place deed other b c → TouchesAsDeedSays pod place deed me a c
 let_listed {pod} {place} lists same x = record {
   still = λ is. and_more (extends_wider (lists_also pod place) lists) same (x.still is);
   left = λ is. took_more (took_lists pod place lists) same (x.left is);
@@ -109,7 +109,7 @@ module _ (observed : Bool) (pod : PodId) (place : Area) (done : Deed) (old new :
   never is = let clash : true ≡ false = sym is ∙ acts in cc
 
   pub step_let_be : (r : Result (Unit {0}) Setback) → IfErr r (λ e. BusyByLooks observed pod place e old new) → IfErr r (λ e. (which : Which) → e ≡ stop.Busy which → may_be_busy place ≡ true)
-      → IfErr r (λ e. BusyByOwn place e) → IfErr r (λ e. MissedUntaken observed e old new) → IfOk r (λ d. (to : Area) → done ≡ Moved to → observed ≡ true → ExtendsBy (moves_on pod place to) old new) → IfOk (deed_of r done) (λ deed. LetBe observed pod place deed old new)
+      → IfErr r (λ e. BusyByOwn place e) → IfErr r (λ e. MissedUntaken observed e old new) → IfOk r (λ d. (to : Area) → done ≡ Moved to → observed ≡ true → ExtendsBy (puts_aside_only pod place to) old new) → IfOk (deed_of r done) (λ deed. LetBe observed pod place deed old new)
   step_let_be (Ok d) looks places owns took moved = λ t. record { still = λ is. never is; left = λ is. absurd (goes is); moved = λ to is. moved to is t; busy = λ which is. never (ap is_let_be is); own = λ which is. never (ap is_let_be is) }
   step_let_be (Err stop.Missing) looks places owns took moved = λ t. let_left (took refl t)
   step_let_be (Err stop.NoManifest) looks places owns took moved = λ t. let_left (took refl t)

@@ -22,6 +22,7 @@ use Rattle.dir_rules.specs.declared.seen.Seen.{Seen}
 use Rattle.dir_rules.specs.Standing.{intends, is_gc}
 use Rattle.dir_rules.specs.Rules.{asks_for, is_old}
 use Rattle.dir_trait.specs.DirCalls.{DirAt, HeldBetween}
+use Rattle.dir_trait.specs.Effects.{Given}
 use Rattle.lifecycle.specs.Executions.{IsConforming}
 use Rattle.phase_read.specs.Read.{pod_spot, HasPhase}
 use Rattle.phase_read.specs.Exact.{AtOwnEvent, IsInPhase}
@@ -30,7 +31,7 @@ use Rattle.phase_read.proofs.Stages.{has_phase}
 use Rattle.pod_locks.proofs.Times.{at_part}
 use Rattle.pod_locks.proofs.Traces.{grown_none}
 use Rattle.pod_locks.specs.declared.setback.Setback.{Setback}
-use Rattle.pod_locks.specs.Holding.{KeepsReady, Stays}
+use Rattle.pod_locks.specs.Holding.{KeepsReady}
 use Rattle.pod_locks.specs.Causes.{IsAbsentAt}
 use Rattle.pod_locks.proofs.Calls.{Follows}
 use Rattle.pod_gc.specs.RemovalCauses.{StoppedAlone}
@@ -40,8 +41,8 @@ use Rattle.pod_gc.specs.declared.ages.Times.{Times}
 use Rattle.pod_gc.specs.declared.line.Deed.{Deed}
 use Rattle.pod_gc.specs.declared.line.Deed.TheVariants.{Kept}
 use Rattle.pod_gc.specs.Ages.{Showed, is_ripe}
-use Rattle.pod_gc.specs.Deeds.{IsGoneFrom, DeedCause, WaitsBy, WaitedSo, LeavesToAnother}
-use Rattle.pod_gc.specs.Sweeping.{MaySweep, NotesMark, Ripens}
+use Rattle.pod_gc.specs.Deeds.{IsGoneFrom, DeedCause, WaitsBy, WaitedByAge, LeavesToAnother}
+use Rattle.pod_gc.specs.Sweeping.{MaySweepPods, NotesMark, Ripens}
 use Rattle.pod_gc.proofs.Steps.{SetBackAt, cause_kept, deed_later, showed_longer, left_after}
 
 -- it may be discarded
@@ -61,7 +62,7 @@ pub may_ripen : {s : Seen} (pod : PodId) (created : Option ℕ) (now expire : �
 may_ripen pod None now expire ripe m = cc
 may_ripen {s} pod (Some moment) now expire ripe m = record { may = m.sweeps.may; asked = asked_by pod s.standing.intent s.created moment now expire m.sweeps.sweeps m.sweeps.may.moment m.noted ripe }
 
-pub ripens_noted : {now expire : ℕ} {s : Seen} {d : DirAt} (pod : PodId) (created : Option ℕ) → MaySweep now expire s → (x : NotesMark pod created s d) → Ripens pod created now expire x.known
+pub ripens_noted : {now expire : ℕ} {s : Seen} {d : DirAt} (pod : PodId) (created : Option ℕ) → MaySweepPods now expire s → (x : NotesMark pod created s d) → Ripens pod created now expire x.known
 ripens_noted {now} {expire} pod created m x = record {
   sweeps = record { may = may_kept x.keeps m.may; sweeps = ap (λ (o : Option Intent). intends (λ i. is_gc i.kind && (i.expire == expire)) o) x.keeps.intent ∙ m.sweeps };
   noted = x.noted;
@@ -93,7 +94,7 @@ pub waits_over : {ripe : Bool} (deed : Deed) → ripe ≡ true → ((p : Phase) 
 waits_over deed is ends = record { waits = λ p e. absurd (ends p e); goes = λ e. is; left = λ e. is }
 
 pub waited_so : {observed : Bool} {b c : DirAt} (times : Times) (pod : PodId) (a : DirAt) (m : Option ℕ) (deed : Deed) → observed ≡ true → Follows observed b c → Showed pod Prepared (codes "created-") m a.process a.trace b.trace → WaitsBy (is_ripe times.now times.expire m) deed
-    → WaitedSo times pod deed a.process a.trace c.trace
+    → WaitedByAge times pod deed a.process a.trace c.trace
 waited_so times pod a m deed t bc shows by = record {
   waits = λ p is. (m, showed_longer shows (bc.grown t), by.waits p is);
   ripe = λ is. (m, showed_longer shows (bc.grown t), by.goes is);
@@ -113,14 +114,14 @@ waited_deed pod a c deed t ab bc there (inr x) = deed_later c t ab (x t)
 
 -- what is known after both
 
-pub ready_waited : {now expire : ℕ} {a b c : DirAt} (pod : PodId) (created : Option ℕ) → Stays (MayRemove now) a (λ s. NotesMark pod created s b) → Stays (Ripens pod created now expire) b (λ s. KeepsReady s c) → Stays (MaySweep now expire) a (λ s. KeepsReady s c)
+pub ready_waited : {now expire : ℕ} {a b c : DirAt} (pod : PodId) (created : Option ℕ) → Given (MayRemove now) a (λ s. NotesMark pod created s b) → Given (Ripens pod created now expire) b (λ s. KeepsReady s c) → Given (MaySweepPods now expire) a (λ s. KeepsReady s c)
 ready_waited pod created notes ready s k m =
     let x = notes s k m.may in
     let y = ready x.known x.knows (ripens_noted pod created m x) in
     record { known = y.known; keeps = record { intent = y.keeps.intent ∙ x.keeps.intent; holdings = y.keeps.holdings ∙ x.keeps.holdings; kept = y.keeps.kept ∙ x.keeps.kept; bare = y.keeps.bare }; knows = y.knows }
 
-pub busy_waited : {observed : Bool} {now expire : ℕ} {place : Area} {a b : DirAt} (pod : PodId) (created : Option ℕ) (deed : Deed) (c : DirAt) → observed ≡ true → Follows observed a b → Stays (MayRemove now) a (λ s. NotesMark pod created s b)
-    → Stays (Ripens pod created now expire) b (λ s. LeavesToAnother pod place deed b c) → Stays (MaySweep now expire) a (λ s. LeavesToAnother pod place deed a c)
+pub busy_waited : {observed : Bool} {now expire : ℕ} {place : Area} {a b : DirAt} (pod : PodId) (created : Option ℕ) (deed : Deed) (c : DirAt) → observed ≡ true → Follows observed a b → Given (MayRemove now) a (λ s. NotesMark pod created s b)
+    → Given (Ripens pod created now expire) b (λ s. LeavesToAnother pod place deed b c) → Given (MaySweepPods now expire) a (λ s. LeavesToAnother pod place deed a c)
 busy_waited pod created deed c t ab notes busy s k m =
     let x = notes s k m.may in
     left_after (ab.grown t) ab.same (busy x.known x.knows (ripens_noted pod created m x))

@@ -1,23 +1,17 @@
 -- The moments of marks, and ages since them.
-use Rattle.std.specs.Prelude.{◌≡◌, ◌-◌, ◌&&◌, ℕ, Bool, false, cond, bytes_eq, nat_le, nat_lt, Option, Some, None, List, [], ◌∷◌, length, drop}
+use Rattle.std.specs.Prelude.{◌≡◌, ◌-◌, ℕ, Bool, false, nat_le, nat_lt, Option, Some, None, List, [], ◌∷◌}
 use Rattle.dir_model.specs.declared.area.Area.{Area}
 use Rattle.dir_model.specs.declared.event.Event.{Event}
 use Rattle.dir_model.specs.declared.item.Item.{Item}
 use Rattle.dir_model.specs.declared.pod.PodId.{PodId}
 use Rattle.dir_model.specs.Calls.{Extends}
-use Rattle.dir_rules.specs.Marks.{mark, number_of}
+use Rattle.dir_rules.specs.Marks.{mark_moment}
 use Rattle.dir_rules.specs.Rules.{root_of}
 use Rattle.dir_rules.specs.Seen.{later}
 use Rattle.dir_files.specs.Listed.{ShowsDirectory}
 use Rattle.phase_read.specs.Read.{pod_spot}
 use Rattle.pod_locks.specs.Work.{Grew}
 use Rattle.pod_gc.specs.Requests.{lists_marks}
-
--- the moment of a mark that begins with this text: its digits stand for a number of 64 bits
-abbrev pub mark_moment : List ℕ → List ℕ → Option ℕ
-mark_moment text name =
-    cond (bytes_eq name (mark text (number_of (drop (length text) name))) && nat_le (number_of (drop (length text) name)) 18446744073709551615)
-    (Some (number_of (drop (length text) name))) None
 
 -- the greatest moment of such marks among the items
 abbrev pub moment_among : List ℕ → List Item → Option ℕ

@@ -11,7 +11,7 @@ use Rattle.phase_read.specs.declared.found.LookError.TheVariants as look
 use Rattle.pod_locks.specs.declared.setback.Setback.{Setback}
 use Rattle.pod_locks.specs.declared.setback.Setback.TheVariants as stop
 use Rattle.dir_rules.specs.declared.seen.Seen.{Seen}
-use Rattle.pod_locks.specs.Causes.{WasStray, BreaksRules, ByApp}
+use Rattle.pod_locks.specs.Causes.{WasStrayStep, BreaksRules, ByApp}
 use Rattle.pod_gc.specs.declared.gc_error.GcError.{GcError}
 use Rattle.pod_gc.specs.declared.gc_error.GcError.TheVariants.{DirFault, Stray, NoMemory}
 use Rattle.pod_gc.specs.declared.line.Deed.{Deed}
@@ -47,12 +47,12 @@ deed_of (Err stop) deed = Err (step_fault stop)
 -- a sweep ends early for one of these causes
 pub record GcCause (observed : Bool) (error : GcError) (old new : DirAt) : Type 0 where
   pub fault : error ≡ DirFault → Rose old.faults new.faults
-  pub stray : error ≡ Stray → observed ≡ true → WasStray old.process old.trace new.trace
+  pub stray : error ≡ Stray → observed ≡ true → WasStrayStep old.process old.trace new.trace
 
 -- it is stray only where some process doesn't keep the local rules
-abbrev pub NeverStray : Bool → GcError → DirAt → Type 0
-NeverStray observed error new = error ≡ Stray → BreaksRules observed new
+abbrev pub GcNeverStray : Bool → GcError → DirAt → Type 0
+GcNeverStray observed error new = error ≡ Stray → BreaksRules observed new
 
 -- or only where a started app wrote on
-abbrev pub StrayByApp : Bool → GcError → (Seen → Type 0) → DirAt → DirAt → Type 0
-StrayByApp observed error May old new = error ≡ Stray → ByApp observed May old new
+abbrev pub GcStrayByApp : Bool → GcError → (Seen → Type 0) → DirAt → DirAt → Type 0
+GcStrayByApp observed error May old new = error ≡ Stray → ByApp observed May old new

@@ -18,19 +18,19 @@ use Rattle.dir_model.specs.State.{DirState, stands}
 use Rattle.dir_rules.specs.declared.seen.Seen.{Seen}
 use Rattle.dir_rules.specs.Standing.{is_in}
 use Rattle.dir_trait.specs.DirCalls.{DirAt, HeldBetween}
+use Rattle.dir_trait.specs.Effects.{Given}
 use Rattle.lifecycle.specs.Executions.{IsConforming}
 use Rattle.phase_read.specs.Read.{pod_spot}
 use Rattle.phase_read.specs.Exact.{AtOwnEvent, IsInPhase}
 use Rattle.pod_locks.specs.Elsewhere.{is_owned_phase, IsOwnedElsewhere}
-use Rattle.pod_locks.specs.Holding.{Stays}
-use Rattle.pod_locks.specs.Causes.{IsAbsentAt, CannotOpenAt, Did, HeldByAnother, FreeOfOthers}
+use Rattle.pod_locks.specs.Causes.{IsAbsentAt, CannotOpenAt, Did, PodHeldByAnother, FreeOfOthers}
 use Rattle.pod_locks.specs.Taking.{TookNothing}
 use Rattle.pod_gc.specs.RemovalRequests.{is_garbage_place}
 use Rattle.pod_gc.specs.RemovalCauses.{MarkedFirst, asked_mode as asked_in_prepared}
 use Rattle.pod_gc.specs.declared.ages.Times.{Times}
 use Rattle.pod_gc.specs.declared.line.Deed.{Deed}
 use Rattle.pod_gc.specs.declared.line.Deed.TheVariants.{Moved, Deleted, Kept, Busy, BusyGate, Left}
-use Rattle.pod_gc.specs.Requests.{goes_to, moves_pods, lets_be, looks_over, moves_on, may_be_busy}
+use Rattle.pod_gc.specs.Requests.{goes_to, moves_pods, lets_be, looks_over, puts_aside_only, may_be_busy}
 use Rattle.pod_gc.specs.Ages.{Showed, is_young, is_ripe}
 
 -- the pod, or in prepared its file `pod`, isn't at this place
@@ -91,14 +91,14 @@ ShowedAge pod place text has_age is_so me old new = (m : Option ℕ) × Showed p
 
 -- what the ages say: a prepared pod waits where it has no created mark or its time isn't over; it is moved, called busy, or said to have
 -- left once it was listed, only where it is
-pub record WaitedSo (times : Times) (pod : PodId) (deed : Deed) (me : ℕ) (old new : List Event) : Type 0 where
+pub record WaitedByAge (times : Times) (pod : PodId) (deed : Deed) (me : ℕ) (old new : List Event) : Type 0 where
   pub waits : (phase : Phase) → deed ≡ Kept phase → ShowedAge pod area.Prepared (codes "created-") (is_ripe times.now times.expire) false me old new
   pub ripe : is_tried deed ≡ true → ShowedAge pod area.Prepared (codes "created-") (is_ripe times.now times.expire) true me old new
   pub left : deed ≡ Left → AtOwnStep me old new (IsAbsentAt pod area.Prepared) ⊎ ShowedAge pod area.Prepared (codes "created-") (is_ripe times.now times.expire) true me old new
 
 -- an exited one rests in exited-garbage only where its time isn't over, and is deleted or called busy only where it is or where it has no
 -- mark
-pub record RestedSo (times : Times) (pod : PodId) (deed : Deed) (me : ℕ) (old new : List Event) : Type 0 where
+pub record RestedByAge (times : Times) (pod : PodId) (deed : Deed) (me : ℕ) (old new : List Event) : Type 0 where
   pub rests : (phase : Phase) → deed ≡ Kept phase → ShowedAge pod area.ExitedGarbage (codes "marked-") (is_young times.now times.grace) true me old new
   pub over : is_tried deed ≡ true → ShowedAge pod area.ExitedGarbage (codes "marked-") (is_young times.now times.grace) false me old new
 
@@ -111,19 +111,19 @@ is_let_be _ = false
 -- a pod that is let be was looked at alone, of one that isn't there nothing was moved or removed, and of one that was moved nothing was
 -- removed; and a pod is said to be busy only where that tells nothing of its phase, in a garbage place by its own
 -- lock
-pub record LetBeSo (pod : PodId) (place : Area) (deed : Deed) (me : ℕ) (old new : List Event) : Type 0 where
+pub record TouchesAsDeedSays (pod : PodId) (place : Area) (deed : Deed) (me : ℕ) (old new : List Event) : Type 0 where
   pub still : is_let_be deed ≡ true → Extends (looks_over pod place) me old new
   pub left : deed ≡ Left → TookNothing me old new
-  pub moved : (to : Area) → deed ≡ Moved to → Extends (moves_on pod place to) me old new
+  pub moved : (to : Area) → deed ≡ Moved to → Extends (puts_aside_only pod place to) me old new
   pub busy : (which : Which) → deed ≡ Busy which → may_be_busy place ≡ true
   pub own : (which : Which) → deed ≡ Busy which → is_garbage_place place ≡ true → which ≡ Own
 
 -- a deed, what it rests on, that the pod wasn't touched where it is let be, and what the ages say of it
 pub record Dealt (times : Times) (pod : PodId) (place : Area) (deed : Deed) (me : ℕ) (old new : List Event) : Type 0 where
   pub cause : DeedCause pod place deed me old new
-  pub let_be : LetBeSo pod place deed me old new
-  pub waited : place ≡ area.Prepared → WaitedSo times pod deed me old new
-  pub rested : place ≡ area.ExitedGarbage → RestedSo times pod deed me old new
+  pub let_be : TouchesAsDeedSays pod place deed me old new
+  pub waited : place ≡ area.Prepared → WaitedByAge times pod deed me old new
+  pub rested : place ≡ area.ExitedGarbage → RestedByAge times pod deed me old new
   pub marked : place ≡ area.Run → (to : Area) → deed ≡ Moved to → MarkedFirst pod times.now me old new
 
 -- by that age
@@ -150,14 +150,14 @@ abbrev pub busy_mode : Area → Which → Mode
 busy_mode area.Prepared which = asked_in_prepared which
 busy_mode place which = Exclusive
 
-abbrev pub asked_mode : Area → Deed → Mode
-asked_mode place (Busy which) = busy_mode place which
-asked_mode place deed = Shared
+abbrev pub mode_of_deed : Area → Deed → Mode
+mode_of_deed place (Busy which) = busy_mode place which
+mode_of_deed place deed = Shared
 
 -- where a lock was refused at this place, another process held it; and where the pod is kept for a phase that has an owner, another process
 -- was that by the pod's history, in a conforming execution
 pub record LeftToAnother (pod : PodId) (place : Area) (deed : Deed) (me : ℕ) (old new : List Event) : Type 0 where
-  pub held : (which : Which) → refused_lock deed ≡ Some which → HeldByAnother pod place which (asked_mode place deed) me old new
+  pub held : (which : Which) → refused_lock deed ≡ Some which → PodHeldByAnother pod place which (mode_of_deed place deed) me old new
   pub owner : IsConforming new → (phase : Phase) → deed ≡ Kept phase → is_owned_phase phase ≡ true → AtOwnEvent me old new (IsOwnedElsewhere me pod phase place)
 
 abbrev pub LeavesToAnother : PodId → Area → Deed → DirAt → DirAt → Type 0
@@ -168,8 +168,8 @@ abbrev pub MarksFirst : PodId → ℕ → Deed → DirAt → DirAt → Type 0
 MarksFirst pod now deed old new = (to : Area) → deed ≡ Moved to → MarkedFirst pod now old.process old.trace new.trace
 
 -- and where that is known of a process that may do so
-abbrev pub LeavesWhere : Bool → (Seen → Type 0) → PodId → Area → Deed → DirAt → DirAt → Type 0
-LeavesWhere observed May pod place deed old new = observed ≡ true → Stays May old (λ s. LeavesToAnother pod place deed old new)
+abbrev pub LeavesIfObserved : Bool → (Seen → Type 0) → PodId → Area → Deed → DirAt → DirAt → Type 0
+LeavesIfObserved observed May pod place deed old new = observed ≡ true → Given May old (λ s. LeavesToAnother pod place deed old new)
 
 -- what is done with a prepared pod once its marks were listed: it is kept for its age, or what was done has its cause
 abbrev pub WaitsOr : Bool → PodId → Deed → DirAt → DirAt → Type 0
@@ -177,4 +177,4 @@ WaitsOr observed pod deed old new = (deed ≡ Kept kind.Prepared) ⊎ (observed 
 
 -- a pod was let be so, where the trace is observed
 abbrev pub LetBe : Bool → PodId → Area → Deed → DirAt → DirAt → Type 0
-LetBe observed pod place deed old new = observed ≡ true → LetBeSo pod place deed old.process old.trace new.trace
+LetBe observed pod place deed old new = observed ≡ true → TouchesAsDeedSays pod place deed old.process old.trace new.trace

@@ -15,17 +15,17 @@ use Rattle.dir_model.specs.Calls.{Extends, AtOwnStep}
 use Rattle.dir_model.specs.Replies.{is_look_at}
 use Rattle.dir_trait.specs.DirCalls.{DirAt}
 use Rattle.phase_read.specs.declared.found.Found.TheVariants.{At}
-use Rattle.phase_read.specs.Read.{pod_spot, is_pod_spot, IsReading}
+use Rattle.phase_read.specs.Read.{pod_spot, is_pod_spot, IsPhaseReading}
 use Rattle.pod_locks.specs.Work.{Grew}
 use Rattle.pod_locks.specs.declared.setback.Setback.{Setback}
 use Rattle.pod_locks.specs.declared.setback.Setback.TheVariants.{Missing, Busy}
-use Rattle.pod_locks.specs.Causes.{IsAbsentAt, Did, HeldByAnother, FreeOfOthers}
+use Rattle.pod_locks.specs.Causes.{IsAbsentAt, Did, PodHeldByAnother, FreeOfOthers}
 use Rattle.pod_locks.specs.Taking.{TookNothing}
 use Rattle.pod_gc.specs.declared.attempt.Round.{Round}
 use Rattle.pod_gc.specs.declared.attempt.Round.TheVariants as round
 use Rattle.pod_gc.specs.declared.remove_error.RemoveError.{RemoveError}
 use Rattle.pod_gc.specs.declared.remove_error.RemoveError.TheVariants as error
-use Rattle.pod_gc.specs.RemovalRequests.{is_removable, aside, place_of, puts_aside}
+use Rattle.pod_gc.specs.RemovalRequests.{is_removable, aside, area_of_phase, puts_aside}
 use Rattle.pod_gc.specs.RemovalCauses.{asked_mode}
 
 -- a pod in this phase is moved to the place where it is deleted
@@ -36,15 +36,15 @@ is_moved kind.Exited = true
 is_moved _ = false
 
 -- of a prepared pod: its activation lock could be opened, and later no other process held it
-abbrev pub HadClaim : PodId → Phase → ℕ → List Event → List Event → Type 0
-HadClaim pod phase me old new = phase ≡ kind.Prepared → FreeOfOthers pod Prepared Claim Exclusive me old new
+abbrev pub ClaimWasFree : PodId → Phase → ℕ → List Event → List Event → Type 0
+ClaimWasFree pod phase me old new = phase ≡ kind.Prepared → FreeOfOthers pod Prepared Claim Exclusive me old new
 
 -- it was brought to the place where it is deleted: nothing was asked for but looks, marks and its move; or it stood there, and nothing was asked for
 pub record PutAway (pod : PodId) (phase : Phase) (me : ℕ) (old new : List Event) : Type 0 where
-  pub moved : is_moved phase ≡ true → Did (MoveFolder (pod_spot pod (place_of phase)) (pod_spot pod (aside phase))) Done me old new
-  pub only : is_moved phase ≡ true → Extends (puts_aside pod (place_of phase) (aside phase)) me old new
+  pub moved : is_moved phase ≡ true → Did (MoveFolder (pod_spot pod (area_of_phase phase)) (pod_spot pod (aside phase))) Done me old new
+  pub only : is_moved phase ≡ true → Extends (puts_aside pod (area_of_phase phase) (aside phase)) me old new
   pub still : is_moved phase ≡ false → new ≡ old
-  pub claimed : HadClaim pod phase me old new
+  pub claimed : ClaimWasFree pod phase me old new
 
 -- and deleted there: its own lock could be opened, and later no other process held it
 pub record TakenAway (pod : PodId) (phase : Phase) (me : ℕ) (old new : List Event) : Type 0 where
@@ -59,23 +59,23 @@ pub record MissedAt (pod : PodId) (place : Area) (me : ℕ) (old new : List Even
 
 -- it was missing where it stood, or where it had been brought to
 abbrev pub WasMissed : PodId → Phase → ℕ → List Event → List Event → Type 0
-WasMissed pod phase me old new = MissedAt pod (place_of phase) me old new ⊎ ((between : List Event) × PutAway pod phase me old between × MissedAt pod (aside phase) me between new)
+WasMissed pod phase me old new = MissedAt pod (area_of_phase phase) me old new ⊎ ((between : List Event) × PutAway pod phase me old between × MissedAt pod (aside phase) me between new)
 
 -- another process held this lock of it where it stood
 pub record RefusedAt (pod : PodId) (phase : Phase) (which : Which) (me : ℕ) (old new : List Event) : Type 0 where
   pub waits : which ≡ Claim → phase ≡ kind.Prepared
-  pub claimed : which ≡ Own → HadClaim pod phase me old new
-  pub held : HeldByAnother pod (place_of phase) which (asked_mode which) me old new
+  pub claimed : which ≡ Own → ClaimWasFree pod phase me old new
+  pub held : PodHeldByAnother pod (area_of_phase phase) which (asked_mode which) me old new
 
 -- or its own lock where it had been brought to
 pub record RefusedAside (pod : PodId) (phase : Phase) (which : Which) (me : ℕ) (old new : List Event) : Type 0 where
   pub own : which ≡ Own
   pub between : List Event
   pub put : PutAway pod phase me old between
-  pub held : HeldByAnother pod (aside phase) Own Exclusive me between new
+  pub held : PodHeldByAnother pod (aside phase) Own Exclusive me between new
 
-abbrev pub WasRefused : PodId → Which → Phase → ℕ → List Event → List Event → Type 0
-WasRefused pod which phase me old new = RefusedAt pod phase which me old new ⊎ RefusedAside pod phase which me old new
+abbrev pub LockWasRefused : PodId → Which → Phase → ℕ → List Event → List Event → Type 0
+LockWasRefused pod which phase me old new = RefusedAt pod phase which me old new ⊎ RefusedAside pod phase which me old new
 
 -- a read found the pod in a phase that allows its removal, by looks alone, and then this came of it
 pub record FoundAnd (pod : PodId) (P : Phase → ℕ → List Event → List Event → Type 0) (me : ℕ) (old new : List Event) : Type 0 where
@@ -83,7 +83,7 @@ pub record FoundAnd (pod : PodId) (P : Phase → ℕ → List Event → List Eve
   pub phase : Phase
   pub area : Area
   pub removable : is_removable phase ≡ true
-  pub read : IsReading me old between pod (At phase area)
+  pub read : IsPhaseReading me old between pod (At phase area)
   pub looks : Extends (is_look_at (is_pod_spot pod)) me old between
   pub so : P phase me between new
 
@@ -94,7 +94,7 @@ RoundWent pod round.Removed old new = FoundAnd pod (TakenAway pod) old.process o
 RoundWent pod round.Missed old new = FoundAnd pod (WasMissed pod) old.process old.trace new.trace
 
 abbrev pub RoundRefused : PodId → RemoveError → DirAt → DirAt → Type 0
-RoundRefused pod e old new = (which : Which) → e ≡ error.Busy pod which → FoundAnd pod (WasRefused pod which) old.process old.trace new.trace
+RoundRefused pod e old new = (which : Which) → e ≡ error.Busy pod which → FoundAnd pod (LockWasRefused pod which) old.process old.trace new.trace
 
 -- the pod was missed in the first round
 pub record MissedFirst (pod : PodId) (me : ℕ) (old new : List Event) : Type 0 where
@@ -110,24 +110,24 @@ abbrev pub RemovedFirst : PodId → DirAt → DirAt → Type 0
 RemovedFirst pod old new = FirstOrMissed pod (TakenAway pod) old.process old.trace new.trace
 
 abbrev pub RefusedFirst : PodId → RemoveError → DirAt → DirAt → Type 0
-RefusedFirst pod e old new = (which : Which) → e ≡ error.Busy pod which → FirstOrMissed pod (WasRefused pod which) old.process old.trace new.trace
+RefusedFirst pod e old new = (which : Which) → e ≡ error.Busy pod which → FirstOrMissed pod (LockWasRefused pod which) old.process old.trace new.trace
 
 -- of the steps
 
-abbrev pub PutWhere : Bool → PodId → Phase → DirAt → DirAt → Type 0
-PutWhere observed pod phase old new = observed ≡ true → PutAway pod phase old.process old.trace new.trace
+abbrev pub PutAwayIfObserved : Bool → PodId → Phase → DirAt → DirAt → Type 0
+PutAwayIfObserved observed pod phase old new = observed ≡ true → PutAway pod phase old.process old.trace new.trace
 
-abbrev pub TakenWhere : Bool → PodId → Phase → DirAt → DirAt → Type 0
-TakenWhere observed pod phase old new = observed ≡ true → TakenAway pod phase old.process old.trace new.trace
+abbrev pub TakenAwayIfObserved : Bool → PodId → Phase → DirAt → DirAt → Type 0
+TakenAwayIfObserved observed pod phase old new = observed ≡ true → TakenAway pod phase old.process old.trace new.trace
 
-abbrev pub MissedHere : Bool → PodId → Phase → Setback → DirAt → DirAt → Type 0
-MissedHere observed pod phase stop old new = stop ≡ Missing → observed ≡ true → MissedAt pod (place_of phase) old.process old.trace new.trace
+abbrev pub MissedAtItsArea : Bool → PodId → Phase → Setback → DirAt → DirAt → Type 0
+MissedAtItsArea observed pod phase stop old new = stop ≡ Missing → observed ≡ true → MissedAt pod (area_of_phase phase) old.process old.trace new.trace
 
-abbrev pub MissedWhere : Bool → PodId → Phase → Setback → DirAt → DirAt → Type 0
-MissedWhere observed pod phase stop old new = stop ≡ Missing → observed ≡ true → WasMissed pod phase old.process old.trace new.trace
+abbrev pub MissedThereOrAside : Bool → PodId → Phase → Setback → DirAt → DirAt → Type 0
+MissedThereOrAside observed pod phase stop old new = stop ≡ Missing → observed ≡ true → WasMissed pod phase old.process old.trace new.trace
 
-abbrev pub RefusedHere : PodId → Phase → Setback → DirAt → DirAt → Type 0
-RefusedHere pod phase stop old new = (which : Which) → stop ≡ Busy which → RefusedAt pod phase which old.process old.trace new.trace
+abbrev pub RefusedAtItsArea : PodId → Phase → Setback → DirAt → DirAt → Type 0
+RefusedAtItsArea pod phase stop old new = (which : Which) → stop ≡ Busy which → RefusedAt pod phase which old.process old.trace new.trace
 
-abbrev pub RefusedWhere : PodId → Phase → Setback → DirAt → DirAt → Type 0
-RefusedWhere pod phase stop old new = (which : Which) → stop ≡ Busy which → WasRefused pod which phase old.process old.trace new.trace
+abbrev pub RefusedThereOrAside : PodId → Phase → Setback → DirAt → DirAt → Type 0
+RefusedThereOrAside pod phase stop old new = (which : Which) → stop ≡ Busy which → LockWasRefused pod which phase old.process old.trace new.trace

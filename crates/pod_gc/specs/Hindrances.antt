@@ -16,7 +16,7 @@ use Rattle.dir_model.specs.Trees.{has_file}
 use Rattle.lifecycle.specs.PodMachine.{pod_phase, pod_owner}
 use Rattle.phase_read.specs.Read.{pod_spot}
 use Rattle.pod_locks.specs.ClaimCauses.{is_held_elsewhere}
-use Rattle.pod_locks.specs.Causes.{WasStray}
+use Rattle.pod_locks.specs.Causes.{WasStrayStep}
 use Rattle.pod_gc.specs.declared.remove_error.RemoveError.{RemoveError}
 use Rattle.pod_gc.specs.declared.remove_error.RemoveError.TheVariants.{DirFault, Stray, NoMemory}
 use Rattle.pod_gc.specs.RemovalRequests.{is_removable}
@@ -48,5 +48,5 @@ IsUnhinderedThroughout pod me old new = (before later rest : List Event) (step :
     → is_foreign me step ≡ false → IsUnhindered pod me old (before ++ step ∷ [])
 
 -- the directory failed, memory ran out, or an own answer was one that what the locks keep doesn't explain
-abbrev pub IsFailure : RemoveError → ℕ → List Event → List Event → Type 0
-IsFailure error me old new = (error ≡ DirFault) ⊎ ((error ≡ NoMemory) ⊎ ((error ≡ Stray) × WasStray me old new))
+abbrev pub IsRemovalFailure : RemoveError → ℕ → List Event → List Event → Type 0
+IsRemovalFailure error me old new = (error ≡ DirFault) ⊎ ((error ≡ NoMemory) ⊎ ((error ≡ Stray) × WasStrayStep me old new))

@@ -20,23 +20,23 @@ use Rattle.dir_model.specs.State.{DirState, folder_at, stands}
 use Rattle.dir_model.specs.Trees.{has_any}
 use Rattle.dir_rules.specs.Marks.{marked_mark}
 use Rattle.dir_trait.specs.DirCalls.{DirAt, ExtendsBy, HeldBetween}
-use Rattle.folder_removal.specs.Removal.{EndsStray}
+use Rattle.folder_removal.specs.Removal.{EndsWithStrayDeletion}
 use Rattle.phase_read.specs.Read.{pod_spot}
 use Rattle.pod_locks.specs.declared.setback.Setback.{Setback}
 use Rattle.pod_locks.specs.declared.setback.Setback.TheVariants.{Missing, NoManifest, Busy, DirFault, Stray, NoMemory}
 use Rattle.pod_locks.specs.ClaimCauses.{OpensOwnAlone}
-use Rattle.pod_locks.specs.Requests.{looks_at, peeks_at, moves}
-use Rattle.pod_locks.specs.Causes.{IsAbsentAt, Did, WasStray, HeldByAnother}
+use Rattle.pod_locks.specs.Requests.{looks_at, peeks_at, moves_pod}
+use Rattle.pod_locks.specs.Causes.{IsAbsentAt, Did, WasStrayStep, PodHeldByAnother}
 use Rattle.pod_locks.specs.Taking.{TakesNothing}
-use Rattle.pod_gc.specs.RemovalRequests.{aside, place_of}
+use Rattle.pod_gc.specs.RemovalRequests.{aside, area_of_phase}
 
 -- it doesn't stand where one with this phase does, or not where such a pod is put aside
 abbrev pub MissedOnTheWay : PodId → Phase → DirState → Type 0
-MissedOnTheWay pod phase s = IsAbsentAt pod (place_of phase) s ⊎ IsAbsentAt pod (aside phase) s
+MissedOnTheWay pod phase s = IsAbsentAt pod (area_of_phase phase) s ⊎ IsAbsentAt pod (aside phase) s
 
 -- it deleted the pod, in a garbage place
-abbrev pub IsDeleted : PodId → ℕ → List Event → List Event → Type 0
-IsDeleted pod me old new = Did (RemoveFolder (pod_spot pod ExitedGarbage)) Done me old new ⊎ Did (RemoveFolder (pod_spot pod Garbage)) Done me old new
+abbrev pub HasDeletedPod : PodId → ℕ → List Event → List Event → Type 0
+HasDeletedPod pod me old new = Did (RemoveFolder (pod_spot pod ExitedGarbage)) Done me old new ⊎ Did (RemoveFolder (pod_spot pod Garbage)) Done me old new
 
 -- nothing but that the pod is missing or has no manifest, or that the look failed
 abbrev pub is_look_setback : Setback → Bool
@@ -56,10 +56,10 @@ is_missing _ = false
 pub record StoppedDeleting (observed : Bool) (spot : Spot) (stop : Setback) (old new : DirAt) : Type 0 where
   pub fault : stop ≡ DirFault → Rose old.faults new.faults
   pub there : is_missing stop ≡ false
-  pub stray : stop ≡ Stray → observed ≡ true → EndsStray spot old new
+  pub stray : stop ≡ Stray → observed ≡ true → EndsWithStrayDeletion spot old new
 
 -- the folder stands in prepared, or it doesn't: where Claim couldn't be opened
-pub record StopsAlone (observed : Bool) (pod : PodId) (stop : Setback) (old new : DirAt) : Type 0 where
+pub record RemovalStopsAlone (observed : Bool) (pod : PodId) (stop : Setback) (old new : DirAt) : Type 0 where
   pub calm : is_look_setback stop ≡ true
   pub fault : stop ≡ DirFault → Rose old.faults new.faults
   pub missing : stop ≡ Missing → observed ≡ true → HeldBetween old new (IsAbsentAt pod Prepared)
@@ -70,7 +70,7 @@ pub record StoppedAlone (observed : Bool) (pod : PodId) (stop : Setback) (old ne
   pub fault : stop ≡ DirFault → Rose old.faults new.faults
   pub missing : stop ≡ Missing → observed ≡ true → HeldBetween old new (IsAbsentAt pod Prepared)
   pub manifest : stop ≡ NoManifest → observed ≡ true → OpensOwnAlone pod old.process old.trace new.trace
-  pub stray : stop ≡ Stray → observed ≡ true → WasStray old.process old.trace new.trace
+  pub stray : stop ≡ Stray → observed ≡ true → WasStrayStep old.process old.trace new.trace
 
 -- why a pod that was found with this phase wasn't taken away
 pub record StoppedFound (observed : Bool) (pod : PodId) (phase : Phase) (stop : Setback) (old new : DirAt) : Type 0 where
@@ -78,7 +78,7 @@ pub record StoppedFound (observed : Bool) (pod : PodId) (phase : Phase) (stop : 
   pub missing : stop ≡ Missing → observed ≡ true → HeldBetween old new (MissedOnTheWay pod phase)
   pub prepared : stop ≡ NoManifest → phase ≡ kind.Prepared
   pub manifest : stop ≡ NoManifest → observed ≡ true → OpensOwnAlone pod old.process old.trace new.trace
-  pub stray : stop ≡ Stray → observed ≡ true → WasStray old.process old.trace new.trace
+  pub stray : stop ≡ Stray → observed ≡ true → WasStrayStep old.process old.trace new.trace
 
 -- Claim is asked for exclusively, and Own under it shared
 abbrev pub asked_mode : Which → Mode
@@ -86,14 +86,14 @@ asked_mode Claim = Exclusive
 asked_mode Own = Shared
 
 abbrev pub BusyInPrepared : PodId → Setback → DirAt → DirAt → Type 0
-BusyInPrepared pod stop old new = (which : Which) → stop ≡ Busy which → HeldByAnother pod Prepared which (asked_mode which) old.process old.trace new.trace
+BusyInPrepared pod stop old new = (which : Which) → stop ≡ Busy which → PodHeldByAnother pod Prepared which (asked_mode which) old.process old.trace new.trace
 
 -- at one of its places and in some mode
 pub record IsBusyAt (pod : PodId) (which : Which) (me : ℕ) (old new : List Event) : Type 0 where
   pub area : Area
   pub stage : is_stage area ≡ true
   pub mode : Mode
-  pub held : HeldByAnother pod area which mode me old new
+  pub held : PodHeldByAnother pod area which mode me old new
 
 abbrev pub BusyAny : PodId → Setback → DirAt → DirAt → Type 0
 BusyAny pod stop old new = (which : Which) → stop ≡ Busy which → IsBusyAt pod which old.process old.trace new.trace
@@ -119,7 +119,7 @@ pub record MarkedFirst (pod : PodId) (now : ℕ) (me : ℕ) (old new : List Even
   pub folder : ℕ
   pub between : List Event
   pub marked : AtOwnStep me old between (IsMarkedIn pod now folder)
-  pub only : Extends (moves pod Run ExitedGarbage) me between new
+  pub only : Extends (moves_pod pod Run ExitedGarbage) me between new
 
 -- where it was so, nothing was moved or removed
 abbrev pub MissedUntaken : Bool → Setback → DirAt → DirAt → Type 0

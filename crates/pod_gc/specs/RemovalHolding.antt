@@ -18,7 +18,7 @@ use Rattle.dir_trait.specs.DirCalls.{DirAt}
 use Rattle.dir_trait.specs.Knowledge.{Knows}
 use Rattle.phase_read.specs.Read.{pod_spot}
 use Rattle.pod_locks.specs.ClaimHolding.{is_on_folder}
-use Rattle.pod_locks.specs.Holding.{with_lock, is_in_garbage, IsBare, Keeps}
+use Rattle.pod_locks.specs.Holding.{with_pod_lock, is_in_garbage, IsBare, KeepsHoldings}
 
 -- a process that began as one that removes pods at this moment, and has no folder in hand
 pub record MayRemove (now : ℕ) (s : Seen) : Type 0 where
@@ -28,12 +28,12 @@ pub record MayRemove (now : ℕ) (s : Seen) : Type 0 where
   pub bare : IsBare s
 
 -- it is asked for the pod's removal, whatever it has listed
-abbrev pub Asks : PodId → Seen → Type 0
-Asks pod s = intends (λ i. asks_for i.kind i [] (pod_text pod.bytes)) s.standing.intent ≡ true
+abbrev pub AsksForRemoval : PodId → Seen → Type 0
+AsksForRemoval pod s = intends (λ i. asks_for i.kind i [] (pod_text pod.bytes)) s.standing.intent ≡ true
 
 pub record MayRemovePod (pod : PodId) (now : ℕ) (s : Seen) : Type 0 where
   pub may : MayRemove now s
-  pub asks : Asks pod s
+  pub asks : AsksForRemoval pod s
 
 -- or by the mark that it has listed
 pub record MayDiscard (pod : PodId) (now : ℕ) (s : Seen) : Type 0 where
@@ -46,7 +46,7 @@ pub record UnderClaim (pod : PodId) (now : ℕ) (s : Seen) : Type 0 where
   pub base : Seen
   pub may : MayDiscard pod now base
   pub fresh : is_known claim base.standing ≡ false
-  pub is : s ≡ with_lock pod Prepared Claim claim base
+  pub is : s ≡ with_pod_lock pod Prepared Claim claim base
 
 -- or with its Own held by an open in a garbage place
 pub record HasOwn (pod : PodId) (area : Area) (s : Seen) : Type 0 where
@@ -55,7 +55,7 @@ pub record HasOwn (pod : PodId) (area : Area) (s : Seen) : Type 0 where
   pub apart : list_any is_on_folder base.standing.holdings ≡ false
   pub bare : IsBare base
   pub fresh : is_known own base.standing ≡ false
-  pub is : s ≡ with_lock pod area Own own base
+  pub is : s ≡ with_pod_lock pod area Own own base
 
 -- it may mark the pod in run, where it had its Own shared
 pub record MayMark (pod : PodId) (now : ℕ) (s : Seen) : Type 0 where
@@ -68,7 +68,7 @@ pub record MayMark (pod : PodId) (now : ℕ) (s : Seen) : Type 0 where
 -- and it has marked the pod
 pub record Marked (pod : PodId) (s : Seen) (new : DirAt) : Type 0 where
   pub known : Seen
-  pub keeps : Keeps s known
+  pub keeps : KeepsHoldings s known
   pub standing : known.standing ≡ s.standing
   pub marked : list_any (spot_eq (pod_spot pod Run)) known.marked ≡ true
   pub knows : Knows new known

@@ -9,9 +9,9 @@ use Rattle.dir_model.specs.declared.request.Request.{Request}
 use Rattle.dir_model.specs.declared.request.Request.TheVariants.{Open, TryLock, Close, MoveFolder, MakeFileIn}
 use Rattle.dir_model.specs.State.{spot_eq}
 use Rattle.dir_rules.specs.Marks.{marked_mark}
-use Rattle.folder_removal.specs.Removal.{deletes_at}
+use Rattle.folder_removal.specs.Removal.{asks_deletion_at}
 use Rattle.phase_read.specs.Read.{pod_spot, is_pod_spot}
-use Rattle.pod_locks.specs.Requests.{looks_at, moves}
+use Rattle.pod_locks.specs.Requests.{looks_at, moves_pod}
 
 -- a pod in this phase may be removed: nobody makes, runs or deletes it
 abbrev pub is_removable : Phase → Bool
@@ -29,12 +29,12 @@ aside phase.ExitedGarbage = ExitedGarbage
 aside _ = Garbage
 
 -- the place where it stands
-abbrev pub place_of : Phase → Area
-place_of phase.AbortedPrepare = Prepare
-place_of phase.Prepared = Prepared
-place_of phase.Exited = Run
-place_of phase.ExitedGarbage = ExitedGarbage
-place_of _ = Garbage
+abbrev pub area_of_phase : Phase → Area
+area_of_phase phase.AbortedPrepare = Prepare
+area_of_phase phase.Prepared = Prepared
+area_of_phase phase.Exited = Run
+area_of_phase phase.ExitedGarbage = ExitedGarbage
+area_of_phase _ = Garbage
 
 abbrev pub is_garbage_place : Area → Bool
 is_garbage_place ExitedGarbage = true
@@ -48,16 +48,16 @@ marks_at pod now _ = false
 
 -- it is looked for and deleted at this place
 abbrev pub deletes_in : PodId → Area → Request → Bool
-deletes_in pod area request = looks_at pod area request || deletes_at (pod_spot pod area) request
+deletes_in pod area request = looks_at pod area request || asks_deletion_at (pod_spot pod area) request
 
 -- it goes to a garbage place, from each place whence it may
 abbrev pub goes_aside : PodId → Request → Bool
-goes_aside pod request = moves pod Prepare Garbage request || (moves pod Prepared Garbage request || moves pod Run ExitedGarbage request)
+goes_aside pod request = moves_pod pod Prepare Garbage request || (moves_pod pod Prepared Garbage request || moves_pod pod Run ExitedGarbage request)
 
 -- it is looked at here, a file is made in its folder, and it is moved there: nothing of it is removed
 abbrev pub puts_aside : PodId → Area → Area → Request → Bool
 puts_aside pod from to (MakeFileIn inner) = spot_eq (pod_spot pod from) inner.spot
-puts_aside pod from to (MoveFolder here there) = moves pod from to (MoveFolder here there)
+puts_aside pod from to (MoveFolder here there) = moves_pod pod from to (MoveFolder here there)
 puts_aside pod from to request = looks_at pod from request
 
 -- looks at its locations, locks there, its moves to a garbage place, its mark, and its deletion in such a place
@@ -67,4 +67,4 @@ removes pod now (TryLock handle mode) = true
 removes pod now (Close handle) = true
 removes pod now (MoveFolder from to) = goes_aside pod (MoveFolder from to)
 removes pod now (MakeFileIn inner) = marks_at pod now (MakeFileIn inner)
-removes pod now request = deletes_at (pod_spot pod ExitedGarbage) request || deletes_at (pod_spot pod Garbage) request
+removes pod now request = asks_deletion_at (pod_spot pod ExitedGarbage) request || asks_deletion_at (pod_spot pod Garbage) request

@@ -5,10 +5,10 @@ use Rattle.pod_locks.specs.declared.setback.Setback.TheVariants.{Missing, NoMani
 use Rattle.pod_gc.specs.declared.remove_error.RemoveError.{RemoveError}
 use Rattle.pod_gc.specs.declared.remove_error.RemoveError.TheVariants as error
 
-abbrev pub refusal : PodId → Setback → RemoveError
-refusal pod Missing = error.Stray
-refusal pod NoManifest = error.NoManifest
-refusal pod (Busy which) = error.Busy pod which
-refusal pod DirFault = error.DirFault
-refusal pod Stray = error.Stray
-refusal pod NoMemory = error.NoMemory
+abbrev pub remove_error_of : PodId → Setback → RemoveError
+remove_error_of pod Missing = error.Stray
+remove_error_of pod NoManifest = error.NoManifest
+remove_error_of pod (Busy which) = error.Busy pod which
+remove_error_of pod DirFault = error.DirFault
+remove_error_of pod Stray = error.Stray
+remove_error_of pod NoMemory = error.NoMemory

@@ -13,7 +13,7 @@ use Rattle.dir_rules.specs.Standing.{is_in}
 use Rattle.dir_rules.specs.Seen.{inner_eq}
 use Rattle.dir_rules.specs.Rules.{root_of}
 use Rattle.phase_read.specs.Read.{pod_spot}
-use Rattle.pod_locks.specs.Requests.{looks_at, moves}
+use Rattle.pod_locks.specs.Requests.{looks_at, moves_pod}
 use Rattle.pod_gc.specs.RemovalRequests.{puts_aside, removes}
 
 -- where a pod's age counts
@@ -28,21 +28,21 @@ lists_marks pod area (ListIn inner) = inner_eq (root_of (pod_spot pod area)) inn
 lists_marks pod area _ = false
 
 -- the area is listed
-abbrev pub lists : Area → Request → Bool
-lists area (ListArea here) = is_in area here
-lists area _ = false
+abbrev pub lists_pod_area : Area → Request → Bool
+lists_pod_area area (ListArea here) = is_in area here
+lists_pod_area area _ = false
 
 -- a pod is dealt with: looked at, its marks listed, and brought to a garbage place or deleted there
-abbrev pub deals_with : PodId → ℕ → Area → Request → Bool
-deals_with pod now place request = lists_marks pod place request || (moves pod Embryo Garbage request || removes pod now request)
+abbrev pub deals_with_pod : PodId → ℕ → Area → Request → Bool
+deals_with_pod pod now place request = lists_marks pod place request || (moves_pod pod Embryo Garbage request || removes pod now request)
 
 -- it is looked at there, its locks are asked for, and its marks are listed: it is neither moved nor removed
 abbrev pub looks_over : PodId → Area → Request → Bool
 looks_over pod place request = lists_marks pod place request || looks_at pod place request
 
 -- its marks are listed, and it is put aside from there: nothing of it is removed
-abbrev pub moves_on : PodId → Area → Area → Request → Bool
-moves_on pod place to request = lists_marks pod place request || puts_aside pod place to request
+abbrev pub puts_aside_only : PodId → Area → Area → Request → Bool
+puts_aside_only pod place to request = lists_marks pod place request || puts_aside pod place to request
 
 -- the places where a lock of the pod may be busy that tells nothing of its phase
 abbrev pub may_be_busy : Area → Bool

@@ -12,18 +12,18 @@ use Rattle.dir_model.specs.declared.request.Request.{Request}
 use Rattle.dir_model.specs.declared.spot.Handle.{Handle}
 use Rattle.dir_model.specs.declared.spot.Mode.TheVariants.{Exclusive}
 use Rattle.dir_model.specs.Calls.{Extends, AtOwnStep}
-use Rattle.dir_model.specs.Pods.{pod_of}
+use Rattle.dir_model.specs.Pods.{pod_of_text}
 use Rattle.dir_rules.specs.declared.seen.Seen.{Seen}
 use Rattle.dir_trait.specs.DirCalls.{DirAt}
 use Rattle.dir_trait.specs.Knowledge.{Knows}
 use Rattle.dir_files.specs.Listed.{ShowsArea}
-use Rattle.dir_files.specs.AreaLocks.{takes, closes, IsBusy, IsBusyElsewhere, IsFreeElsewhere}
+use Rattle.dir_files.specs.AreaLocks.{is_taking_area, closes, IsBusy, IsBusyElsewhere, IsFreeElsewhere}
 use Rattle.pod_gc.specs.declared.ages.Times.{Times}
 use Rattle.pod_gc.specs.declared.line.Deed.TheVariants.{BusyGate}
 use Rattle.pod_gc.specs.declared.line.GcLine.{GcLine}
-use Rattle.pod_gc.specs.Requests.{lists, deals_with}
+use Rattle.pod_gc.specs.Requests.{lists_pod_area, deals_with_pod}
 use Rattle.pod_gc.specs.Deeds.{Dealt, LeftToAnother}
-use Rattle.pod_gc.specs.Sweeping.{MayPass, MaySweepAll}
+use Rattle.pod_gc.specs.Sweeping.{MayPassPods, MaySweepAll}
 
 -- the pods among these names of folders, in that order
 abbrev pub and_pod : Option PodId → List PodId → List PodId
@@ -32,11 +32,11 @@ and_pod (Some pod) pods = pod ∷ pods
 
 abbrev pub pods_of : List (List ℕ) → List PodId
 pods_of [] = []
-pods_of (name ∷ names) = and_pod (pod_of name) (pods_of names)
+pods_of (name ∷ names) = and_pod (pod_of_text name) (pods_of names)
 
 -- one of them is dealt with
-abbrev pub deals_with_some : ℕ → Area → List (List ℕ) → Request → Bool
-deals_with_some now place names request = list_any (λ (pod : PodId). deals_with pod now place request) (pods_of names)
+abbrev pub deals_with_pods : ℕ → Area → List (List ℕ) → Request → Bool
+deals_with_pods now place names request = list_any (λ (pod : PodId). deals_with_pod pod now place request) (pods_of names)
 
 -- some process knew this of itself
 abbrev pub Knew : (Seen → Type 0) → DirAt → Type 0
@@ -45,7 +45,7 @@ Knew May d = (s : Seen) × Knows d s × May s
 -- the line is of this pod at this place, with what was done in its turn, one stretch of the pass, and why: before its turn the pods that
 -- stand before it among the names were dealt with, and after it those after it. Where the process may do that, another one held each
 -- lock that was refused in its turn, or owned the pod
-pub record IsTold (Can : Type 0) (times : Times) (here : Area) (names : List (List ℕ)) (line : GcLine) (me : ℕ) (old new : List Event) : Type 0 where
+pub record IsLineOfTurn (Can : Type 0) (times : Times) (here : Area) (names : List (List ℕ)) (line : GcLine) (me : ℕ) (old new : List Event) : Type 0 where
   pub shown : PodId
   pub pod_is : line.pod ≡ Some shown
   pub place_is : line.place ≡ here
@@ -53,35 +53,35 @@ pub record IsTold (Can : Type 0) (times : Times) (here : Area) (names : List (Li
   pub name : List ℕ
   pub later : List (List ℕ)
   pub names_are : names ≡ earlier ++ name ∷ later
-  pub name_is : pod_of name ≡ Some shown
+  pub name_is : pod_of_text name ≡ Some shown
   pub from : List Event
   pub upto : List Event
-  pub first : Extends (deals_with_some times.now here earlier) me old from
+  pub first : Extends (deals_with_pods times.now here earlier) me old from
   pub dealt : Dealt times shown here line.deed me from upto
-  pub last : Extends (deals_with_some times.now here later) me upto new
+  pub last : Extends (deals_with_pods times.now here later) me upto new
   pub another : Can → LeftToAnother shown here line.deed me from upto
 
 -- the lines are one for each pod among the names, in that order, and nothing was asked for but what deals with these
-pub record TellsEach (Can : Type 0) (times : Times) (here : Area) (names : List (List ℕ)) (lines : List GcLine) (me : ℕ) (old new : List Event) : Type 0 where
+pub record TellsEachPod (Can : Type 0) (times : Times) (here : Area) (names : List (List ℕ)) (lines : List GcLine) (me : ℕ) (old new : List Event) : Type 0 where
   pub pods_are : map (λ (l : GcLine). l.pod) lines ≡ map (λ (p : PodId). Some p) (pods_of names)
-  pub each : AllByRecursion (λ (l : GcLine). IsTold Can times here names l me old new) lines
-  pub only : Extends (deals_with_some times.now here names) me old new
+  pub each : AllByRecursion (λ (l : GcLine). IsLineOfTurn Can times here names l me old new) lines
+  pub only : Extends (deals_with_pods times.now here names) me old new
 
 -- the area was listed, each name once and in byte order, and then each pod that this showed was dealt with and has its line
 pub record TellsShown (Can : Type 0) (times : Times) (here : Area) (lines : List GcLine) (me : ℕ) (old new : List Event) : Type 0 where
   pub names : List (List ℕ)
   pub listed : List Event
-  pub only_lists : Extends (lists here) me old listed
+  pub only_lists : Extends (lists_pod_area here) me old listed
   pub ordered : IsStrictlySortedBy (slice_cmp nat_cmp) names
   pub shows : ShowsArea me old listed here names
-  pub tells : TellsEach Can times here names lines me listed new
+  pub tells : TellsEachPod Can times here names lines me listed new
 
 -- that in embryo, with its lock taken before, when no other process held it, and given up after
 pub record UnderGate (Can : Type 0) (times : Times) (lines : List GcLine) (me : ℕ) (old new : List Event) : Type 0 where
   pub gate : Handle
   pub locked : List Event
   pub done : List Event
-  pub takes_gate : Extends (takes Embryo Exclusive) me old locked
+  pub takes_gate : Extends (is_taking_area Embryo Exclusive) me old locked
   pub free : AtOwnStep me old locked (IsFreeElsewhere me Embryo Exclusive)
   pub tells : TellsShown Can times Embryo lines me locked done
   pub gives_back : Extends (closes gate) me done new
@@ -90,13 +90,13 @@ pub record UnderGate (Can : Type 0) (times : Times) (lines : List GcLine) (me : 
 pub record WasGated (Can : Type 0) (lines : List GcLine) (me : ℕ) (old new : List Event) : Type 0 where
   pub busy : AtOwnStep me old new (IsBusy Embryo Exclusive)
   pub another : Can → AtOwnStep me old new (IsBusyElsewhere me Embryo Exclusive)
-  pub only : Extends (takes Embryo Exclusive) me old new
+  pub only : Extends (is_taking_area Embryo Exclusive) me old new
   pub line_is : lines ≡ record { place = Embryo; pod = None; deed = BusyGate } ∷ []
 
 -- one pass
-abbrev pub Passed : Type 0 → Times → Area → List GcLine → ℕ → List Event → List Event → Type 0
-Passed Can times Embryo lines me old new = UnderGate Can times lines me old new ⊎ WasGated Can lines me old new
-Passed Can times here lines me old new = TellsShown Can times here lines me old new
+abbrev pub PassedOverPods : Type 0 → Times → Area → List GcLine → ℕ → List Event → List Event → Type 0
+PassedOverPods Can times Embryo lines me old new = UnderGate Can times lines me old new ⊎ WasGated Can lines me old new
+PassedOverPods Can times here lines me old new = TellsShown Can times here lines me old new
 
 -- one thing, and then the rest, with the lines of both
 pub record OneAndRest (First Rest : List GcLine → List Event → Type 0) (lines : List GcLine) : Type 0 where
@@ -111,27 +111,27 @@ pub record OneAndRest (First Rest : List GcLine → List Event → Type 0) (line
 abbrev pub ArePassed : Type 0 → Times → List Area → List GcLine → ℕ → List Event → List Event → Type 0
 ArePassed Can times [] lines me old new = (lines ≡ []) × (new ≡ old)
 ArePassed Can times (here ∷ places) lines me old new =
-    OneAndRest (λ own between. Passed Can times here own me old between) (λ others between. ArePassed Can times places others me between new) lines
+    OneAndRest (λ own between. PassedOverPods Can times here own me old between) (λ others between. ArePassed Can times places others me between new) lines
 
 -- the places of pods, in the order in which a pod goes through them
 abbrev pub places : List Area
 places = Embryo ∷ Prepare ∷ Prepared ∷ Run ∷ ExitedGarbage ∷ Garbage ∷ []
 
 -- these lines were added, of which this holds
-abbrev pub Adds : (List GcLine → Type 0) → List GcLine → List GcLine → Type 0
-Adds P before after = (added : List GcLine) × (after ≡ before ++ added) × P added
+abbrev pub AddsGcLines : (List GcLine → Type 0) → List GcLine → List GcLine → Type 0
+AddsGcLines P before after = (added : List GcLine) × (after ≡ before ++ added) × P added
 
 abbrev pub AddsTold : Times → Area → List (List ℕ) → DirAt → DirAt → List GcLine → List GcLine → Type 0
-AddsTold times here names old new before after = Adds (λ lines. TellsEach (Knew (MayPass here times.now times.expire) old) times here names lines old.process old.trace new.trace) before after
+AddsTold times here names old new before after = AddsGcLines (λ lines. TellsEachPod (Knew (MayPassPods here times.now times.expire) old) times here names lines old.process old.trace new.trace) before after
 
 abbrev pub AddsShown : Times → Area → DirAt → DirAt → List GcLine → List GcLine → Type 0
-AddsShown times here old new before after = Adds (λ lines. TellsShown (Knew (MayPass here times.now times.expire) old) times here lines old.process old.trace new.trace) before after
+AddsShown times here old new before after = AddsGcLines (λ lines. TellsShown (Knew (MayPassPods here times.now times.expire) old) times here lines old.process old.trace new.trace) before after
 
 abbrev pub AddsPassed : Times → Area → DirAt → DirAt → List GcLine → List GcLine → Type 0
-AddsPassed times here old new before after = Adds (λ lines. Passed (Knew (MaySweepAll times.now times.expire) old) times here lines old.process old.trace new.trace) before after
+AddsPassed times here old new before after = AddsGcLines (λ lines. PassedOverPods (Knew (MaySweepAll times.now times.expire) old) times here lines old.process old.trace new.trace) before after
 
 abbrev pub AddsSwept : Times → List Area → DirAt → DirAt → List GcLine → List GcLine → Type 0
-AddsSwept times here old new before after = Adds (λ lines. ArePassed (Knew (MaySweepAll times.now times.expire) old) times here lines old.process old.trace new.trace) before after
+AddsSwept times here old new before after = AddsGcLines (λ lines. ArePassed (Knew (MaySweepAll times.now times.expire) old) times here lines old.process old.trace new.trace) before after
 
 -- a sweep: the six passes, and the lines of each
 abbrev pub IsSweptBetween : Times → DirAt → DirAt → List GcLine → Type 0

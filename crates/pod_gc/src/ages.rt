@@ -1,25 +1,23 @@
 // The age of a pod since a mark.
 ghost use Rattle.std.specs.Prelude.{◌≡◌, ◌-◌, ◌+◌, ◌≤◌, ◌↔◌, ℕ, true, Ok, Some, None, length, drop, cond, nat_le, IsTrue, codes, IfOk, IfErr, IfSome};
-ghost use Rattle.dir_rules.specs.Marks.{number_of};
-ghost use Rattle.dir_rules.specs.Seen.{later};
 ghost use Rattle.dir_model.specs.State.{stands};
 ghost use Rattle.dir_trait.specs.DirCalls.{HeldBetween};
 ghost use Rattle.phase_read.specs.Read.{pod_spot};
 ghost use Rattle.dir_trait.specs.Local.{IsActive};
-ghost use Rattle.folder_building.specs.Work.{Worked};
-ghost use Rattle.pod_locks.specs.Holding.{KeepsReady, Stays};
+ghost use Rattle.dir_trait.specs.Effects.{OnlyAsks, Given};
+ghost use Rattle.pod_locks.specs.Holding.{KeepsReady};
 ghost use Rattle.pod_locks.specs.Causes.{IsAbsentAt};
 ghost use Rattle.pod_gc.specs.RemovalHolding.{MayRemove};
 ghost use Rattle.pod_gc.specs.Requests.{counts_time, lists_marks};
 ghost use Rattle.pod_gc.specs.Causes.{GcCause};
-ghost use Rattle.pod_gc.specs.Ages.{mark_moment, moment_among, is_young, is_ripe, Showed};
+ghost use Rattle.pod_gc.specs.Ages.{moment_among, is_young, is_ripe, Showed};
 ghost use Rattle.pod_gc.specs.Sweeping.{NotesMark};
 
 use crate::gc_error::{GcError, listing_fault};
 use dir_files::items_of;
 use dir_trait::{Area, Dir, DirError, Item, PodId};
+use marks::{later, moment_of};
 use pod_locks::pod_spot;
-use rule_marks::is_mark;
 use std::alloc::Global;
 
 /// The times of a sweep, in seconds, by which its contract tells the ages of pods.
@@ -59,73 +57,6 @@ pub(crate) fn is_ripe(now: u64, time: u64, moment: Option<u64>) -> bool
     }
 }
 
-// The number that decimal digits stand for.
-fn number_of(digits: &[u8]) -> u128
-    requires { length digits.now ≤ 20 }
-    ensures { result ≡ number_of digits.now }
-{
-    let mut number: u128 = 0;
-    'digits: for digit in digits {
-        number = number * 10 + u128::from(digit.saturating_sub(b'0'));
-    }
-    number
-}
-
-// The greatest number of 64 bits.
-const MOST: u128 = 18_446_744_073_709_551_615;
-
-fn in_64_bits(number: u128) -> Option<u64>
-    ensures { result ≡ cond (nat_le number 18446744073709551615) (Some number) None }
-{
-    if number <= MOST {
-        Some(number as u64)
-    } else {
-        None
-    }
-}
-
-// Whether a name is longer than the text by the digits of a mark.
-fn is_mark_long(text: &[u8], name: &[u8]) -> bool
-    ensures { IsTrue result ↔ (length name.now ≡ length text.now + 20) }
-{
-    name.len() >= text.len() && name.len() - text.len() == 20
-}
-
-// The number behind the front of a mark.
-fn number_in(text: &[u8], name: &[u8]) -> u128
-    requires { length name.now ≡ length text.now + 20 }
-    ensures { result ≡ number_of (drop (length text.now) name.now) }
-{
-    number_of(&name[text.len()..])
-}
-
-// The moment of a mark that begins with the text. None where the name is no such mark, or its digits
-// stand for more than a number of 64 bits.
-fn moment_of(text: &[u8], name: &[u8]) -> Option<u64>
-    ensures { result ≡ mark_moment text.now name.now }
-{
-    if !is_mark_long(text, name) {
-        return None;
-    }
-    let moment = number_in(text, name);
-    if is_mark(text, moment, name) {
-        in_64_bits(moment)
-    } else {
-        None
-    }
-}
-
-// The later of two moments, where there are any.
-fn later(a: Option<u64>, b: Option<u64>) -> Option<u64>
-    ensures { result ≡ later a b }
-{
-    match (a, b) {
-        (Some(a), Some(b)) => Some(a.max(b)),
-        (Some(a), None) => Some(a),
-        (None, b) => b,
-    }
-}
-
 fn greatest(text: &[u8], items: &[Item]) -> Option<u64>
     ensures { result ≡ moment_among text.now items.now }
 {
@@ -147,7 +78,7 @@ pub(crate) fn marked_at<D: Dir>(
 ) -> Result<Option<Option<u64>>, GcError>
     requires active { IsActive (D.shown dir.old).local }
     requires marks { counts_time area ≡ true }
-    ensures worked { Worked D.observed (lists_marks pod area) (D.shown dir.old) (D.shown dir.new) }
+    ensures worked { OnlyAsks D.observed (lists_marks pod area) (D.shown dir.old) (D.shown dir.new) }
     ensures cause { IfErr result (λ e. GcCause D.observed e (D.shown dir.old) (D.shown dir.new)) }
     ensures never { IfErr result (λ e. e ≡ GcError.Stray → ⊥) }
     ensures shown { IfOk result (λ found. IfSome found (λ moment. D.observed ≡ true
@@ -155,9 +86,9 @@ pub(crate) fn marked_at<D: Dir>(
     ensures there { IfOk result (λ found. IfSome found (λ moment. D.observed ≡ true
         → HeldBetween (D.shown dir.old) (D.shown dir.new) (λ s. stands s.namespace (pod_spot pod area) ≡ true))) }
     ensures absent { result ≡ Ok None → D.observed ≡ true → HeldBetween (D.shown dir.old) (D.shown dir.new) (IsAbsentAt pod area) }
-    ensures ready { D.observed ≡ true → (now : ℕ) → Stays (MayRemove now) (D.shown dir.old) (λ s. KeepsReady s (D.shown dir.new)) }
+    ensures ready { D.observed ≡ true → (now : ℕ) → Given (MayRemove now) (D.shown dir.old) (λ s. KeepsReady s (D.shown dir.new)) }
     ensures noted { IfOk result (λ found. IfSome found (λ moment. D.observed ≡ true → (now : ℕ) → text.now ≡ codes "created-"
-        → Stays (MayRemove now) (D.shown dir.old) (λ s. NotesMark pod moment s (D.shown dir.new)))) }
+        → Given (MayRemove now) (D.shown dir.old) (λ s. NotesMark pod moment s (D.shown dir.new)))) }
 {
     match items_of(alloc, dir, pod_spot(pod, area), "") {
         Ok(items) => Ok(Some(greatest(text, items.as_slice()))),

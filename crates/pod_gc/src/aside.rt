@@ -8,18 +8,18 @@ ghost use Rattle.dir_model.specs.declared.request.Request.TheVariants.{MoveFolde
 ghost use Rattle.dir_model.specs.declared.request.Reply.TheVariants.{Done};
 ghost use Rattle.dir_trait.specs.DirCalls.{ExtendsBy, LockToldBetween};
 ghost use Rattle.dir_trait.specs.Local.{IsActive};
-ghost use Rattle.folder_building.specs.Work.{Worked};
+ghost use Rattle.dir_trait.specs.Effects.{OnlyAsks, Given};
 ghost use Rattle.phase_read.specs.Often.{ReadsAtMost};
 ghost use Rattle.phase_read.specs.Read.{pod_spot};
 ghost use Rattle.pod_gc.specs.RemovalRequests.{removes, marks_at, puts_aside};
-ghost use Rattle.pod_locks.specs.Holding.{KeepsReady, Stays};
+ghost use Rattle.pod_locks.specs.Holding.{KeepsReady};
 ghost use Rattle.pod_gc.specs.RemovalHolding.{MayRemove, MayMark, Marked};
-ghost use Rattle.pod_locks.specs.Causes.{Stopped, NeverStray, IsAbsentAt, BusyElsewhere, Did};
+ghost use Rattle.pod_locks.specs.Causes.{StepWasStopped, NeverStray, IsAbsentAt, LockBusyElsewhere, Did};
 ghost use Rattle.pod_locks.specs.Taking.{TakesNothing};
 ghost use Rattle.pod_gc.specs.RemovalCauses.{BusyByPeeks, IsMarkedBetween, MarkedFirst};
 
 use dir_trait::{Area, Dir, DirError, PodId};
-use folder_building::mark_text;
+use marks::mark_text;
 use pod_locks::{Setback, pod_spot, probe, put_aside, set_back};
 use std::alloc::Global;
 
@@ -33,13 +33,13 @@ pub fn discard_aborted<D: Dir>(
     now: u64,
 ) -> Result<(), Setback>
     requires active { IsActive (D.shown dir.old).local }
-    ensures worked { Worked D.observed (removes pod now) (D.shown dir.old) (D.shown dir.new) }
+    ensures worked { OnlyAsks D.observed (removes pod now) (D.shown dir.old) (D.shown dir.new) }
     ensures reads { ReadsAtMost 0 D.observed pod (D.shown dir.old) (D.shown dir.new) }
-    ensures stopped { IfErr result (λ e. Stopped D.observed pod (IsAbsentAt pod area.Prepare) e (D.shown dir.old) (D.shown dir.new)) }
+    ensures stopped { IfErr result (λ e. StepWasStopped D.observed pod (IsAbsentAt pod area.Prepare) e (D.shown dir.old) (D.shown dir.new)) }
     ensures lawful { IfErr result (λ e. NeverStray D.observed e (D.shown dir.new)) }
     ensures named { IfErr result (λ e. (which : Which) → e ≡ Setback.Busy which → which ≡ Own) }
-    ensures another { IfErr result (λ e. D.observed ≡ true → Stays (MayRemove now) (D.shown dir.old)
-        (λ s. BusyElsewhere pod area.Prepare mode.Shared e (D.shown dir.old) (D.shown dir.new))) }
+    ensures by_other_process { IfErr result (λ e. D.observed ≡ true → Given (MayRemove now) (D.shown dir.old)
+        (λ s. LockBusyElsewhere pod area.Prepare mode.Shared e (D.shown dir.old) (D.shown dir.new))) }
     ensures owned { IfErr result (λ e. (which : Which) → e ≡ Setback.Busy which → D.observed ≡ true
         → LockToldBetween (D.shown dir.old) (D.shown dir.new) (pod_spot pod area.Prepare) true) }
     ensures done { IfOk result (λ done. D.observed ≡ true → Did (MoveFolder (pod_spot pod area.Prepare) (pod_spot pod area.Garbage)) Done
@@ -48,7 +48,7 @@ pub fn discard_aborted<D: Dir>(
     ensures free { IfOk result (λ done. D.observed ≡ true → LockToldBetween (D.shown dir.old) (D.shown dir.new) (pod_spot pod area.Prepare) false) }
     ensures peeks { IfErr result (λ e. BusyByPeeks D.observed pod area.Prepare e (D.shown dir.old) (D.shown dir.new)) }
     ensures still { IfErr result (λ e. TakesNothing D.observed (D.shown dir.old) (D.shown dir.new)) }
-    ensures ready { D.observed ≡ true → Stays (MayRemove now) (D.shown dir.old) (λ s. KeepsReady s (D.shown dir.new)) }
+    ensures ready { D.observed ≡ true → Given (MayRemove now) (D.shown dir.old) (λ s. KeepsReady s (D.shown dir.new)) }
 {
     probe(alloc, dir, pod, Area::Prepare)?;
     put_aside(alloc, dir, pod, Area::Prepare, Area::Garbage)
@@ -58,13 +58,13 @@ pub fn discard_aborted<D: Dir>(
 // already is as good. `Missing` where the pod doesn't stand in run.
 fn mark<D: Dir>(alloc: Global, dir: &mut D, pod: PodId, now: u64) -> Result<(), Setback>
     requires active { IsActive (D.shown dir.old).local }
-    ensures worked { Worked D.observed (marks_at pod now) (D.shown dir.old) (D.shown dir.new) }
-    ensures stopped { IfErr result (λ e. Stopped D.observed pod (IsAbsentAt pod area.Run) e (D.shown dir.old) (D.shown dir.new)) }
+    ensures worked { OnlyAsks D.observed (marks_at pod now) (D.shown dir.old) (D.shown dir.new) }
+    ensures stopped { IfErr result (λ e. StepWasStopped D.observed pod (IsAbsentAt pod area.Run) e (D.shown dir.old) (D.shown dir.new)) }
     ensures never { IfErr result (λ e. e ≡ Setback.Stray → ⊥) }
     ensures calm { IfErr result (λ e. (which : Which) → e ≡ Setback.Busy which → ⊥) }
-    ensures marked { IfOk result (λ done. D.observed ≡ true → Stays (MayMark pod now) (D.shown dir.old) (λ s. Marked pod s (D.shown dir.new))) }
+    ensures marked { IfOk result (λ done. D.observed ≡ true → Given (MayMark pod now) (D.shown dir.old) (λ s. Marked pod s (D.shown dir.new))) }
     ensures noted { IfOk result (λ done. D.observed ≡ true → IsMarkedBetween pod now (D.shown dir.old) (D.shown dir.new)) }
-    ensures left { D.observed ≡ true → Stays (MayMark pod now) (D.shown dir.old) (λ s. KeepsReady s (D.shown dir.new)) }
+    ensures left { D.observed ≡ true → Given (MayMark pod now) (D.shown dir.old) (λ s. KeepsReady s (D.shown dir.new)) }
 {
     let name = match mark_text(alloc, "marked-", now) {
         Ok(name) => name,
@@ -88,13 +88,13 @@ pub fn retire_exited<D: Dir>(
     now: u64,
 ) -> Result<(), Setback>
     requires active { IsActive (D.shown dir.old).local }
-    ensures worked { Worked D.observed (removes pod now) (D.shown dir.old) (D.shown dir.new) }
+    ensures worked { OnlyAsks D.observed (removes pod now) (D.shown dir.old) (D.shown dir.new) }
     ensures reads { ReadsAtMost 0 D.observed pod (D.shown dir.old) (D.shown dir.new) }
-    ensures stopped { IfErr result (λ e. Stopped D.observed pod (IsAbsentAt pod area.Run) e (D.shown dir.old) (D.shown dir.new)) }
+    ensures stopped { IfErr result (λ e. StepWasStopped D.observed pod (IsAbsentAt pod area.Run) e (D.shown dir.old) (D.shown dir.new)) }
     ensures lawful { IfErr result (λ e. NeverStray D.observed e (D.shown dir.new)) }
     ensures named { IfErr result (λ e. (which : Which) → e ≡ Setback.Busy which → which ≡ Own) }
-    ensures another { IfErr result (λ e. D.observed ≡ true → Stays (MayRemove now) (D.shown dir.old)
-        (λ s. BusyElsewhere pod area.Run mode.Shared e (D.shown dir.old) (D.shown dir.new))) }
+    ensures by_other_process { IfErr result (λ e. D.observed ≡ true → Given (MayRemove now) (D.shown dir.old)
+        (λ s. LockBusyElsewhere pod area.Run mode.Shared e (D.shown dir.old) (D.shown dir.new))) }
     ensures owned { IfErr result (λ e. (which : Which) → e ≡ Setback.Busy which → D.observed ≡ true
         → LockToldBetween (D.shown dir.old) (D.shown dir.new) (pod_spot pod area.Run) true) }
     ensures done { IfOk result (λ done. D.observed ≡ true → Did (MoveFolder (pod_spot pod area.Run) (pod_spot pod area.ExitedGarbage)) Done
@@ -104,7 +104,7 @@ pub fn retire_exited<D: Dir>(
     ensures noted { IfOk result (λ done. D.observed ≡ true → MarkedFirst pod now (D.shown dir.old).process (D.shown dir.old).trace (D.shown dir.new).trace) }
     ensures peeks { IfErr result (λ e. BusyByPeeks D.observed pod area.Run e (D.shown dir.old) (D.shown dir.new)) }
     ensures still { IfErr result (λ e. TakesNothing D.observed (D.shown dir.old) (D.shown dir.new)) }
-    ensures ready { D.observed ≡ true → Stays (MayRemove now) (D.shown dir.old) (λ s. KeepsReady s (D.shown dir.new)) }
+    ensures ready { D.observed ≡ true → Given (MayRemove now) (D.shown dir.old) (λ s. KeepsReady s (D.shown dir.new)) }
 {
     probe(alloc, dir, pod, Area::Run)?;
     mark(alloc, dir, pod, now)?;

@@ -2,21 +2,21 @@
 ghost use Rattle.std.specs.Prelude.{◌≡◌, true, false, IfOk, IfErr};
 ghost use Rattle.dir_trait.specs.Local.{IsActive, has_own_open};
 ghost use Rattle.dir_trait.specs.Pods.{pod_text};
-ghost use Rattle.folder_building.specs.Work.{Worked};
+ghost use Rattle.dir_trait.specs.Effects.{OnlyAsks, Given};
 ghost use Rattle.folder_removal.specs.Removal.{KeepsFolders};
 ghost use Rattle.phase_read.specs.Often.{ReadsAtMost};
 ghost use Rattle.pod_gc.specs.RemovalRequests.{is_removable, aside, removes};
-ghost use Rattle.pod_locks.specs.Holding.{KeepsReady, Stays};
+ghost use Rattle.pod_locks.specs.Holding.{KeepsReady};
 ghost use Rattle.pod_gc.specs.RemovalHolding.{MayRemovePod};
 ghost use Rattle.pod_locks.specs.Causes.{NeverStray, StrayByApp};
-ghost use Rattle.pod_gc.specs.RemovalCauses.{StoppedFound, BusyAny, IsDeleted};
-ghost use Rattle.pod_gc.specs.Removals.{round_of, WentRound, RoundCause, RoundByApp, RefusedByAnother};
-ghost use Rattle.pod_gc.specs.Found.{RoundWent, RoundRefused, PutWhere, TakenWhere, MissedHere, MissedWhere, RefusedHere, RefusedWhere};
+ghost use Rattle.pod_gc.specs.RemovalCauses.{StoppedFound, BusyAny, HasDeletedPod};
+ghost use Rattle.pod_gc.specs.Removals.{removal_round_of, WentRound, RoundCause, RoundByApp, RemovalRefusedByAnother};
+ghost use Rattle.pod_gc.specs.Found.{RoundWent, RoundRefused, PutAwayIfObserved, TakenAwayIfObserved, MissedAtItsArea, MissedThereOrAside, RefusedAtItsArea, RefusedThereOrAside};
 
 use crate::aside::{discard_aborted, retire_exited};
 use crate::deletion::delete_at;
-use crate::remove_error::{RemoveError, refusal};
 use crate::prepared::discard_prepared;
+use crate::remove_error::{RemoveError, refusal};
 use dir_trait::{Area, Dir, Phase, PodId};
 use phase_read::{Found, read_phase};
 use pod_locks::{Setback, look_setback};
@@ -67,18 +67,18 @@ fn put_away<D: Dir>(
     now: u64,
 ) -> Result<(), Setback>
     requires active { IsActive (D.shown dir.old).local }
-    ensures worked { Worked D.observed (removes pod now) (D.shown dir.old) (D.shown dir.new) }
+    ensures worked { OnlyAsks D.observed (removes pod now) (D.shown dir.old) (D.shown dir.new) }
     ensures reads { ReadsAtMost 0 D.observed pod (D.shown dir.old) (D.shown dir.new) }
     ensures stopped { IfErr result (λ e. StoppedFound D.observed pod phase e (D.shown dir.old) (D.shown dir.new)) }
     ensures lawful { IfErr result (λ e. NeverStray D.observed e (D.shown dir.new)) }
-    ensures another { IfErr result (λ e. D.observed ≡ true → Stays (MayRemovePod pod now) (D.shown dir.old)
+    ensures by_other_process { IfErr result (λ e. D.observed ≡ true → Given (MayRemovePod pod now) (D.shown dir.old)
         (λ s. BusyAny pod e (D.shown dir.old) (D.shown dir.new))) }
-    ensures put { IfOk result (λ done. PutWhere D.observed pod phase (D.shown dir.old) (D.shown dir.new)) }
-    ensures missed { IfErr result (λ e. MissedHere D.observed pod phase e (D.shown dir.old) (D.shown dir.new)) }
-    ensures refused { IfErr result (λ e. D.observed ≡ true → Stays (MayRemovePod pod now) (D.shown dir.old)
-        (λ s. RefusedHere pod phase e (D.shown dir.old) (D.shown dir.new))) }
+    ensures put { IfOk result (λ done. PutAwayIfObserved D.observed pod phase (D.shown dir.old) (D.shown dir.new)) }
+    ensures missed { IfErr result (λ e. MissedAtItsArea D.observed pod phase e (D.shown dir.old) (D.shown dir.new)) }
+    ensures refused { IfErr result (λ e. D.observed ≡ true → Given (MayRemovePod pod now) (D.shown dir.old)
+        (λ s. RefusedAtItsArea pod phase e (D.shown dir.old) (D.shown dir.new))) }
     ensures kept { IfErr result (λ e. D.observed ≡ true → KeepsFolders (D.shown dir.old) (D.shown dir.new)) }
-    ensures ready { D.observed ≡ true → Stays (MayRemovePod pod now) (D.shown dir.old) (λ s. KeepsReady s (D.shown dir.new)) }
+    ensures ready { D.observed ≡ true → Given (MayRemovePod pod now) (D.shown dir.old) (λ s. KeepsReady s (D.shown dir.new)) }
 {
     match phase {
         Phase::AbortedPrepare => discard_aborted(alloc, dir, pod, now),
@@ -97,20 +97,20 @@ fn remove_found<D: Dir>(
     now: u64,
 ) -> Result<(), Setback>
     requires active { IsActive (D.shown dir.old).local }
-    ensures worked { Worked D.observed (removes pod now) (D.shown dir.old) (D.shown dir.new) }
+    ensures worked { OnlyAsks D.observed (removes pod now) (D.shown dir.old) (D.shown dir.new) }
     ensures reads { ReadsAtMost 0 D.observed pod (D.shown dir.old) (D.shown dir.new) }
     ensures stopped { IfErr result (λ e. StoppedFound D.observed pod phase e (D.shown dir.old) (D.shown dir.new)) }
     ensures lawful { IfErr result (λ e. StrayByApp D.observed e (MayRemovePod pod now) (D.shown dir.old) (D.shown dir.new)) }
-    ensures another { IfErr result (λ e. D.observed ≡ true → Stays (MayRemovePod pod now) (D.shown dir.old)
+    ensures by_other_process { IfErr result (λ e. D.observed ≡ true → Given (MayRemovePod pod now) (D.shown dir.old)
         (λ s. BusyAny pod e (D.shown dir.old) (D.shown dir.new))) }
     ensures removed { IfOk result (λ done. D.observed ≡ true
-        → IsDeleted pod (D.shown dir.old).process (D.shown dir.old).trace (D.shown dir.new).trace) }
-    ensures taken { IfOk result (λ done. TakenWhere D.observed pod phase (D.shown dir.old) (D.shown dir.new)) }
-    ensures missed { IfErr result (λ e. MissedWhere D.observed pod phase e (D.shown dir.old) (D.shown dir.new)) }
-    ensures refused { IfErr result (λ e. D.observed ≡ true → Stays (MayRemovePod pod now) (D.shown dir.old)
-        (λ s. RefusedWhere pod phase e (D.shown dir.old) (D.shown dir.new))) }
+        → HasDeletedPod pod (D.shown dir.old).process (D.shown dir.old).trace (D.shown dir.new).trace) }
+    ensures taken { IfOk result (λ done. TakenAwayIfObserved D.observed pod phase (D.shown dir.old) (D.shown dir.new)) }
+    ensures missed { IfErr result (λ e. MissedThereOrAside D.observed pod phase e (D.shown dir.old) (D.shown dir.new)) }
+    ensures refused { IfErr result (λ e. D.observed ≡ true → Given (MayRemovePod pod now) (D.shown dir.old)
+        (λ s. RefusedThereOrAside pod phase e (D.shown dir.old) (D.shown dir.new))) }
     ensures kept { IfErr result (λ e. D.observed ≡ true → KeepsFolders (D.shown dir.old) (D.shown dir.new)) }
-    ensures ready { D.observed ≡ true → Stays (MayRemovePod pod now) (D.shown dir.old) (λ s. KeepsReady s (D.shown dir.new)) }
+    ensures ready { D.observed ≡ true → Given (MayRemovePod pod now) (D.shown dir.old) (λ s. KeepsReady s (D.shown dir.new)) }
 {
     put_away(alloc, dir, pod, phase, now)?;
     delete_at(alloc, dir, pod, aside(phase), now)
@@ -118,7 +118,7 @@ fn remove_found<D: Dir>(
 
 // A place that is empty ends the round, and everything else that sets it back the removal.
 fn round_of(pod: PodId, answer: Result<(), Setback>) -> Result<Round, RemoveError>
-    ensures { result ≡ round_of pod answer }
+    ensures { result ≡ removal_round_of pod answer }
 {
     match answer {
         Ok(()) => Ok(Round::Removed),
@@ -136,16 +136,16 @@ pub(crate) fn attempt<D: Dir>(
 ) -> Result<Round, RemoveError>
     requires active { IsActive (D.shown dir.old).local }
     requires alone { has_own_open (D.shown dir.old).local (pod_text pod.bytes) ≡ false }
-    ensures worked { Worked D.observed (removes pod now) (D.shown dir.old) (D.shown dir.new) }
+    ensures worked { OnlyAsks D.observed (removes pod now) (D.shown dir.old) (D.shown dir.new) }
     ensures reads { ReadsAtMost 1 D.observed pod (D.shown dir.old) (D.shown dir.new) }
     ensures went { IfOk result (λ round. D.observed ≡ true → WentRound pod round (D.shown dir.old) (D.shown dir.new)) }
     ensures cause { IfErr result (λ e. RoundCause D.observed pod e (D.shown dir.old) (D.shown dir.new)) }
     ensures lawful { IfErr result (λ e. RoundByApp D.observed pod now e (D.shown dir.old) (D.shown dir.new)) }
-    ensures another { IfErr result (λ e. D.observed ≡ true → Stays (MayRemovePod pod now) (D.shown dir.old) (λ s. RefusedByAnother pod e (D.shown dir.old) (D.shown dir.new))) }
+    ensures by_other_process { IfErr result (λ e. D.observed ≡ true → Given (MayRemovePod pod now) (D.shown dir.old) (λ s. RemovalRefusedByAnother pod e (D.shown dir.old) (D.shown dir.new))) }
     ensures round { IfOk result (λ round. D.observed ≡ true → RoundWent pod round (D.shown dir.old) (D.shown dir.new)) }
-    ensures refused { IfErr result (λ e. D.observed ≡ true → Stays (MayRemovePod pod now) (D.shown dir.old) (λ s. RoundRefused pod e (D.shown dir.old) (D.shown dir.new))) }
+    ensures refused { IfErr result (λ e. D.observed ≡ true → Given (MayRemovePod pod now) (D.shown dir.old) (λ s. RoundRefused pod e (D.shown dir.old) (D.shown dir.new))) }
     ensures kept { IfErr result (λ e. D.observed ≡ true → KeepsFolders (D.shown dir.old) (D.shown dir.new)) }
-    ensures ready { D.observed ≡ true → Stays (MayRemovePod pod now) (D.shown dir.old) (λ s. KeepsReady s (D.shown dir.new)) }
+    ensures ready { D.observed ≡ true → Given (MayRemovePod pod now) (D.shown dir.old) (λ s. KeepsReady s (D.shown dir.new)) }
 {
     match read_phase(alloc, dir, pod) {
         Ok(Found::At(phase, _)) => {

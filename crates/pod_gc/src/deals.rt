@@ -2,39 +2,39 @@
 ghost use Rattle.std.specs.Prelude.{◌≡◌, ℕ, true, Some, IfOk, IfErr};
 ghost use Rattle.dir_model.specs.declared.spot.Which.{Which};
 ghost use Rattle.dir_model.specs.declared.area.Phase.{Phase};
-ghost use Rattle.pod_locks.specs.Requests.{moves};
-ghost use Rattle.pod_gc.specs.Sweeping.{HoldsEmbryo, MaySweep, MayPass, Ripens};
+ghost use Rattle.pod_locks.specs.Requests.{moves_pod};
+ghost use Rattle.pod_gc.specs.Sweeping.{HoldsEmbryo, MaySweepPods, MayPassPods, Ripens};
 ghost use Rattle.dir_model.specs.declared.area.Area.TheVariants as area;
 ghost use Rattle.dir_model.specs.Areas.{is_stage};
 ghost use Rattle.dir_trait.specs.Local.{IsActive};
-ghost use Rattle.folder_building.specs.Work.{Worked};
-ghost use Rattle.pod_locks.specs.Holding.{KeepsReady, Stays};
+ghost use Rattle.dir_trait.specs.Effects.{OnlyAsks, Given};
+ghost use Rattle.pod_locks.specs.Holding.{KeepsReady};
 ghost use Rattle.pod_gc.specs.RemovalRequests.{is_garbage_place, removes};
 ghost use Rattle.pod_gc.specs.RemovalHolding.{MayRemove};
-ghost use Rattle.pod_gc.specs.Requests.{deals_with};
-ghost use Rattle.pod_gc.specs.Causes.{GcCause, NeverStray, StrayByApp};
+ghost use Rattle.pod_gc.specs.Requests.{deals_with_pod};
+ghost use Rattle.pod_gc.specs.Causes.{GcCause, GcNeverStray, GcStrayByApp};
 ghost use Rattle.pod_gc.specs.Ages.{is_young, is_ripe};
-ghost use Rattle.pod_gc.specs.Deeds.{DeedCause, refused_lock, LeavesWhere, MarksFirst, LetBe, WaitsOr, RestsBy, WaitsBy, RestedSo, WaitedSo, Dealt};
+ghost use Rattle.pod_gc.specs.Deeds.{DeedCause, refused_lock, LeavesIfObserved, MarksFirst, LetBe, WaitsOr, RestsBy, WaitsBy, RestedByAge, WaitedByAge, Dealt};
 
 use crate::ages::{Times, is_ripe, is_young, marked_at};
 use crate::gc_error::GcError;
 use crate::kept::{kept, kept_exited};
 use crate::line::{Deed, deed_of};
-use dir_trait::{Area, Dir, Phase, PodId};
 use crate::{delete_at, discard_aborted, discard_prepared, retire_exited};
+use dir_trait::{Area, Dir, Phase, PodId};
 use pod_locks::{Setback, put_aside};
 use std::alloc::Global;
 
 // An embryo goes to garbage: the lock of embryo is held, so nobody makes it.
 fn deal_embryo<D: Dir>(alloc: Global, dir: &mut D, pod: PodId) -> Result<Deed, GcError>
     requires active { IsActive (D.shown dir.old).local }
-    ensures worked { Worked D.observed (moves pod area.Embryo area.Garbage) (D.shown dir.old) (D.shown dir.new) }
+    ensures worked { OnlyAsks D.observed (moves_pod pod area.Embryo area.Garbage) (D.shown dir.old) (D.shown dir.new) }
     ensures cause { IfErr result (λ e. GcCause D.observed e (D.shown dir.old) (D.shown dir.new)) }
-    ensures lawful { IfErr result (λ e. NeverStray D.observed e (D.shown dir.new)) }
+    ensures lawful { IfErr result (λ e. GcNeverStray D.observed e (D.shown dir.new)) }
     ensures deed { IfOk result (λ deed. D.observed ≡ true → DeedCause pod area.Embryo deed (D.shown dir.old).process (D.shown dir.old).trace (D.shown dir.new).trace) }
     ensures calm { IfOk result (λ deed. (which : Which) → refused_lock deed ≡ Some which → ⊥) }
-    ensures let_be { IfOk result (λ deed. LetBe D.observed pod area.Embryo deed (D.shown dir.old) (D.shown dir.new)) }
-    ensures ready { D.observed ≡ true → (now : ℕ) → Stays (HoldsEmbryo now) (D.shown dir.old) (λ s. KeepsReady s (D.shown dir.new)) }
+    ensures left_untouched { IfOk result (λ deed. LetBe D.observed pod area.Embryo deed (D.shown dir.old) (D.shown dir.new)) }
+    ensures ready { D.observed ≡ true → (now : ℕ) → Given (HoldsEmbryo now) (D.shown dir.old) (λ s. KeepsReady s (D.shown dir.new)) }
 {
     let answer = put_aside(alloc, dir, pod, Area::Embryo, Area::Garbage);
     deed_of(answer, Deed::Moved(Area::Garbage))
@@ -43,13 +43,13 @@ fn deal_embryo<D: Dir>(alloc: Global, dir: &mut D, pod: PodId) -> Result<Deed, G
 // An aborted prepare goes to garbage. Whose own lock is held is still being prepared.
 fn deal_prepare<D: Dir>(alloc: Global, dir: &mut D, pod: PodId, now: u64) -> Result<Deed, GcError>
     requires active { IsActive (D.shown dir.old).local }
-    ensures worked { Worked D.observed (deals_with pod now area.Prepare) (D.shown dir.old) (D.shown dir.new) }
+    ensures worked { OnlyAsks D.observed (deals_with_pod pod now area.Prepare) (D.shown dir.old) (D.shown dir.new) }
     ensures cause { IfErr result (λ e. GcCause D.observed e (D.shown dir.old) (D.shown dir.new)) }
-    ensures lawful { IfErr result (λ e. NeverStray D.observed e (D.shown dir.new)) }
+    ensures lawful { IfErr result (λ e. GcNeverStray D.observed e (D.shown dir.new)) }
     ensures deed { IfOk result (λ deed. D.observed ≡ true → DeedCause pod area.Prepare deed (D.shown dir.old).process (D.shown dir.old).trace (D.shown dir.new).trace) }
-    ensures another { IfOk result (λ deed. LeavesWhere D.observed (MayRemove now) pod area.Prepare deed (D.shown dir.old) (D.shown dir.new)) }
-    ensures let_be { IfOk result (λ deed. LetBe D.observed pod area.Prepare deed (D.shown dir.old) (D.shown dir.new)) }
-    ensures ready { D.observed ≡ true → Stays (MayRemove now) (D.shown dir.old) (λ s. KeepsReady s (D.shown dir.new)) }
+    ensures by_other_process { IfOk result (λ deed. LeavesIfObserved D.observed (MayRemove now) pod area.Prepare deed (D.shown dir.old) (D.shown dir.new)) }
+    ensures left_untouched { IfOk result (λ deed. LetBe D.observed pod area.Prepare deed (D.shown dir.old) (D.shown dir.new)) }
+    ensures ready { D.observed ≡ true → Given (MayRemove now) (D.shown dir.old) (λ s. KeepsReady s (D.shown dir.new)) }
 {
     match discard_aborted(alloc, dir, pod, now) {
         Ok(()) => Ok(Deed::Moved(Area::Garbage)),
@@ -67,14 +67,14 @@ fn deal_waiting<D: Dir>(
     times: Times,
 ) -> Result<Deed, GcError>
     requires active { IsActive (D.shown dir.old).local }
-    ensures worked { Worked D.observed (removes pod times.now) (D.shown dir.old) (D.shown dir.new) }
+    ensures worked { OnlyAsks D.observed (removes pod times.now) (D.shown dir.old) (D.shown dir.new) }
     ensures cause { IfErr result (λ e. GcCause D.observed e (D.shown dir.old) (D.shown dir.new)) }
-    ensures lawful { IfErr result (λ e. NeverStray D.observed e (D.shown dir.new)) }
+    ensures lawful { IfErr result (λ e. GcNeverStray D.observed e (D.shown dir.new)) }
     ensures deed { IfOk result (λ deed. WaitsOr D.observed pod deed (D.shown dir.old) (D.shown dir.new)) }
     ensures aged { IfOk result (λ deed. WaitsBy (is_ripe times.now times.expire created) deed) }
-    ensures another { IfOk result (λ deed. LeavesWhere D.observed (Ripens pod created times.now times.expire) pod area.Prepared deed (D.shown dir.old) (D.shown dir.new)) }
-    ensures let_be { IfOk result (λ deed. LetBe D.observed pod area.Prepared deed (D.shown dir.old) (D.shown dir.new)) }
-    ensures ready { D.observed ≡ true → Stays (Ripens pod created times.now times.expire) (D.shown dir.old) (λ s. KeepsReady s (D.shown dir.new)) }
+    ensures by_other_process { IfOk result (λ deed. LeavesIfObserved D.observed (Ripens pod created times.now times.expire) pod area.Prepared deed (D.shown dir.old) (D.shown dir.new)) }
+    ensures left_untouched { IfOk result (λ deed. LetBe D.observed pod area.Prepared deed (D.shown dir.old) (D.shown dir.new)) }
+    ensures ready { D.observed ≡ true → Given (Ripens pod created times.now times.expire) (D.shown dir.old) (λ s. KeepsReady s (D.shown dir.new)) }
 {
     if is_ripe(times.now, times.expire, created) {
         let answer = discard_prepared(alloc, dir, pod, times.now);
@@ -92,14 +92,14 @@ fn deal_prepared<D: Dir>(
     times: Times,
 ) -> Result<Deed, GcError>
     requires active { IsActive (D.shown dir.old).local }
-    ensures worked { Worked D.observed (deals_with pod times.now area.Prepared) (D.shown dir.old) (D.shown dir.new) }
+    ensures worked { OnlyAsks D.observed (deals_with_pod pod times.now area.Prepared) (D.shown dir.old) (D.shown dir.new) }
     ensures cause { IfErr result (λ e. GcCause D.observed e (D.shown dir.old) (D.shown dir.new)) }
-    ensures lawful { IfErr result (λ e. NeverStray D.observed e (D.shown dir.new)) }
+    ensures lawful { IfErr result (λ e. GcNeverStray D.observed e (D.shown dir.new)) }
     ensures deed { IfOk result (λ deed. D.observed ≡ true → DeedCause pod area.Prepared deed (D.shown dir.old).process (D.shown dir.old).trace (D.shown dir.new).trace) }
-    ensures aged { IfOk result (λ deed. D.observed ≡ true → WaitedSo times pod deed (D.shown dir.old).process (D.shown dir.old).trace (D.shown dir.new).trace) }
-    ensures another { IfOk result (λ deed. LeavesWhere D.observed (MaySweep times.now times.expire) pod area.Prepared deed (D.shown dir.old) (D.shown dir.new)) }
-    ensures let_be { IfOk result (λ deed. LetBe D.observed pod area.Prepared deed (D.shown dir.old) (D.shown dir.new)) }
-    ensures ready { D.observed ≡ true → Stays (MaySweep times.now times.expire) (D.shown dir.old) (λ s. KeepsReady s (D.shown dir.new)) }
+    ensures aged { IfOk result (λ deed. D.observed ≡ true → WaitedByAge times pod deed (D.shown dir.old).process (D.shown dir.old).trace (D.shown dir.new).trace) }
+    ensures by_other_process { IfOk result (λ deed. LeavesIfObserved D.observed (MaySweepPods times.now times.expire) pod area.Prepared deed (D.shown dir.old) (D.shown dir.new)) }
+    ensures left_untouched { IfOk result (λ deed. LetBe D.observed pod area.Prepared deed (D.shown dir.old) (D.shown dir.new)) }
+    ensures ready { D.observed ≡ true → Given (MaySweepPods times.now times.expire) (D.shown dir.old) (λ s. KeepsReady s (D.shown dir.new)) }
 {
     match marked_at(alloc, dir, pod, Area::Prepared, b"created-")? {
         Some(created) => deal_waiting(alloc, dir, pod, created, times),
@@ -110,14 +110,14 @@ fn deal_prepared<D: Dir>(
 // An exited pod is marked and goes to exited-garbage. Whose own lock is held still runs.
 fn deal_run<D: Dir>(alloc: Global, dir: &mut D, pod: PodId, now: u64) -> Result<Deed, GcError>
     requires active { IsActive (D.shown dir.old).local }
-    ensures worked { Worked D.observed (deals_with pod now area.Run) (D.shown dir.old) (D.shown dir.new) }
+    ensures worked { OnlyAsks D.observed (deals_with_pod pod now area.Run) (D.shown dir.old) (D.shown dir.new) }
     ensures cause { IfErr result (λ e. GcCause D.observed e (D.shown dir.old) (D.shown dir.new)) }
-    ensures lawful { IfErr result (λ e. NeverStray D.observed e (D.shown dir.new)) }
+    ensures lawful { IfErr result (λ e. GcNeverStray D.observed e (D.shown dir.new)) }
     ensures deed { IfOk result (λ deed. D.observed ≡ true → DeedCause pod area.Run deed (D.shown dir.old).process (D.shown dir.old).trace (D.shown dir.new).trace) }
-    ensures another { IfOk result (λ deed. LeavesWhere D.observed (MayRemove now) pod area.Run deed (D.shown dir.old) (D.shown dir.new)) }
+    ensures by_other_process { IfOk result (λ deed. LeavesIfObserved D.observed (MayRemove now) pod area.Run deed (D.shown dir.old) (D.shown dir.new)) }
     ensures marked { IfOk result (λ deed. D.observed ≡ true → MarksFirst pod now deed (D.shown dir.old) (D.shown dir.new)) }
-    ensures let_be { IfOk result (λ deed. LetBe D.observed pod area.Run deed (D.shown dir.old) (D.shown dir.new)) }
-    ensures ready { D.observed ≡ true → Stays (MayRemove now) (D.shown dir.old) (λ s. KeepsReady s (D.shown dir.new)) }
+    ensures left_untouched { IfOk result (λ deed. LetBe D.observed pod area.Run deed (D.shown dir.old) (D.shown dir.new)) }
+    ensures ready { D.observed ≡ true → Given (MayRemove now) (D.shown dir.old) (λ s. KeepsReady s (D.shown dir.new)) }
 {
     match retire_exited(alloc, dir, pod, now) {
         Ok(()) => Ok(Deed::Moved(Area::ExitedGarbage)),
@@ -135,14 +135,14 @@ fn deal_rested<D: Dir>(
     times: Times,
 ) -> Result<Deed, GcError>
     requires active { IsActive (D.shown dir.old).local }
-    ensures worked { Worked D.observed (deals_with pod times.now area.ExitedGarbage) (D.shown dir.old) (D.shown dir.new) }
+    ensures worked { OnlyAsks D.observed (deals_with_pod pod times.now area.ExitedGarbage) (D.shown dir.old) (D.shown dir.new) }
     ensures cause { IfErr result (λ e. GcCause D.observed e (D.shown dir.old) (D.shown dir.new)) }
-    ensures lawful { IfErr result (λ e. StrayByApp D.observed e (MayRemove times.now) (D.shown dir.old) (D.shown dir.new)) }
+    ensures lawful { IfErr result (λ e. GcStrayByApp D.observed e (MayRemove times.now) (D.shown dir.old) (D.shown dir.new)) }
     ensures deed { IfOk result (λ deed. D.observed ≡ true → DeedCause pod area.ExitedGarbage deed (D.shown dir.old).process (D.shown dir.old).trace (D.shown dir.new).trace) }
     ensures aged { IfOk result (λ deed. RestsBy (is_young times.now times.grace marked) deed) }
-    ensures another { IfOk result (λ deed. LeavesWhere D.observed (MayRemove times.now) pod area.ExitedGarbage deed (D.shown dir.old) (D.shown dir.new)) }
-    ensures let_be { IfOk result (λ deed. LetBe D.observed pod area.ExitedGarbage deed (D.shown dir.old) (D.shown dir.new)) }
-    ensures ready { D.observed ≡ true → Stays (MayRemove times.now) (D.shown dir.old) (λ s. KeepsReady s (D.shown dir.new)) }
+    ensures by_other_process { IfOk result (λ deed. LeavesIfObserved D.observed (MayRemove times.now) pod area.ExitedGarbage deed (D.shown dir.old) (D.shown dir.new)) }
+    ensures left_untouched { IfOk result (λ deed. LetBe D.observed pod area.ExitedGarbage deed (D.shown dir.old) (D.shown dir.new)) }
+    ensures ready { D.observed ≡ true → Given (MayRemove times.now) (D.shown dir.old) (λ s. KeepsReady s (D.shown dir.new)) }
 {
     if is_young(times.now, times.grace, marked) {
         kept_exited(alloc, dir, pod)
@@ -160,14 +160,14 @@ fn deal_exited_garbage<D: Dir>(
     times: Times,
 ) -> Result<Deed, GcError>
     requires active { IsActive (D.shown dir.old).local }
-    ensures worked { Worked D.observed (deals_with pod times.now area.ExitedGarbage) (D.shown dir.old) (D.shown dir.new) }
+    ensures worked { OnlyAsks D.observed (deals_with_pod pod times.now area.ExitedGarbage) (D.shown dir.old) (D.shown dir.new) }
     ensures cause { IfErr result (λ e. GcCause D.observed e (D.shown dir.old) (D.shown dir.new)) }
-    ensures lawful { IfErr result (λ e. StrayByApp D.observed e (MayRemove times.now) (D.shown dir.old) (D.shown dir.new)) }
+    ensures lawful { IfErr result (λ e. GcStrayByApp D.observed e (MayRemove times.now) (D.shown dir.old) (D.shown dir.new)) }
     ensures deed { IfOk result (λ deed. D.observed ≡ true → DeedCause pod area.ExitedGarbage deed (D.shown dir.old).process (D.shown dir.old).trace (D.shown dir.new).trace) }
-    ensures aged { IfOk result (λ deed. D.observed ≡ true → RestedSo times pod deed (D.shown dir.old).process (D.shown dir.old).trace (D.shown dir.new).trace) }
-    ensures another { IfOk result (λ deed. LeavesWhere D.observed (MayRemove times.now) pod area.ExitedGarbage deed (D.shown dir.old) (D.shown dir.new)) }
-    ensures let_be { IfOk result (λ deed. LetBe D.observed pod area.ExitedGarbage deed (D.shown dir.old) (D.shown dir.new)) }
-    ensures ready { D.observed ≡ true → Stays (MayRemove times.now) (D.shown dir.old) (λ s. KeepsReady s (D.shown dir.new)) }
+    ensures aged { IfOk result (λ deed. D.observed ≡ true → RestedByAge times pod deed (D.shown dir.old).process (D.shown dir.old).trace (D.shown dir.new).trace) }
+    ensures by_other_process { IfOk result (λ deed. LeavesIfObserved D.observed (MayRemove times.now) pod area.ExitedGarbage deed (D.shown dir.old) (D.shown dir.new)) }
+    ensures left_untouched { IfOk result (λ deed. LetBe D.observed pod area.ExitedGarbage deed (D.shown dir.old) (D.shown dir.new)) }
+    ensures ready { D.observed ≡ true → Given (MayRemove times.now) (D.shown dir.old) (λ s. KeepsReady s (D.shown dir.new)) }
 {
     match marked_at(alloc, dir, pod, Area::ExitedGarbage, b"marked-")? {
         Some(marked) => deal_rested(alloc, dir, pod, marked, times),
@@ -185,14 +185,14 @@ fn deal_garbage<D: Dir>(
 ) -> Result<Deed, GcError>
     requires active { IsActive (D.shown dir.old).local }
     requires garbage { is_garbage_place area ≡ true }
-    ensures worked { Worked D.observed (deals_with pod now area) (D.shown dir.old) (D.shown dir.new) }
+    ensures worked { OnlyAsks D.observed (deals_with_pod pod now area) (D.shown dir.old) (D.shown dir.new) }
     ensures cause { IfErr result (λ e. GcCause D.observed e (D.shown dir.old) (D.shown dir.new)) }
-    ensures lawful { IfErr result (λ e. StrayByApp D.observed e (MayRemove now) (D.shown dir.old) (D.shown dir.new)) }
+    ensures lawful { IfErr result (λ e. GcStrayByApp D.observed e (MayRemove now) (D.shown dir.old) (D.shown dir.new)) }
     ensures deed { IfOk result (λ deed. D.observed ≡ true → DeedCause pod area deed (D.shown dir.old).process (D.shown dir.old).trace (D.shown dir.new).trace) }
     ensures ends { IfOk result (λ deed. (phase : Phase) → deed ≡ Deed.Kept phase → ⊥) }
-    ensures another { IfOk result (λ deed. LeavesWhere D.observed (MayRemove now) pod area deed (D.shown dir.old) (D.shown dir.new)) }
-    ensures let_be { IfOk result (λ deed. LetBe D.observed pod area deed (D.shown dir.old) (D.shown dir.new)) }
-    ensures ready { D.observed ≡ true → Stays (MayRemove now) (D.shown dir.old) (λ s. KeepsReady s (D.shown dir.new)) }
+    ensures by_other_process { IfOk result (λ deed. LeavesIfObserved D.observed (MayRemove now) pod area deed (D.shown dir.old) (D.shown dir.new)) }
+    ensures left_untouched { IfOk result (λ deed. LetBe D.observed pod area deed (D.shown dir.old) (D.shown dir.new)) }
+    ensures ready { D.observed ≡ true → Given (MayRemove now) (D.shown dir.old) (λ s. KeepsReady s (D.shown dir.new)) }
 {
     let answer = delete_at(alloc, dir, pod, area, now);
     deed_of(answer, Deed::Deleted)
@@ -208,12 +208,12 @@ pub(crate) fn deal<D: Dir>(
 ) -> Result<Deed, GcError>
     requires active { IsActive (D.shown dir.old).local }
     requires stage { is_stage area ≡ true }
-    ensures worked { Worked D.observed (deals_with pod times.now area) (D.shown dir.old) (D.shown dir.new) }
+    ensures worked { OnlyAsks D.observed (deals_with_pod pod times.now area) (D.shown dir.old) (D.shown dir.new) }
     ensures cause { IfErr result (λ e. GcCause D.observed e (D.shown dir.old) (D.shown dir.new)) }
-    ensures lawful { IfErr result (λ e. StrayByApp D.observed e (MayPass area times.now times.expire) (D.shown dir.old) (D.shown dir.new)) }
+    ensures lawful { IfErr result (λ e. GcStrayByApp D.observed e (MayPassPods area times.now times.expire) (D.shown dir.old) (D.shown dir.new)) }
     ensures dealt { IfOk result (λ deed. D.observed ≡ true → Dealt times pod area deed (D.shown dir.old).process (D.shown dir.old).trace (D.shown dir.new).trace) }
-    ensures another { IfOk result (λ deed. LeavesWhere D.observed (MayPass area times.now times.expire) pod area deed (D.shown dir.old) (D.shown dir.new)) }
-    ensures ready { D.observed ≡ true → Stays (MayPass area times.now times.expire) (D.shown dir.old) (λ s. KeepsReady s (D.shown dir.new)) }
+    ensures by_other_process { IfOk result (λ deed. LeavesIfObserved D.observed (MayPassPods area times.now times.expire) pod area deed (D.shown dir.old) (D.shown dir.new)) }
+    ensures ready { D.observed ≡ true → Given (MayPassPods area times.now times.expire) (D.shown dir.old) (λ s. KeepsReady s (D.shown dir.new)) }
 {
     match area {
         Area::Embryo => deal_embryo(alloc, dir, pod),

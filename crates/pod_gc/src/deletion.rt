@@ -8,15 +8,15 @@ ghost use Rattle.dir_model.specs.declared.request.Reply.TheVariants.{Done};
 ghost use Rattle.dir_model.specs.State.{stands};
 ghost use Rattle.dir_trait.specs.DirCalls.{HeldBetween};
 ghost use Rattle.dir_trait.specs.Local.{IsActive};
-ghost use Rattle.folder_building.specs.Work.{Worked};
+ghost use Rattle.dir_trait.specs.Effects.{OnlyAsks, Given};
 ghost use Rattle.folder_removal.specs.Known.{StrayKnowing};
 ghost use Rattle.folder_removal.specs.Removal.{KeepsFolders};
 ghost use Rattle.phase_read.specs.Often.{ReadsAtMost};
 ghost use Rattle.phase_read.specs.Read.{pod_spot};
 ghost use Rattle.pod_gc.specs.RemovalRequests.{is_garbage_place, deletes_in, removes};
-ghost use Rattle.pod_locks.specs.Holding.{KeepsReady, Stays};
+ghost use Rattle.pod_locks.specs.Holding.{KeepsReady};
 ghost use Rattle.pod_gc.specs.RemovalHolding.{MayRemove, HasOwn, KeepsBut};
-ghost use Rattle.pod_locks.specs.Causes.{Stopped, StrayByApp, IsAbsentAt, BusyElsewhere, FreeWhere, Did};
+ghost use Rattle.pod_locks.specs.Causes.{StepWasStopped, StrayByApp, IsAbsentAt, LockBusyElsewhere, FreeIfObserved, Did};
 ghost use Rattle.pod_gc.specs.RemovalCauses.{BusyByLooks, StoppedDeleting, MissedUntaken};
 
 use dir_trait::{Area, Dir, PodId, Which};
@@ -34,15 +34,15 @@ fn delete_standing<D: Dir>(
 ) -> Result<(), Setback>
     requires active { IsActive (D.shown dir.old).local }
     requires garbage { is_garbage_place area ≡ true }
-    ensures worked { Worked D.observed (deletes_in pod area) (D.shown dir.old) (D.shown dir.new) }
+    ensures worked { OnlyAsks D.observed (deletes_in pod area) (D.shown dir.old) (D.shown dir.new) }
     ensures stopped { IfErr result (λ e. StoppedDeleting D.observed (pod_spot pod area) e (D.shown dir.old) (D.shown dir.new)) }
-    ensures knew { IfErr result (λ e. e ≡ Setback.Stray → D.observed ≡ true → Stays (HasOwn pod area) (D.shown dir.old)
+    ensures knew { IfErr result (λ e. e ≡ Setback.Stray → D.observed ≡ true → Given (HasOwn pod area) (D.shown dir.old)
         (λ s. StrayKnowing (pod_spot pod area) (D.shown dir.old).process (D.shown dir.new).trace)) }
     ensures calm { IfErr result (λ e. (which : Which) → e ≡ Setback.Busy which → ⊥) }
     ensures done { IfOk result (λ done. D.observed ≡ true
         → Did (RemoveFolder (pod_spot pod area)) Done (D.shown dir.old).process (D.shown dir.old).trace (D.shown dir.new).trace) }
     ensures kept { IfErr result (λ e. D.observed ≡ true → KeepsFolders (D.shown dir.old) (D.shown dir.new)) }
-    ensures known { D.observed ≡ true → Stays (HasOwn pod area) (D.shown dir.old) (λ s. KeepsBut pod area s (D.shown dir.new)) }
+    ensures known { D.observed ≡ true → Given (HasOwn pod area) (D.shown dir.old) (λ s. KeepsBut pod area s (D.shown dir.new)) }
 {
     match delete_folder(alloc, dir, pod_spot(pod, area)) {
         Ok(()) => Ok(()),
@@ -60,8 +60,8 @@ fn delete_if_there<D: Dir>(
 ) -> Result<(), Setback>
     requires active { IsActive (D.shown dir.old).local }
     requires garbage { is_garbage_place area ≡ true }
-    ensures worked { Worked D.observed (deletes_in pod area) (D.shown dir.old) (D.shown dir.new) }
-    ensures stopped { IfErr result (λ e. Stopped D.observed pod (IsAbsentAt pod area) e (D.shown dir.old) (D.shown dir.new)) }
+    ensures worked { OnlyAsks D.observed (deletes_in pod area) (D.shown dir.old) (D.shown dir.new) }
+    ensures stopped { IfErr result (λ e. StepWasStopped D.observed pod (IsAbsentAt pod area) e (D.shown dir.old) (D.shown dir.new)) }
     ensures lawful { IfErr result (λ e. StrayByApp D.observed e (HasOwn pod area) (D.shown dir.old) (D.shown dir.new)) }
     ensures calm { IfErr result (λ e. (which : Which) → e ≡ Setback.Busy which → ⊥) }
     ensures still { IfErr result (λ e. MissedUntaken D.observed e (D.shown dir.old) (D.shown dir.new)) }
@@ -70,7 +70,7 @@ fn delete_if_there<D: Dir>(
     ensures done { IfOk result (λ done. D.observed ≡ true
         → Did (RemoveFolder (pod_spot pod area)) Done (D.shown dir.old).process (D.shown dir.old).trace (D.shown dir.new).trace) }
     ensures kept { IfErr result (λ e. D.observed ≡ true → KeepsFolders (D.shown dir.old) (D.shown dir.new)) }
-    ensures known { D.observed ≡ true → Stays (HasOwn pod area) (D.shown dir.old) (λ s. KeepsBut pod area s (D.shown dir.new)) }
+    ensures known { D.observed ≡ true → Given (HasOwn pod area) (D.shown dir.old) (λ s. KeepsBut pod area s (D.shown dir.new)) }
 {
     match look(alloc, dir, pod_spot(pod, area)) {
         Ok(true) => delete_standing(alloc, dir, pod, area),
@@ -93,20 +93,20 @@ pub fn delete_at<D: Dir>(
 ) -> Result<(), Setback>
     requires active { IsActive (D.shown dir.old).local }
     requires garbage { is_garbage_place area ≡ true }
-    ensures worked { Worked D.observed (removes pod now) (D.shown dir.old) (D.shown dir.new) }
+    ensures worked { OnlyAsks D.observed (removes pod now) (D.shown dir.old) (D.shown dir.new) }
     ensures reads { ReadsAtMost 0 D.observed pod (D.shown dir.old) (D.shown dir.new) }
-    ensures stopped { IfErr result (λ e. Stopped D.observed pod (IsAbsentAt pod area) e (D.shown dir.old) (D.shown dir.new)) }
+    ensures stopped { IfErr result (λ e. StepWasStopped D.observed pod (IsAbsentAt pod area) e (D.shown dir.old) (D.shown dir.new)) }
     ensures lawful { IfErr result (λ e. StrayByApp D.observed e (MayRemove now) (D.shown dir.old) (D.shown dir.new)) }
-    ensures another { IfErr result (λ e. D.observed ≡ true → Stays (MayRemove now) (D.shown dir.old)
-        (λ s. BusyElsewhere pod area mode.Exclusive e (D.shown dir.old) (D.shown dir.new))) }
+    ensures by_other_process { IfErr result (λ e. D.observed ≡ true → Given (MayRemove now) (D.shown dir.old)
+        (λ s. LockBusyElsewhere pod area mode.Exclusive e (D.shown dir.old) (D.shown dir.new))) }
     ensures done { IfOk result (λ done. D.observed ≡ true
         → Did (RemoveFolder (pod_spot pod area)) Done (D.shown dir.old).process (D.shown dir.old).trace (D.shown dir.new).trace) }
     ensures named { IfErr result (λ e. (which : Which) → e ≡ Setback.Busy which → which ≡ Own) }
-    ensures free { IfOk result (λ done. FreeWhere D.observed pod area Own mode.Exclusive (D.shown dir.old) (D.shown dir.new)) }
+    ensures free { IfOk result (λ done. FreeIfObserved D.observed pod area Own mode.Exclusive (D.shown dir.old) (D.shown dir.new)) }
     ensures looks { IfErr result (λ e. BusyByLooks D.observed pod area e (D.shown dir.old) (D.shown dir.new)) }
     ensures still { IfErr result (λ e. MissedUntaken D.observed e (D.shown dir.old) (D.shown dir.new)) }
     ensures kept { IfErr result (λ e. D.observed ≡ true → KeepsFolders (D.shown dir.old) (D.shown dir.new)) }
-    ensures ready { D.observed ≡ true → Stays (MayRemove now) (D.shown dir.old) (λ s. KeepsReady s (D.shown dir.new)) }
+    ensures ready { D.observed ≡ true → Given (MayRemove now) (D.shown dir.old) (λ s. KeepsReady s (D.shown dir.new)) }
 {
     let own = take(alloc, dir, pod, area, Which::Own)?;
     let result = delete_if_there(alloc, dir, pod, area);

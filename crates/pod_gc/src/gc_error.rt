@@ -1,6 +1,6 @@
 // Why a sweep of pods ended early.
 ghost use Rattle.std.specs.Prelude.{◌≡◌};
-ghost use Rattle.phase_read.specs.Faults.{IsFault};
+ghost use Rattle.phase_read.specs.Faults.{IsLookFault};
 ghost use Rattle.pod_gc.specs.Causes.{listing_fault, look_fault, lock_fault, step_fault};
 
 use dir_files::LockError;
@@ -33,7 +33,7 @@ pub(crate) fn listing_fault(error: DirError) -> GcError
 
 /// What it means that a look found nothing out.
 pub(crate) fn look_fault(error: LookError) -> GcError
-    requires { IsFault error }
+    requires { IsLookFault error }
     ensures { result ≡ look_fault error }
 {
     match error {

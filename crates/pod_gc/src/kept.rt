@@ -5,12 +5,12 @@ ghost use Rattle.dir_model.specs.declared.spot.Which.{Which};
 ghost use Rattle.dir_trait.specs.DirCalls.{ExtendsBy};
 ghost use Rattle.dir_trait.specs.Local.{IsActive};
 ghost use Rattle.dir_trait.specs.Knowledge.{OnlyLooks};
-ghost use Rattle.folder_building.specs.Work.{Worked};
+ghost use Rattle.dir_trait.specs.Effects.{OnlyAsks, Given};
 ghost use Rattle.pod_locks.specs.Requests.{looks_at, peeks_at};
-ghost use Rattle.pod_locks.specs.Holding.{KeepsReady, Stays};
+ghost use Rattle.pod_locks.specs.Holding.{KeepsReady};
 ghost use Rattle.pod_gc.specs.RemovalHolding.{MayRemove};
 ghost use Rattle.pod_gc.specs.Causes.{GcCause};
-ghost use Rattle.pod_gc.specs.Deeds.{DeedCause, SaysThere, DoesNothing, LeavesWhere};
+ghost use Rattle.pod_gc.specs.Deeds.{DeedCause, SaysThere, DoesNothing, LeavesIfObserved};
 
 use crate::gc_error::{GcError, look_fault};
 use crate::line::{Deed, deed_of};
@@ -29,7 +29,7 @@ pub(crate) fn kept<D: Dir>(
     phase: Phase,
 ) -> Result<Deed, GcError>
     requires active { IsActive (D.shown dir.old).local }
-    ensures worked { Worked D.observed (looks_at pod area) (D.shown dir.old) (D.shown dir.new) }
+    ensures worked { OnlyAsks D.observed (looks_at pod area) (D.shown dir.old) (D.shown dir.new) }
     ensures cause { IfErr result (λ e. GcCause D.observed e (D.shown dir.old) (D.shown dir.new)) }
     ensures never { IfErr result (λ e. e ≡ GcError.Stray → ⊥) }
     ensures said { IfOk result (λ deed. SaysThere D.observed pod area phase deed (D.shown dir.old) (D.shown dir.new)) }
@@ -46,14 +46,14 @@ pub(crate) fn kept<D: Dir>(
 /// What is said of a pod in exited-garbage whose time there isn't over.
 pub(crate) fn kept_exited<D: Dir>(alloc: Global, dir: &mut D, pod: PodId) -> Result<Deed, GcError>
     requires active { IsActive (D.shown dir.old).local }
-    ensures worked { Worked D.observed (looks_at pod area.ExitedGarbage) (D.shown dir.old) (D.shown dir.new) }
+    ensures worked { OnlyAsks D.observed (looks_at pod area.ExitedGarbage) (D.shown dir.old) (D.shown dir.new) }
     ensures cause { IfErr result (λ e. GcCause D.observed e (D.shown dir.old) (D.shown dir.new)) }
     ensures never { IfErr result (λ e. e ≡ GcError.Stray → ⊥) }
     ensures deed { IfOk result (λ deed. D.observed ≡ true → DeedCause pod area.ExitedGarbage deed (D.shown dir.old).process (D.shown dir.old).trace (D.shown dir.new).trace) }
     ensures rests { IfOk result (λ deed. DoesNothing deed) }
-    ensures another { IfOk result (λ deed. (now : ℕ) → LeavesWhere D.observed (MayRemove now) pod area.ExitedGarbage deed (D.shown dir.old) (D.shown dir.new)) }
+    ensures by_other_process { IfOk result (λ deed. (now : ℕ) → LeavesIfObserved D.observed (MayRemove now) pod area.ExitedGarbage deed (D.shown dir.old) (D.shown dir.new)) }
     ensures calm { IfOk result (λ deed. (which : Which) → deed ≡ Deed.Busy which → ⊥) }
-    ensures ready { D.observed ≡ true → (now : ℕ) → Stays (MayRemove now) (D.shown dir.old) (λ s. KeepsReady s (D.shown dir.new)) }
+    ensures ready { D.observed ≡ true → (now : ℕ) → Given (MayRemove now) (D.shown dir.old) (λ s. KeepsReady s (D.shown dir.new)) }
 {
     match probe(alloc, dir, pod, Area::ExitedGarbage) {
         Ok(()) => kept(alloc, dir, pod, Area::ExitedGarbage, Phase::ExitedGarbage),

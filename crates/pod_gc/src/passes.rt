@@ -2,20 +2,19 @@
 ghost use Rattle.std.specs.Prelude.{◌≡◌, ◌++◌, ◌∷◌, [], true, IfOk, IfErr};
 ghost use Rattle.dir_model.specs.Areas.{is_stage};
 ghost use Rattle.dir_trait.specs.Local.{IsActive};
-ghost use Rattle.folder_building.specs.Work.{Worked};
-ghost use Rattle.pod_locks.specs.Holding.{KeepsReady, Stays};
+ghost use Rattle.dir_trait.specs.Effects.{OnlyAsks, Given};
+ghost use Rattle.pod_locks.specs.Holding.{KeepsReady};
 ghost use Rattle.pod_gc.specs.Requests.{sweeps};
-ghost use Rattle.pod_gc.specs.Causes.{GcCause, StrayByApp};
-ghost use Rattle.pod_gc.specs.Sweeping.{MayPass, MaySweepAll};
-ghost use Rattle.pod_gc.specs.Told.{deals_with_some, AddsTold, AddsShown, AddsPassed};
+ghost use Rattle.pod_gc.specs.Causes.{GcCause, GcStrayByApp};
+ghost use Rattle.pod_gc.specs.Sweeping.{MayPassPods, MaySweepAll};
+ghost use Rattle.pod_gc.specs.Told.{deals_with_pods, AddsTold, AddsShown, AddsPassed};
 ghost use Rattle.pod_gc.specs.Ended.{EndsAtPod, EndsAmongBetween, EndsListingBetween, EndsPassBetween};
 
 use crate::ages::Times;
 use crate::deals::deal;
 use crate::gc_error::{GcError, listing_fault, lock_fault};
 use crate::line::{Deed, GcLine};
-use dir_files::{LockError, lock_area, unlock_area};
-use dir_files::names_of;
+use dir_files::{LockError, lock_area, names_of, unlock_area};
 use dir_trait::{Area, Dir, Mode, Name, PodId};
 use std::alloc::Global;
 
@@ -40,12 +39,12 @@ fn deal_next<D: Dir>(
 ) -> Result<(), GcError>
     requires active { IsActive (D.shown dir.old).local }
     requires stage { is_stage place ≡ true }
-    ensures worked { Worked D.observed (deals_with_some times.now place (name.now ∷ [])) (D.shown dir.old) (D.shown dir.new) }
+    ensures worked { OnlyAsks D.observed (deals_with_pods times.now place (name.now ∷ [])) (D.shown dir.old) (D.shown dir.new) }
     ensures cause { IfErr result (λ e. GcCause D.observed e (D.shown dir.old) (D.shown dir.new)) }
-    ensures lawful { IfErr result (λ e. StrayByApp D.observed e (MayPass place times.now times.expire) (D.shown dir.old) (D.shown dir.new)) }
+    ensures lawful { IfErr result (λ e. GcStrayByApp D.observed e (MayPassPods place times.now times.expire) (D.shown dir.old) (D.shown dir.new)) }
     ensures told { IfOk result (λ done. D.observed ≡ true → AddsTold times place (name.now ∷ []) (D.shown dir.old) (D.shown dir.new) lines.old.items lines.new.items) }
     ensures ended { IfErr result (λ e. D.observed ≡ true → EndsAtPod times.now place name.now (D.shown dir.old).process (D.shown dir.old).trace (D.shown dir.new).trace) }
-    ensures ready { D.observed ≡ true → Stays (MayPass place times.now times.expire) (D.shown dir.old) (λ s. KeepsReady s (D.shown dir.new)) }
+    ensures ready { D.observed ≡ true → Given (MayPassPods place times.now times.expire) (D.shown dir.old) (λ s. KeepsReady s (D.shown dir.new)) }
 {
     match PodId::parse(name.as_str()) {
         Some(id) => {
@@ -67,12 +66,12 @@ fn deal_each<D: Dir>(
 ) -> Result<(), GcError>
     requires active { IsActive (D.shown dir.old).local }
     requires stage { is_stage place ≡ true }
-    ensures worked { Worked D.observed (deals_with_some times.now place names.now) (D.shown dir.old) (D.shown dir.new) }
+    ensures worked { OnlyAsks D.observed (deals_with_pods times.now place names.now) (D.shown dir.old) (D.shown dir.new) }
     ensures cause { IfErr result (λ e. GcCause D.observed e (D.shown dir.old) (D.shown dir.new)) }
-    ensures lawful { IfErr result (λ e. StrayByApp D.observed e (MayPass place times.now times.expire) (D.shown dir.old) (D.shown dir.new)) }
+    ensures lawful { IfErr result (λ e. GcStrayByApp D.observed e (MayPassPods place times.now times.expire) (D.shown dir.old) (D.shown dir.new)) }
     ensures told { IfOk result (λ done. D.observed ≡ true → AddsTold times place names.now (D.shown dir.old) (D.shown dir.new) lines.old.items lines.new.items) }
     ensures ended { IfErr result (λ e. D.observed ≡ true → EndsAmongBetween times place names.now (D.shown dir.old) (D.shown dir.new)) }
-    ensures ready { D.observed ≡ true → Stays (MayPass place times.now times.expire) (D.shown dir.old) (λ s. KeepsReady s (D.shown dir.new)) }
+    ensures ready { D.observed ≡ true → Given (MayPassPods place times.now times.expire) (D.shown dir.old) (λ s. KeepsReady s (D.shown dir.new)) }
 {
     'names: for name in names {
         deal_next(alloc, dir, place, name, times, lines)?;
@@ -90,12 +89,12 @@ fn pass_listed<D: Dir>(
 ) -> Result<(), GcError>
     requires active { IsActive (D.shown dir.old).local }
     requires stage { is_stage place ≡ true }
-    ensures worked { Worked D.observed (sweeps times.now) (D.shown dir.old) (D.shown dir.new) }
+    ensures worked { OnlyAsks D.observed (sweeps times.now) (D.shown dir.old) (D.shown dir.new) }
     ensures cause { IfErr result (λ e. GcCause D.observed e (D.shown dir.old) (D.shown dir.new)) }
-    ensures lawful { IfErr result (λ e. StrayByApp D.observed e (MayPass place times.now times.expire) (D.shown dir.old) (D.shown dir.new)) }
+    ensures lawful { IfErr result (λ e. GcStrayByApp D.observed e (MayPassPods place times.now times.expire) (D.shown dir.old) (D.shown dir.new)) }
     ensures told { IfOk result (λ done. D.observed ≡ true → AddsShown times place (D.shown dir.old) (D.shown dir.new) lines.old.items lines.new.items) }
     ensures ended { IfErr result (λ e. D.observed ≡ true → EndsListingBetween times place (D.shown dir.old) (D.shown dir.new)) }
-    ensures ready { D.observed ≡ true → Stays (MayPass place times.now times.expire) (D.shown dir.old) (λ s. KeepsReady s (D.shown dir.new)) }
+    ensures ready { D.observed ≡ true → Given (MayPassPods place times.now times.expire) (D.shown dir.old) (λ s. KeepsReady s (D.shown dir.new)) }
 {
     match names_of(alloc, dir, place) {
         Ok(names) => deal_each(alloc, dir, place, names.as_slice(), times, lines),
@@ -111,12 +110,12 @@ fn pass_embryo<D: Dir>(
     lines: &mut Vec<GcLine>,
 ) -> Result<(), GcError>
     requires active { IsActive (D.shown dir.old).local }
-    ensures worked { Worked D.observed (sweeps times.now) (D.shown dir.old) (D.shown dir.new) }
+    ensures worked { OnlyAsks D.observed (sweeps times.now) (D.shown dir.old) (D.shown dir.new) }
     ensures cause { IfErr result (λ e. GcCause D.observed e (D.shown dir.old) (D.shown dir.new)) }
-    ensures lawful { IfErr result (λ e. StrayByApp D.observed e (MaySweepAll times.now times.expire) (D.shown dir.old) (D.shown dir.new)) }
+    ensures lawful { IfErr result (λ e. GcStrayByApp D.observed e (MaySweepAll times.now times.expire) (D.shown dir.old) (D.shown dir.new)) }
     ensures told { IfOk result (λ done. D.observed ≡ true → AddsPassed times Area.Embryo (D.shown dir.old) (D.shown dir.new) lines.old.items lines.new.items) }
     ensures ended { IfErr result (λ e. D.observed ≡ true → EndsPassBetween times Area.Embryo (D.shown dir.old) (D.shown dir.new)) }
-    ensures ready { D.observed ≡ true → Stays (MaySweepAll times.now times.expire) (D.shown dir.old) (λ s. KeepsReady s (D.shown dir.new)) }
+    ensures ready { D.observed ≡ true → Given (MaySweepAll times.now times.expire) (D.shown dir.old) (λ s. KeepsReady s (D.shown dir.new)) }
 {
     match lock_area(alloc, dir, Area::Embryo, Mode::Exclusive) {
         Ok(gate) => {
@@ -147,12 +146,12 @@ pub(crate) fn pass<D: Dir>(
 ) -> Result<(), GcError>
     requires active { IsActive (D.shown dir.old).local }
     requires stage { is_stage place ≡ true }
-    ensures worked { Worked D.observed (sweeps times.now) (D.shown dir.old) (D.shown dir.new) }
+    ensures worked { OnlyAsks D.observed (sweeps times.now) (D.shown dir.old) (D.shown dir.new) }
     ensures cause { IfErr result (λ e. GcCause D.observed e (D.shown dir.old) (D.shown dir.new)) }
-    ensures lawful { IfErr result (λ e. StrayByApp D.observed e (MaySweepAll times.now times.expire) (D.shown dir.old) (D.shown dir.new)) }
+    ensures lawful { IfErr result (λ e. GcStrayByApp D.observed e (MaySweepAll times.now times.expire) (D.shown dir.old) (D.shown dir.new)) }
     ensures told { IfOk result (λ done. D.observed ≡ true → AddsPassed times place (D.shown dir.old) (D.shown dir.new) lines.old.items lines.new.items) }
     ensures ended { IfErr result (λ e. D.observed ≡ true → EndsPassBetween times place (D.shown dir.old) (D.shown dir.new)) }
-    ensures ready { D.observed ≡ true → Stays (MaySweepAll times.now times.expire) (D.shown dir.old) (λ s. KeepsReady s (D.shown dir.new)) }
+    ensures ready { D.observed ≡ true → Given (MaySweepAll times.now times.expire) (D.shown dir.old) (λ s. KeepsReady s (D.shown dir.new)) }
 {
     match place {
         Area::Embryo => pass_embryo(alloc, dir, times, lines),

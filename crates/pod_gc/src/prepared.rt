@@ -8,16 +8,16 @@ ghost use Rattle.dir_model.specs.declared.request.Reply.TheVariants.{Done};
 ghost use Rattle.dir_trait.specs.DirCalls.{ExtendsBy, LockToldBetween};
 ghost use Rattle.dir_trait.specs.Local.{IsActive};
 ghost use Rattle.dir_trait.specs.Knowledge.{OnlyLooks};
-ghost use Rattle.folder_building.specs.Work.{Worked};
+ghost use Rattle.dir_trait.specs.Effects.{OnlyAsks, Given};
 ghost use Rattle.phase_read.specs.Often.{ReadsAtMost};
 ghost use Rattle.phase_read.specs.Read.{pod_spot};
 ghost use Rattle.pod_locks.specs.Requests.{looks_at};
 ghost use Rattle.pod_gc.specs.RemovalRequests.{removes, puts_aside};
-ghost use Rattle.pod_locks.specs.Holding.{KeepsReady, Stays};
+ghost use Rattle.pod_locks.specs.Holding.{KeepsReady};
 ghost use Rattle.pod_gc.specs.RemovalHolding.{MayDiscard, UnderClaim};
-ghost use Rattle.pod_locks.specs.Causes.{Stopped, NeverStray, IsAbsentAt, FreeWhere, Did};
+ghost use Rattle.pod_locks.specs.Causes.{StepWasStopped, NeverStray, IsAbsentAt, FreeIfObserved, Did};
 ghost use Rattle.pod_locks.specs.Taking.{TakesNothing};
-ghost use Rattle.pod_gc.specs.RemovalCauses.{StopsAlone, StoppedAlone, BusyInPrepared, BusyByLooks};
+ghost use Rattle.pod_gc.specs.RemovalCauses.{RemovalStopsAlone, StoppedAlone, BusyInPrepared, BusyByLooks};
 
 use dir_trait::{Area, Dir, PodId, Which};
 use phase_read::look;
@@ -33,11 +33,11 @@ fn discard_under_claim<D: Dir>(
     now: u64,
 ) -> Result<(), Setback>
     requires active { IsActive (D.shown dir.old).local }
-    ensures worked { Worked D.observed (removes pod now) (D.shown dir.old) (D.shown dir.new) }
+    ensures worked { OnlyAsks D.observed (removes pod now) (D.shown dir.old) (D.shown dir.new) }
     ensures reads { ReadsAtMost 0 D.observed pod (D.shown dir.old) (D.shown dir.new) }
-    ensures stopped { IfErr result (λ e. Stopped D.observed pod (IsAbsentAt pod area.Prepared) e (D.shown dir.old) (D.shown dir.new)) }
+    ensures stopped { IfErr result (λ e. StepWasStopped D.observed pod (IsAbsentAt pod area.Prepared) e (D.shown dir.old) (D.shown dir.new)) }
     ensures lawful { IfErr result (λ e. NeverStray D.observed e (D.shown dir.new)) }
-    ensures another { IfErr result (λ e. D.observed ≡ true → Stays (UnderClaim pod now) (D.shown dir.old)
+    ensures by_other_process { IfErr result (λ e. D.observed ≡ true → Given (UnderClaim pod now) (D.shown dir.old)
         (λ s. BusyInPrepared pod e (D.shown dir.old) (D.shown dir.new))) }
     ensures done { IfOk result (λ done. D.observed ≡ true → Did (MoveFolder (pod_spot pod area.Prepared) (pod_spot pod area.Garbage)) Done
         (D.shown dir.old).process (D.shown dir.old).trace (D.shown dir.new).trace) }
@@ -45,7 +45,7 @@ fn discard_under_claim<D: Dir>(
     ensures free { IfOk result (λ done. D.observed ≡ true → LockToldBetween (D.shown dir.old) (D.shown dir.new) (pod_spot pod area.Prepared) false) }
     ensures looks { IfErr result (λ e. BusyByLooks D.observed pod area.Prepared e (D.shown dir.old) (D.shown dir.new)) }
     ensures still { IfErr result (λ e. TakesNothing D.observed (D.shown dir.old) (D.shown dir.new)) }
-    ensures ready { D.observed ≡ true → Stays (UnderClaim pod now) (D.shown dir.old) (λ s. KeepsReady s (D.shown dir.new)) }
+    ensures ready { D.observed ≡ true → Given (UnderClaim pod now) (D.shown dir.old) (λ s. KeepsReady s (D.shown dir.new)) }
 {
     probe(alloc, dir, pod, Area::Prepared)?;
     put_aside(alloc, dir, pod, Area::Prepared, Area::Garbage)
@@ -54,8 +54,8 @@ fn discard_under_claim<D: Dir>(
 // The activation lock couldn't be opened: the pod's folder is gone from prepared, or it has no manifest.
 fn without_claim<D: Dir>(alloc: Global, dir: &mut D, pod: PodId) -> Setback
     requires active { IsActive (D.shown dir.old).local }
-    ensures worked { Worked D.observed (looks_at pod area.Prepared) (D.shown dir.old) (D.shown dir.new) }
-    ensures stopped { StopsAlone D.observed pod result (D.shown dir.old) (D.shown dir.new) }
+    ensures worked { OnlyAsks D.observed (looks_at pod area.Prepared) (D.shown dir.old) (D.shown dir.new) }
+    ensures stopped { RemovalStopsAlone D.observed pod result (D.shown dir.old) (D.shown dir.new) }
     ensures known { D.observed ≡ true → OnlyLooks (D.shown dir.old) (D.shown dir.new) }
 {
     match look(alloc, dir, pod_spot(pod, Area::Prepared)) {
@@ -77,21 +77,21 @@ pub fn discard_prepared<D: Dir>(
     now: u64,
 ) -> Result<(), Setback>
     requires active { IsActive (D.shown dir.old).local }
-    ensures worked { Worked D.observed (removes pod now) (D.shown dir.old) (D.shown dir.new) }
+    ensures worked { OnlyAsks D.observed (removes pod now) (D.shown dir.old) (D.shown dir.new) }
     ensures reads { ReadsAtMost 0 D.observed pod (D.shown dir.old) (D.shown dir.new) }
     ensures stopped { IfErr result (λ e. StoppedAlone D.observed pod e (D.shown dir.old) (D.shown dir.new)) }
     ensures lawful { IfErr result (λ e. NeverStray D.observed e (D.shown dir.new)) }
-    ensures another { IfErr result (λ e. D.observed ≡ true → Stays (MayDiscard pod now) (D.shown dir.old)
+    ensures by_other_process { IfErr result (λ e. D.observed ≡ true → Given (MayDiscard pod now) (D.shown dir.old)
         (λ s. BusyInPrepared pod e (D.shown dir.old) (D.shown dir.new))) }
     ensures done { IfOk result (λ done. D.observed ≡ true → Did (MoveFolder (pod_spot pod area.Prepared) (pod_spot pod area.Garbage)) Done
         (D.shown dir.old).process (D.shown dir.old).trace (D.shown dir.new).trace) }
     ensures aside { IfOk result (λ done. D.observed ≡ true → ExtendsBy (puts_aside pod area.Prepared area.Garbage) (D.shown dir.old) (D.shown dir.new)) }
-    ensures claimed { IfOk result (λ done. FreeWhere D.observed pod area.Prepared Claim mode.Exclusive (D.shown dir.old) (D.shown dir.new)) }
-    ensures under_claim { IfErr result (λ e. e ≡ Setback.Busy Own → FreeWhere D.observed pod area.Prepared Claim mode.Exclusive (D.shown dir.old) (D.shown dir.new)) }
+    ensures claimed { IfOk result (λ done. FreeIfObserved D.observed pod area.Prepared Claim mode.Exclusive (D.shown dir.old) (D.shown dir.new)) }
+    ensures under_claim { IfErr result (λ e. e ≡ Setback.Busy Own → FreeIfObserved D.observed pod area.Prepared Claim mode.Exclusive (D.shown dir.old) (D.shown dir.new)) }
     ensures free { IfOk result (λ done. D.observed ≡ true → LockToldBetween (D.shown dir.old) (D.shown dir.new) (pod_spot pod area.Prepared) false) }
     ensures looks { IfErr result (λ e. BusyByLooks D.observed pod area.Prepared e (D.shown dir.old) (D.shown dir.new)) }
     ensures still { IfErr result (λ e. TakesNothing D.observed (D.shown dir.old) (D.shown dir.new)) }
-    ensures ready { D.observed ≡ true → Stays (MayDiscard pod now) (D.shown dir.old) (λ s. KeepsReady s (D.shown dir.new)) }
+    ensures ready { D.observed ≡ true → Given (MayDiscard pod now) (D.shown dir.old) (λ s. KeepsReady s (D.shown dir.new)) }
 {
     match take(alloc, dir, pod, Area::Prepared, Which::Claim) {
         Ok(claim) => {

@@ -1,6 +1,6 @@
 // Why a pod wasn't removed.
 ghost use Rattle.std.specs.Prelude.{◌≡◌};
-ghost use Rattle.pod_gc.specs.RemovalSetbacks.{refusal};
+ghost use Rattle.pod_gc.specs.RemovalSetbacks.{remove_error_of};
 
 use dir_trait::{Phase, PodId, Which};
 use pod_locks::Setback;
@@ -27,7 +27,7 @@ pub enum RemoveError {
 
 /// What it means for the pod's removal that a step at it was set back for good.
 pub(crate) fn refusal(pod: PodId, stop: Setback) -> RemoveError
-    ensures { result ≡ refusal pod stop }
+    ensures { result ≡ remove_error_of pod stop }
 {
     match stop {
         Setback::Missing => RemoveError::Stray,

@@ -1,12 +1,12 @@
 // The sweep of dead pods.
 ghost use Rattle.std.specs.Prelude.{◌≡◌, true, IfOk, IfErr, IsErrOf};
 ghost use Rattle.dir_trait.specs.Local.{IsActive};
-ghost use Rattle.folder_building.specs.Work.{Worked};
+ghost use Rattle.dir_trait.specs.Effects.{OnlyAsks, Given};
 ghost use Rattle.impossible_replies.specs.Replies.{AppWroteOn};
 ghost use Rattle.lifecycle.specs.Executions.{IsConforming};
-ghost use Rattle.pod_locks.specs.Holding.{KeepsReady, Stays};
+ghost use Rattle.pod_locks.specs.Holding.{KeepsReady};
 ghost use Rattle.pod_gc.specs.Requests.{sweeps};
-ghost use Rattle.pod_gc.specs.Causes.{GcCause, StrayByApp};
+ghost use Rattle.pod_gc.specs.Causes.{GcCause, GcStrayByApp};
 ghost use Rattle.pod_gc.specs.Sweeping.{MaySweepAll};
 ghost use Rattle.pod_gc.specs.Told.{places, AddsSwept, IsSweptBetween};
 ghost use Rattle.pod_gc.specs.Ended.{EndsSweepBetween};
@@ -35,12 +35,12 @@ fn pass_each<D: Dir>(
     lines: &mut Vec<GcLine>,
 ) -> Result<(), GcError>
     requires active { IsActive (D.shown dir.old).local }
-    ensures worked { Worked D.observed (sweeps times.now) (D.shown dir.old) (D.shown dir.new) }
+    ensures worked { OnlyAsks D.observed (sweeps times.now) (D.shown dir.old) (D.shown dir.new) }
     ensures cause { IfErr result (λ e. GcCause D.observed e (D.shown dir.old) (D.shown dir.new)) }
-    ensures lawful { IfErr result (λ e. StrayByApp D.observed e (MaySweepAll times.now times.expire) (D.shown dir.old) (D.shown dir.new)) }
+    ensures lawful { IfErr result (λ e. GcStrayByApp D.observed e (MaySweepAll times.now times.expire) (D.shown dir.old) (D.shown dir.new)) }
     ensures swept { IfOk result (λ done. D.observed ≡ true → AddsSwept times places (D.shown dir.old) (D.shown dir.new) lines.old.items lines.new.items) }
     ensures ended { IfErr result (λ e. D.observed ≡ true → EndsSweepBetween times (D.shown dir.old) (D.shown dir.new)) }
-    ensures ready { D.observed ≡ true → Stays (MaySweepAll times.now times.expire) (D.shown dir.old) (λ s. KeepsReady s (D.shown dir.new)) }
+    ensures ready { D.observed ≡ true → Given (MaySweepAll times.now times.expire) (D.shown dir.old) (λ s. KeepsReady s (D.shown dir.new)) }
 {
     'places: for place in PLACES {
         pass(alloc, dir, place, times, lines)?;
@@ -66,15 +66,15 @@ pub fn gc<D: Dir>(
     expire: u64,
 ) -> Result<Vec<GcLine>, GcError>
     requires active { IsActive (D.shown dir.old).local }
-    ensures worked { Worked D.observed (sweeps now) (D.shown dir.old) (D.shown dir.new) }
+    ensures worked { OnlyAsks D.observed (sweeps now) (D.shown dir.old) (D.shown dir.new) }
     ensures cause { IfErr result (λ e. GcCause D.observed e (D.shown dir.old) (D.shown dir.new)) }
-    ensures lawful { IsErrOf result GcError.Stray → D.observed ≡ true → Stays (MaySweepAll now expire) (D.shown dir.old) (λ s. IsConforming (D.shown dir.new).trace
+    ensures lawful { IsErrOf result GcError.Stray → D.observed ≡ true → Given (MaySweepAll now expire) (D.shown dir.old) (λ s. IsConforming (D.shown dir.new).trace
         → AppWroteOn (D.shown dir.old).process (D.shown dir.old).trace (D.shown dir.new).trace) }
     ensures swept { IfOk result (λ lines. D.observed ≡ true
         → IsSweptBetween (record { now = now; grace = grace; expire = expire }) (D.shown dir.old) (D.shown dir.new) lines.items) }
     ensures ended { IfErr result (λ e. D.observed ≡ true
         → EndsSweepBetween (record { now = now; grace = grace; expire = expire }) (D.shown dir.old) (D.shown dir.new)) }
-    ensures ready { D.observed ≡ true → Stays (MaySweepAll now expire) (D.shown dir.old) (λ s. KeepsReady s (D.shown dir.new)) }
+    ensures ready { D.observed ≡ true → Given (MaySweepAll now expire) (D.shown dir.old) (λ s. KeepsReady s (D.shown dir.new)) }
 {
     let times = Times { now, grace, expire };
     let mut lines = Vec::new(alloc);

@@ -1,68 +1,50 @@
 -- Single calls of a claim: what they leave open, and what their refusals rest on.
-use Rattle.std.proofs.Common.{◌≡◌, ◌||◌, ℕ, Bool, true, false, cond, Option, Some, None, Err, List, [], ◌∷◌, ◌++◌, map, refl, sym, ap, subst, ◌∙◌, append-nil, arith}
+use Rattle.std.proofs.Common.{◌≡◌, ℕ, Bool, true, false, cond, Option, Some, None, Err, List, [], ◌∷◌, ◌++◌, refl, sym, ap, ◌∙◌, append-nil, arith}
+use Rattle.plain_laws.proofs.Texts.{same_bytes}
 use Rattle.dir_model.specs.declared.event.Event.{Event}
 use Rattle.dir_model.specs.declared.opening.Holding.{Holding}
 use Rattle.dir_model.specs.declared.pod.PodId.{PodId}
 use Rattle.dir_model.specs.declared.spot.Handle.{Handle}
 use Rattle.dir_model.specs.declared.spot.Mode.TheVariants.{Exclusive}
-use Rattle.dir_model.specs.declared.spot.Spot.{Spot}
 use Rattle.dir_model.specs.declared.spot.Which.{Which}
 use Rattle.dir_model.specs.declared.request.DirError.{DirError}
 use Rattle.dir_model.specs.declared.request.DirError.TheVariants.{Missing, Exists, NotEmpty, Locked, Failed}
 use Rattle.dir_model.specs.declared.request.DirError.TheVariants as dir
-use Rattle.dir_model.specs.declared.request.Request.{Request}
 use Rattle.dir_model.specs.declared.request.Request.TheVariants.{Open, TryLock, MoveFolder, Close}
-use Rattle.dir_model.specs.declared.request.Reply.{Reply}
 use Rattle.dir_model.specs.declared.request.Reply.TheVariants.{Done, Opened, Refused}
 use Rattle.dir_model.specs.declared.tree.TreeEntry.{TreeEntry}
 use Rattle.dir_model.specs.Calls.{CallStep, AtOwnStep}
 use Rattle.dir_model.specs.Causes.{Rose}
-use Rattle.dir_model.specs.Local.{Local, is_number, held_in, with_handle, with_lock as locked_with, without, is_open_among, IsUnopened}
+use Rattle.dir_model.specs.Local.{Local, held_in, with_handle, with_lock as locked_with, without, IsUnopened}
 use Rattle.dir_model.specs.Locks.{target_of}
 use Rattle.dir_model.specs.Replies.{may_refuse, refused_in, open_refusal, is_error}
 use Rattle.dir_model.specs.State.{DirState, stands, folder_at}
 use Rattle.dir_model.specs.Pods.{pod_text}
 use Rattle.dir_model.proofs.Allowed.{allowed_reply}
 use Rattle.dir_model.proofs.Chains.{nothing_yet, and_call}
-use Rattle.dir_model.proofs.Holdings.{tried_by, closed_after_lock}
+use Rattle.dir_model.proofs.Holdings.{tried_by, closed_after_lock, none_locked}
 use Rattle.dir_model.proofs.Lists.{and_both, same_self, map_push}
 use Rattle.dir_model.proofs.Moments.{step_at}
 use Rattle.dir_model.proofs.Spots.{spot_self}
-use Rattle.dir_rules.proofs.Looks.{same_bytes}
 use Rattle.dir_trait.specs.DirCalls.{DirAt, DirCall}
 use Rattle.pod_locks.specs.ClaimRequests.{in_prepared, in_run, claims}
-use Rattle.pod_locks.specs.ClaimHolding.{and_lock}
-use Rattle.pod_locks.specs.ClaimSetbacks.{set_back, lock_setback}
-use Rattle.pod_locks.specs.Work.{Went, MovedNothing}
-use Rattle.pod_locks.specs.ClaimCauses.{CannotOpen, IsAbsent, Stopped}
+use Rattle.pod_locks.specs.ClaimHolding.{and_prepared_lock}
+use Rattle.pod_locks.specs.ClaimSetbacks.{claim_setback_of, claim_lock_setback}
+use Rattle.pod_locks.specs.Work.{WentClaiming, MovedNothing}
+use Rattle.pod_locks.specs.ClaimCauses.{CannotOpen, IsNotInPrepared, ClaimWasStopped}
 use Rattle.pod_locks.proofs.Traces.{one_deed}
-
-pub with_spot : {observed : Bool} {old new : DirAt} {a b : Spot} {reply : Reply} (request : Spot → Request) → a ≡ b → DirCall observed old (request a) reply new → DirCall observed old (request b) reply new
-with_spot {observed} {old} {new} {a} {b} {reply} request is c = subst (λ (s : Spot). DirCall observed old (request s) reply new) is c
-
-pub with_spots : {observed : Bool} {old new : DirAt} {from from' to to' : Spot} {reply : Reply} → from ≡ from' → to ≡ to' → DirCall observed old (MoveFolder from to) reply new → DirCall observed old (MoveFolder from' to') reply new
-with_spots {observed} {old} {new} {from} {from'} {to} {to'} {reply} a b c =
-    subst (λ (t : Spot). DirCall observed old (MoveFolder from' t) reply new) b (subst (λ (f : Spot). DirCall observed old (MoveFolder f to) reply new) a c)
 
 -- what is open
 
-none_locked : (h : Handle) (hs : List Holding) → is_open_among h hs ≡ false → map (held_in h Exclusive) hs ≡ hs
-none_locked h [] none = refl
-none_locked h (x ∷ xs) none = by (is_number h x) none (λ rest. none_locked h xs rest)
-  where
-    by : (b : Bool) → (b || is_open_among h xs) ≡ false → (is_open_among h xs ≡ false → map (held_in h Exclusive) xs ≡ xs) → cond b (record x { lock = Some Exclusive }) x ∷ map (held_in h Exclusive) xs ≡ x ∷ xs
-    by true none rest = cc
-    by false none rest = ap (λ (l : List Holding). x ∷ l) (rest none)
-
-pub locked_is : {a b : Local} (m : Local) (h : Handle) (pod : PodId) (which : Which) → IsUnopened m h → a ≡ with_handle m h (target_of (in_prepared pod) which) → b ≡ locked_with a h Exclusive → b ≡ and_lock m pod which h
+pub locked_is : {a b : Local} (m : Local) (h : Handle) (pod : PodId) (which : Which) → IsUnopened m h → a ≡ with_handle m h (target_of (in_prepared pod) which) → b ≡ locked_with a h Exclusive → b ≡ and_prepared_lock m pod which h
 locked_is {a} {b} m h pod which unopened open_is lock_is =
     let fresh : Holding = record { handle = h; target = target_of (in_prepared pod) which; lock = None } in
     lock_is ∙ (ap (λ (x : Local). locked_with x h Exclusive) open_is
     ∙ ap (λ (hs : List Holding). let r : Local = record m { holdings = hs } in r)
     (map_push (held_in h Exclusive) m.holdings fresh ∙ (ap (λ (hs : List Holding). hs ++ held_in h Exclusive fresh ∷ [])
-    (none_locked h m.holdings unopened) ∙ ap (λ b. m.holdings ++ cond b (record fresh { lock = Some Exclusive }) fresh ∷ []) (same_self h.number))))
+    (none_locked h Exclusive m.holdings unopened) ∙ ap (λ b. m.holdings ++ cond b (record fresh { lock = Some Exclusive }) fresh ∷ []) (same_self h.number))))
 
-pub lock_closed : {b c : Local} (m : Local) (h : Handle) (pod : PodId) (which : Which) → IsUnopened m h → b ≡ and_lock m pod which h → c ≡ without b h → c ≡ m
+pub lock_closed : {b c : Local} (m : Local) (h : Handle) (pod : PodId) (which : Which) → IsUnopened m h → b ≡ and_prepared_lock m pod which h → c ≡ without b h → c ≡ m
 lock_closed {b} {c} m h pod which unopened is close_is =
     close_is ∙ (ap (λ (x : Local). without x h) (is ∙ sym (locked_is m h pod which unopened refl refl)) ∙ closed_after_lock m h (target_of (in_prepared pod) which) unopened Exclusive)
 
@@ -76,7 +58,7 @@ asks_move pod = and_both _ _ (spot_self (in_prepared pod)) (spot_self (in_run po
 
 module _ {observed : Bool} {pod : PodId} {which : Which} {h : Handle} {old mid : DirAt} (unopened : IsUnopened old.local h)
     (x : DirCall observed old (Open (in_prepared pod) which) (Opened h) mid) where
-  pub went_taken : {new : DirAt} → DirCall observed mid (TryLock h Exclusive) Done new → Went observed 3 pod (and_lock old.local pod which h) old new
+  pub went_taken : {new : DirAt} → DirCall observed mid (TryLock h Exclusive) Done new → WentClaiming observed 3 pod (and_prepared_lock old.local pod which h) old new
   went_taken y = record {
     counted = omega (arith, x.counted, y.counted);
     same = y.same ∙ x.same;
@@ -85,7 +67,7 @@ module _ {observed : Bool} {pod : PodId} {which : Which} {h : Handle} {old mid :
     extends = λ t. and_call (and_call nothing_yet refl (asks_open pod which) (x.step t)) x.same refl (y.step t);
   }
 
-  pub went_untaken : {late new : DirAt} (e : DirError) → DirCall observed mid (TryLock h Exclusive) (Refused e 0) late → DirCall observed late (Close h) Done new → Went observed 3 pod old.local old new
+  pub went_untaken : {late new : DirAt} (e : DirError) → DirCall observed mid (TryLock h Exclusive) (Refused e 0) late → DirCall observed late (Close h) Done new → WentClaiming observed 3 pod old.local old new
   went_untaken e y z = record {
     counted = omega (arith, x.counted, y.counted, z.counted);
     same = z.same ∙ (y.same ∙ x.same);
@@ -94,7 +76,7 @@ module _ {observed : Bool} {pod : PodId} {which : Which} {h : Handle} {old mid :
     extends = λ t. and_call (and_call (and_call nothing_yet refl (asks_open pod which) (x.step t)) x.same refl (y.step t)) (y.same ∙ x.same) refl (z.step t);
   }
 
-pub went_unopened : {observed : Bool} {pod : PodId} {which : Which} {old new : DirAt} (e : DirError) → DirCall observed old (Open (in_prepared pod) which) (Refused e 0) new → Went observed 3 pod old.local old new
+pub went_unopened : {observed : Bool} {pod : PodId} {which : Which} {old new : DirAt} (e : DirError) → DirCall observed old (Open (in_prepared pod) which) (Refused e 0) new → WentClaiming observed 3 pod old.local old new
 went_unopened {observed} {pod} {which} e x = record {
   counted = omega (arith, x.counted);
   same = x.same;
@@ -126,8 +108,8 @@ from_missing true true is = cc
 from_missing true false is = cc
 from_missing false to is = refl
 
-pub missed_move : {me : ℕ} {old new : List Event} (pod : PodId) → CallStep me old (MoveFolder (in_prepared pod) (in_run pod)) (Refused Missing 0) new → AtOwnStep me old new (IsAbsent pod)
-missed_move {me} {old} {new} pod s = step_at me old (MoveFolder (in_prepared pod) (in_run pod)) (Refused Missing 0) new (IsAbsent pod) refl refl
+pub missed_move : {me : ℕ} {old new : List Event} (pod : PodId) → CallStep me old (MoveFolder (in_prepared pod) (in_run pod)) (Refused Missing 0) new → AtOwnStep me old new (IsNotInPrepared pod)
+missed_move {me} {old} {new} pod s = step_at me old (MoveFolder (in_prepared pod) (in_run pod)) (Refused Missing 0) new (IsNotInPrepared pod) refl refl
     (λ s allowed. from_missing (stands s.namespace (in_prepared pod)) (stands s.namespace (in_run pod)) (allowed_reply s me (MoveFolder (in_prepared pod) (in_run pod)) (Refused Missing 0) allowed)) s
 
 abbrev Quiet : Bool → DirAt → DirAt → Type 0
@@ -135,7 +117,7 @@ Quiet observed old new = observed ≡ true → MovedNothing old.process old.trac
 
 -- the lock was refused
 pub lock_stops : {observed : Bool} {pod : PodId} {Missed : DirState → Type 0} {old new : DirAt} (which : Which) (h : Handle) (e : DirError) → may_refuse (TryLock h Exclusive) e ≡ true
-    → (e ≡ Failed → Rose old.faults new.faults) → Quiet observed old new → Stopped observed pod Missed (lock_setback pod which e) old new
+    → (e ≡ Failed → Rose old.faults new.faults) → Quiet observed old new → ClaimWasStopped observed pod Missed (claim_lock_setback pod which e) old new
 lock_stops which h Locked may rose still = record { still = still; fault = λ is. cc; missing = λ is. cc; manifest = λ is. cc; barred = λ is. cc; named = λ other w is. cc; there = λ is. cc; right = λ p is. cc }
 lock_stops which h Failed may rose still = record { still = still; fault = λ is. rose refl; missing = λ is. cc; manifest = λ is. cc; barred = λ is. cc; named = λ other w is. cc; there = λ is. cc; right = λ p is. cc }
 lock_stops which h dir.NoMemory may rose still = record { still = still; fault = λ is. cc; missing = λ is. cc; manifest = λ is. cc; barred = λ is. cc; named = λ other w is. cc; there = λ is. cc; right = λ p is. cc }
@@ -145,7 +127,7 @@ lock_stops which h NotEmpty may rose still = cc
 
 -- it couldn't be opened
 pub open_stops : {observed : Bool} {pod : PodId} {which : Which} {old new : DirAt} (e : DirError) → may_refuse (Open (in_prepared pod) which) e ≡ true
-    → (e ≡ Failed → Rose old.faults new.faults) → Quiet observed old new → DirCall observed old (Open (in_prepared pod) which) (Refused e 0) new → Stopped observed pod (CannotOpen pod which) (set_back e) old new
+    → (e ≡ Failed → Rose old.faults new.faults) → Quiet observed old new → DirCall observed old (Open (in_prepared pod) which) (Refused e 0) new → ClaimWasStopped observed pod (CannotOpen pod which) (claim_setback_of e) old new
 open_stops {observed} {pod} {which} Missing may rose still x = record { still = still; fault = λ is. cc; missing = λ is t. missed_open pod which (x.step t); manifest = λ is. cc; barred = λ is. cc; named = λ other w is. cc; there = λ is. cc; right = λ p is. cc }
 open_stops Failed may rose still x = record { still = still; fault = λ is. rose refl; missing = λ is. cc; manifest = λ is. cc; barred = λ is. cc; named = λ other w is. cc; there = λ is. cc; right = λ p is. cc }
 open_stops dir.NoMemory may rose still x = record { still = still; fault = λ is. cc; missing = λ is. cc; manifest = λ is. cc; barred = λ is. cc; named = λ other w is. cc; there = λ is. cc; right = λ p is. cc }
@@ -155,7 +137,7 @@ open_stops NotEmpty may rose still x = cc
 
 -- the pod wasn't moved
 pub move_stops : {observed : Bool} {pod : PodId} {old new : DirAt} (e : DirError) → may_refuse (MoveFolder (in_prepared pod) (in_run pod)) e ≡ true
-    → (e ≡ Failed → Rose old.faults new.faults) → Quiet observed old new → DirCall observed old (MoveFolder (in_prepared pod) (in_run pod)) (Refused e 0) new → Stopped observed pod (IsAbsent pod) (set_back e) old new
+    → (e ≡ Failed → Rose old.faults new.faults) → Quiet observed old new → DirCall observed old (MoveFolder (in_prepared pod) (in_run pod)) (Refused e 0) new → ClaimWasStopped observed pod (IsNotInPrepared pod) (claim_setback_of e) old new
 move_stops {observed} {pod} Missing may rose still x = record { still = still; fault = λ is. cc; missing = λ is t. missed_move pod (x.step t); manifest = λ is. cc; barred = λ is. cc; named = λ other w is. cc; there = λ is. cc; right = λ p is. cc }
 move_stops Exists may rose still x = record { still = still; fault = λ is. cc; missing = λ is. cc; manifest = λ is. cc; barred = λ is t. one_deed (x.step t); named = λ other w is. cc; there = λ is. cc; right = λ p is. cc }
 move_stops Failed may rose still x = record { still = still; fault = λ is. rose refl; missing = λ is. cc; manifest = λ is. cc; barred = λ is. cc; named = λ other w is. cc; there = λ is. cc; right = λ p is. cc }

@@ -18,13 +18,13 @@ use Rattle.pod_locks.specs.declared.claim_error.ClaimError.{ClaimError}
 use Rattle.pod_locks.specs.declared.claim_error.ClaimError.TheVariants.{Stray}
 use Rattle.pod_locks.specs.ClaimRequests.{in_prepared, in_run}
 use Rattle.pod_locks.specs.Work.{Grew}
-use Rattle.pod_locks.specs.ClaimCauses.{IsAbsent, MissedTwice, WasBarred, ClaimCause}
+use Rattle.pod_locks.specs.ClaimCauses.{IsNotInPrepared, MissedTwice, WasBarred, ClaimCause}
 use Rattle.pod_locks.proofs.Reading.{Moment, later_is, reading_grew}
 
 pub conforms_before : {a b : List Event} → Grew a b → IsConforming b → IsConforming a
 conforms_before {a} {b} g conforming = conforming_left a g.more (subst IsConforming g.grown conforming)
 
-grew_at : {me : ℕ} {a b : List Event} {P : DirState → Type 0} → AtOwnStep me a b P → Grew a b
+pub grew_at : {me : ℕ} {a b : List Event} {P : DirState → Type 0} → AtOwnStep me a b P → Grew a b
 grew_at at = let g = at_grown at in record { more = g.0; grown = g.1 }
 
 -- no pod that is moved meets another
@@ -34,7 +34,7 @@ never_barred pod b conforming =
     never_meets (MoveFolder (in_prepared pod) (in_run pod)) (Refused Exists 0) o.3 (conforms_before o.4 conforming) refl
 
 -- a pod that was missing in prepared doesn't come back there
-never_back : {me : ℕ} {a b c d : List Event} (pod : PodId) → AtOwnStep me a b (λ s. stands s.namespace (in_prepared pod) ≡ true) → AtOwnStep me b c (IsAbsent pod)
+never_back : {me : ℕ} {a b c d : List Event} (pod : PodId) → AtOwnStep me a b (λ s. stands s.namespace (in_prepared pod) ≡ true) → AtOwnStep me b c (IsNotInPrepared pod)
     → AtOwnStep me c d (λ s. stands s.namespace (in_prepared pod) ≡ true) → IsConforming d → ⊥
 never_back {me} {a} {b} {c} {d} pod x y z conforming =
     let k = some_number (folder_at (state_after (Moment x)).namespace (in_prepared pod)) x.holds in

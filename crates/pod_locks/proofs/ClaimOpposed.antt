@@ -2,6 +2,7 @@
 use Rattle.std.proofs.Common.{◌≡◌, ◌⊎◌, inl, inr, ℕ, Bool, true, false, not, cond, ◌&&◌, ◌==◌}
 use Rattle.std.proofs.Common.{Option, Some, None, is_some, List, [], ◌∷◌, ◌++◌, map, find, append-nil, refl, sym, ap, subst, ◌∙◌}
 use Rattle.std.specs.List.{list_any}
+use Rattle.plain_laws.proofs.Lists.{none_of_filter, any_but}
 use Rattle.dir_model.specs.declared.event.Event.{Event}
 use Rattle.dir_model.specs.declared.opening.Opening.{Opening}
 use Rattle.dir_model.specs.declared.pod.PodId.{PodId}
@@ -14,35 +15,31 @@ use Rattle.dir_model.specs.declared.opening.Target.TheVariants as target
 use Rattle.dir_model.specs.declared.spot.Which.{Which}
 use Rattle.dir_model.specs.declared.spot.Which.TheVariants.{Own, Claim}
 use Rattle.dir_model.specs.declared.tree.TreeEntry.{TreeEntry}
-use Rattle.dir_model.specs.declared.request.DirError.{DirError}
 use Rattle.dir_model.specs.declared.request.DirError.TheVariants.{Locked}
-use Rattle.dir_model.specs.declared.request.Request.{Request}
 use Rattle.dir_model.specs.declared.request.Request.TheVariants.{Open, TryLock}
-use Rattle.dir_model.specs.declared.request.Reply.{Reply}
 use Rattle.dir_model.specs.declared.request.Reply.TheVariants.{Done, Opened, Refused}
 use Rattle.dir_model.specs.Locks.{is_handle, is_folder, is_one_lock, is_same_lock, opposes, target_of}
 use Rattle.dir_model.specs.State.{Namespace, DirState, folder_at, has_open}
 use Rattle.dir_model.specs.Trace.{opened, locked, state_after}
-use Rattle.dir_model.specs.Replies.{is_late_reply, is_locked, is_opposed, refused_in, open_refusal}
+use Rattle.dir_model.specs.Replies.{is_locked, is_opposed, refused_in, open_refusal}
 use Rattle.dir_model.specs.Calls.{CallStep, Interference, IsRun, LeftNothing, TookPlace, event}
 use Rattle.dir_model.specs.Local.{holding_of}
 use Rattle.dir_model.proofs.Lists.{and_left, and_right, and_both, and_false, or_none, same_self, any_fewer, any_map, filter_push}
 use Rattle.dir_model.proofs.Chains.{state_after-push, run-left}
 use Rattle.dir_model.proofs.Allowed.{open_says, lock_says, held_says, allowed_reply}
 use Rattle.dir_model.proofs.Moments.{took_at, some_number}
+use Rattle.dir_model.proofs.Holdings.{mine}
 use Rattle.dir_rules.specs.declared.standing.Held.{Held}
 use Rattle.dir_rules.specs.declared.seen.Seen.{Seen}
 use Rattle.dir_rules.specs.Conforms.{seen_of, IsTied}
-use Rattle.dir_rules.proofs.Tied.{meanwhile_unseen, lived_meanwhile}
-use Rattle.dir_files.proofs.OwnHandles.{Lives, open_as_seen}
+use Rattle.dir_rules.proofs.Tied.{meanwhile_unseen, lived_meanwhile, Lives}
+use Rattle.dir_trait.proofs.Calls.{late_never}
+use Rattle.dir_files.proofs.OwnHandles.{open_as_seen}
 use Rattle.pod_locks.specs.ClaimRequests.{in_prepared}
-use Rattle.pod_locks.specs.ClaimHolding.{on_lock, and_held, is_own}
-use Rattle.pod_locks.specs.ClaimCauses.{is_lock, is_held_elsewhere, OpensThere, HeldByAnother, HadAlone}
-use Rattle.pod_locks.proofs.OwnOpenings.{none_fails, find_last, any_but, mine, own, own_any, find_own, own_meanwhile, same_lock, doubles}
-
-not_refused : (o : Option DirError) (more : Bool) → (not (is_some o) && more) ≡ true → o ≡ None
-not_refused None more is = refl
-not_refused (Some e) more is = cc
+use Rattle.pod_locks.specs.ClaimHolding.{on_prepared_lock, and_held, is_own_lock}
+use Rattle.pod_locks.specs.ClaimCauses.{is_lock, is_held_elsewhere, OpensThere, PreparedHeldByAnother, HadAlone}
+use Rattle.pod_locks.proofs.OwnOpenings.{find_last, own, own_any, find_own, own_meanwhile, same_lock, doubles}
+use Rattle.pod_locks.proofs.Opposed.{not_refused}
 
 holds_some : (lock : Option Mode) → opposes Exclusive lock ≡ true → is_some lock ≡ true
 holds_some None is = cc
@@ -93,7 +90,7 @@ module _ (me : ℕ) (handle : Handle) (pod : PodId) (which : Which) (old opened_
   is_it : find (is_handle me handle) after.openings ≡ Some New
   is_it = find_own me handle after.openings ∙ (ap (find (is_handle me handle)) own_then
       ∙ find_last (is_handle me handle) (own me before.openings) New
-      (none_fails (is_handle me handle) (mine me) before.openings (open_says (state_after opened_at) me (in_prepared pod) which handle open_took.allowed).unopened)
+      (none_of_filter (is_handle me handle) (mine me) before.openings (open_says (state_after opened_at) me (in_prepared pod) which handle open_took.allowed).unopened)
       (and_both (me == me) (handle.number == handle.number) (same_self me) (same_self handle.number)))
 
   opens : (k : ℕ) → folder_at before (in_prepared pod) ≡ Some k → refused_in (open_refusal which) (state_after opened_at).entries (Some k) ≡ None
@@ -106,7 +103,7 @@ module _ (me : ℕ) (handle : Handle) (pod : PodId) (which : Which) (old opened_
 module _ (me : ℕ) (handle : Handle) (pod : PodId) (which : Which) (old opened_at mid asked_at late : List Event) (first : Interference me old opened_at)
     (open_took : TookPlace opened_at me (Open (in_prepared pod) which) (Opened handle) mid) (between : Interference me mid asked_at)
     (ask_took : TookPlace asked_at me (TryLock handle Exclusive) (Refused Locked 0) late)
-    (z : Seen) (single : list_any (λ h. is_lock which h.target) z.standing.holdings ≡ false) (run : IsRun late) (tied : IsTied me mid (and_held (on_lock pod which handle None (is_own which)) z)) where
+    (z : Seen) (single : list_any (λ h. is_lock which h.target) z.standing.holdings ≡ false) (run : IsRun late) (tied : IsTied me mid (and_held (on_prepared_lock pod which handle None (is_own_lock which)) z)) where
   abbrev then : Namespace
   then = (state_after asked_at).namespace
 
@@ -126,7 +123,7 @@ module _ (me : ℕ) (handle : Handle) (pod : PodId) (which : Which) (old opened_
   seen_once =
       ap (λ (s : Seen). list_any doubled s.standing.holdings) (meanwhile_unseen between)
       ∙ (sym (ap (λ (s : Seen). list_any doubled s.standing.holdings) (tied.living (lived_meanwhile between alive)).same)
-      ∙ or_none (doubled (on_lock pod which handle None (is_own which))) (list_any doubled z.standing.holdings)
+      ∙ or_none (doubled (on_prepared_lock pod which handle None (is_own_lock which))) (list_any doubled z.standing.holdings)
       (ap (λ b. is_lock which (target_of (in_prepared pod) which) && not b) (same_self handle.number) ∙ and_false (is_lock which (target_of (in_prepared pod) which))) rest)
 
   earlier : IsRun asked_at
@@ -135,7 +132,7 @@ module _ (me : ℕ) (handle : Handle) (pod : PodId) (which : Which) (old opened_
   single_now : list_any (doubles which handle) (map holding_of (own me then.openings)) ≡ false
   single_now = sym (open_as_seen me asked_at earlier alive (doubles which handle)) ∙ seen_once
 
-  held_took : HeldByAnother pod which me old late
+  held_took : PreparedHeldByAnother pod which me old late
   held_took =
       let before = (state_after opened_at).namespace in
       let k = some_number (folder_at before (in_prepared pod)) (open_says (state_after opened_at) me (in_prepared pod) which handle open_took.allowed).there in
@@ -209,16 +206,13 @@ module _ (me : ℕ) (handle : Handle) (pod : PodId) (which : Which) (old opened_
             (any_map (is_held_elsewhere me which k.0) (locked me handle Exclusive) (its_own me handle which (in_prepared pod) k.0) n.openings ∙ none);
       }
 
-late_never : {X : Type 0} {request : Request} {reply : Reply} {me : ℕ} {before new : List Event} → LeftNothing before me request reply new → is_late_reply request reply ≡ false → X
-late_never {X} {request} {reply} {me} {before} {new} l timely = let e : true ≡ false = sym l.late ∙ timely in cc
-
 -- the same of the calls
 pub held_step : (me : ℕ) (old mid late : List Event) (handle : Handle) (pod : PodId) (which : Which) → CallStep me old (Open (in_prepared pod) which) (Opened handle) mid → CallStep me mid (TryLock handle Exclusive) (Refused Locked 0) late
-    → (z : Seen) → list_any (λ h. is_lock which h.target) z.standing.holdings ≡ false → IsTied me mid (and_held (on_lock pod which handle None (is_own which)) z) → HeldByAnother pod which me old late
+    → (z : Seen) → list_any (λ h. is_lock which h.target) z.standing.holdings ≡ false → IsTied me mid (and_held (on_prepared_lock pod which handle None (is_own_lock which)) z) → PreparedHeldByAnother pod which me old late
 held_step me old mid late handle pod which opens asks z single tied = by opens.own asks.own
   where
     by : TookPlace opens.before me (Open (in_prepared pod) which) (Opened handle) mid ⊎ LeftNothing opens.before me (Open (in_prepared pod) which) (Opened handle) mid
-        → TookPlace asks.before me (TryLock handle Exclusive) (Refused Locked 0) late ⊎ LeftNothing asks.before me (TryLock handle Exclusive) (Refused Locked 0) late → HeldByAnother pod which me old late
+        → TookPlace asks.before me (TryLock handle Exclusive) (Refused Locked 0) late ⊎ LeftNothing asks.before me (TryLock handle Exclusive) (Refused Locked 0) late → PreparedHeldByAnother pod which me old late
     by (inl o) (inl a) = held_took me handle pod which old opens.before mid asks.before late opens.meanwhile o asks.meanwhile a z single asks.run tied
     by (inl o) (inr l) = late_never l refl
     by (inr l) a = late_never l refl

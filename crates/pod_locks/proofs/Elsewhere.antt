@@ -1,6 +1,8 @@
 -- A process that doesn't hold a pod, and only looks for it, isn't the owner of what it finds.
-use Rattle.std.proofs.Common.{◌≡◌, ◌==◌, ◌||◌, ◌&&◌, ℕ, Bool, true, false, not, cond, Option, Some, None, List, [], ◌∷◌, ◌++◌, map, filter, refl, sym, ap, subst, ◌∙◌, append_assoc, append-nil}
+use Rattle.std.proofs.Common.{◌≡◌, ◌==◌, ◌||◌, ◌&&◌, ℕ, Bool, true, false, not, cond, Some, List, [], ◌∷◌, ◌++◌, map, filter, refl, sym, ap, subst, ◌∙◌, append_assoc, append-nil}
 use Rattle.std.specs.List.{list_any, AllByRecursion}
+use Rattle.plain_laws.proofs.Lists.{any_filtered}
+use Rattle.plain_laws.proofs.Booleans.{clash}
 use Rattle.dir_model.specs.declared.area.Area.{Area}
 use Rattle.dir_model.specs.declared.area.Phase.{Phase}
 use Rattle.dir_model.specs.declared.area.Phase.TheVariants as phase
@@ -23,14 +25,14 @@ use Rattle.dir_model.specs.Replies.{is_look_at}
 use Rattle.dir_model.specs.State.{Namespace, DirState, empty_state, lives}
 use Rattle.dir_model.specs.Trace.{namespace_replied, state_next, states_next, state_after}
 use Rattle.dir_model.proofs.Chains.{states_next-append}
-use Rattle.dir_model.proofs.Lists.{all_left, and_left, or_second, or_last, same_rest, same_self}
+use Rattle.dir_model.proofs.Lists.{all_left, and_left, or_second, or_last, same_rest, same_self, same_number}
 use Rattle.dir_rules.specs.declared.standing.Held.{Held}
 use Rattle.dir_rules.specs.declared.seen.Seen.{Seen}
 use Rattle.dir_rules.specs.declared.standing.Standing.{Standing}
-use Rattle.dir_rules.specs.Standing.{is_own_held, holds_own, is_number, find_held, held_in, recover, looked_by, standing_replied, stood, standing_from, standing_of, nothing_standing}
+use Rattle.dir_rules.specs.Standing.{is_own_held, holds_own, is_handle_held, find_held, held_with_mode, uncovered_by_close, standing_replied, stood, standing_from, standing_of, nothing_standing}
 use Rattle.dir_rules.specs.LockRules.{holds_pod}
 use Rattle.dir_rules.specs.Rules.{is_gate}
-use Rattle.dir_rules.proofs.Standings.{standing_is}
+use Rattle.dir_rules.proofs.Standings.{standing_is, looked_holdings}
 use Rattle.dir_rules.proofs.Tied.{lived_before}
 use Rattle.dir_trait.specs.DirCalls.{DirAt, ExtendsBy}
 use Rattle.dir_trait.specs.Knowledge.{Knows, LookedInto}
@@ -38,9 +40,8 @@ use Rattle.lifecycle.specs.declared.machine.PodState.{PodState}
 use Rattle.lifecycle.specs.declared.machine.PodState.TheVariants as state
 use Rattle.lifecycle.specs.PodMachine.{pod_state, phase_of_state, owner_of, is_owner}
 use Rattle.lifecycle.specs.Executions.{IsConforming}
-use Rattle.lifecycle.proofs.Closes.{any_mapped, any_filtered}
+use Rattle.lifecycle.proofs.Closes.{any_mapped}
 use Rattle.lifecycle.proofs.Draws.{conforming_left, standing_split}
-use Rattle.lifecycle.proofs.Handles.{clash, nat_same}
 use Rattle.lifecycle.proofs.Lists.{any_in, in_any}
 use Rattle.lifecycle.proofs.Owners.{owner_holds}
 use Rattle.phase_read.specs.declared.found.LookError.{LookError}
@@ -52,37 +53,33 @@ use Rattle.pod_locks.specs.declared.claim_error.ClaimError.TheVariants.{WrongPha
 use Rattle.pod_locks.specs.declared.claim_setback.Setback.{Setback}
 use Rattle.pod_locks.specs.declared.claim_setback.Setback.TheVariants as setback
 use Rattle.phase_read.proofs.Exact.{event_within}
-use Rattle.pod_locks.specs.ClaimCauses.{Stopped}
+use Rattle.pod_locks.specs.ClaimCauses.{ClaimWasStopped}
 use Rattle.pod_locks.specs.ClaimSetbacks.{look_refusal, last_refusal}
 use Rattle.pod_locks.specs.ClaimHolding.{MayClaim, is_on_folder}
 use Rattle.pod_locks.proofs.Reading.{may_looked}
-use Rattle.pod_locks.specs.Work.{Went, Leaves}
+use Rattle.pod_locks.specs.Work.{WentClaiming, WhereObservedKnew}
 use Rattle.pod_locks.specs.Elsewhere.{is_owned_phase, IsOwnedElsewhere, MetOwner, MetOwnerThen}
 
 -- a shared lock holds nothing exclusively that wasn't held so
 
-shared_before : (u : List ℕ) (handle : Handle) (hs : List Held) → list_any (is_own_held u) (map (held_in handle Shared) hs) ≡ true → list_any (is_own_held u) hs ≡ true
+shared_before : (u : List ℕ) (handle : Handle) (hs : List Held) → list_any (is_own_held u) (map (held_with_mode handle Shared) hs) ≡ true → list_any (is_own_held u) hs ≡ true
 shared_before u handle [] h = h
-shared_before u handle (x ∷ xs) h = by (is_number handle x) (shared_before u handle xs) h
+shared_before u handle (x ∷ xs) h = by (is_handle_held handle x) (shared_before u handle xs) h
   where
     no : (b : Bool) → (b && false) ≡ false
     no true = refl
     no false = refl
 
-    keep : (b : Bool) → (list_any (is_own_held u) (map (held_in handle Shared) xs) ≡ true → list_any (is_own_held u) xs ≡ true)
-        → (b || list_any (is_own_held u) (map (held_in handle Shared) xs)) ≡ true → (b || list_any (is_own_held u) xs) ≡ true
+    keep : (b : Bool) → (list_any (is_own_held u) (map (held_with_mode handle Shared) xs) ≡ true → list_any (is_own_held u) xs ≡ true)
+        → (b || list_any (is_own_held u) (map (held_with_mode handle Shared) xs)) ≡ true → (b || list_any (is_own_held u) xs) ≡ true
     keep true later k = refl
     keep false later k = later k
 
-    by : (b : Bool) → (list_any (is_own_held u) (map (held_in handle Shared) xs) ≡ true → list_any (is_own_held u) xs ≡ true)
-        → (is_own_held u (cond b (record x { lock = Some Shared }) x) || list_any (is_own_held u) (map (held_in handle Shared) xs)) ≡ true
+    by : (b : Bool) → (list_any (is_own_held u) (map (held_with_mode handle Shared) xs) ≡ true → list_any (is_own_held u) xs ≡ true)
+        → (is_own_held u (cond b (record x { lock = Some Shared }) x) || list_any (is_own_held u) (map (held_with_mode handle Shared) xs)) ≡ true
         → (is_own_held u x || list_any (is_own_held u) xs) ≡ true
     by true later g = or_last (is_own_held u x) _ (later (or_second _ _ g (no (is_own_of u x.target))))
     by false later g = keep (is_own_held u x) later g
-
-looked_keeps : (o : Option Held) (s : Standing) → (looked_by o s).holdings ≡ s.holdings
-looked_keeps None s = refl
-looked_keeps (Some h) s = refl
 
 -- one look more
 held_before : (u : List ℕ) (test : Spot → Bool) (s : Standing) (request : Request) (reply : Reply) → is_look_at test request ≡ true
@@ -93,10 +90,10 @@ held_before u test s (Open spot which) (Opened handle) look h = free (is_own_of 
     free true g = g
     free false g = g
 held_before u test s (TryLock handle Shared) Done look h =
-    shared_before u handle s.holdings (ap (λ (hs : List Held). list_any (is_own_held u) hs) (sym (looked_keeps (find_held handle s) _)) ∙ h)
+    shared_before u handle s.holdings (ap (λ (hs : List Held). list_any (is_own_held u) hs) (sym (looked_holdings (find_held handle s) _)) ∙ h)
 held_before u test s (Close handle) Done look h =
-    any_filtered (is_own_held u) (λ x. not (is_number handle x)) s.holdings
-    (sym (any_mapped (is_own_held u) (recover handle s.holdings) (filter (λ x. not (is_number handle x)) s.holdings) (λ x. refl)) ∙ h)
+    any_filtered (is_own_held u) (λ x. not (is_handle_held handle x)) s.holdings
+    (sym (any_mapped (is_own_held u) (uncovered_by_close handle s.holdings) (filter (λ x. not (is_handle_held handle x)) s.holdings) (λ x. refl)) ∙ h)
 held_before u test s (Open spot which) Done look h = h
 held_before u test s (TryLock handle _) Done look h = cc
 held_before u test s (TryLock handle _) (Opened other) look h = h
@@ -202,7 +199,7 @@ module _ (pod : PodId) (a b : DirAt) (extends : ExtendsBy (is_look_at (is_pod_sp
           owner = o.0;
           is = o.1;
           other = unless (o.0 == a.process) refl (λ same. not_owner es at.rest whole
-              (subst (λ (h : List Event). is_owner a.process (pod_state (pod_text pod.bytes) h) ≡ true) so (subst (λ (p : ℕ). is_owner p (pod_state (pod_text pod.bytes) trace) ≡ true) (nat_same o.0 a.process same) o.2)));
+              (subst (λ (h : List Event). is_owner a.process (pod_state (pod_text pod.bytes) h) ≡ true) so (subst (λ (p : ℕ). is_owner p (pod_state (pod_text pod.bytes) trace) ≡ true) (same_number o.0 a.process same) o.2)));
         };
       }
     where
@@ -213,7 +210,7 @@ module _ (pod : PodId) (a b : DirAt) (extends : ExtendsBy (is_look_at (is_pod_sp
 -- a read that finds the pod in such a phase
 pub met_by_reading : {observed : Bool} (pod : PodId) (a b : DirAt) (phase : Phase) (area : Area) → (observed ≡ true → ExtendsBy (is_look_at (is_pod_spot pod)) a b)
     → (observed ≡ true → IsConforming b.trace → AtOwnEvent a.process a.trace b.trace (IsInPhase pod phase area))
-    → Leaves observed MayClaim a (λ s. MetOwner pod (WrongPhase phase) a b)
+    → WhereObservedKnew observed MayClaim a (λ s. MetOwner pod (WrongPhase phase) a b)
 met_by_reading pod a b phase area extends exact t s may knows conforming q is owned =
     let same : phase ≡ q = cc in (
       area,
@@ -227,21 +224,21 @@ look_isnt_wrong _ q is = cc
 
 -- one attempt, and a second one
 
-pub met_never : {observed : Bool} {pod : PodId} {Missed : DirState → Type 0} {b c : DirAt} (a : DirAt) (stop : Setback) → Stopped observed pod Missed stop b c
-    → Leaves observed MayClaim a (λ s. MetOwnerThen pod stop a c)
+pub met_never : {observed : Bool} {pod : PodId} {Missed : DirState → Type 0} {b c : DirAt} (a : DirAt) (stop : Setback) → ClaimWasStopped observed pod Missed stop b c
+    → WhereObservedKnew observed MayClaim a (λ s. MetOwnerThen pod stop a c)
 met_never a stop stopped t s may knows error is conforming q wrong owned = absurd (stopped.right q (is ∙ ap (λ (e : ClaimError). setback.Refused e) wrong))
 
-pub met_first : {observed : Bool} (pod : PodId) (a b : DirAt) (error : ClaimError) → Leaves observed MayClaim a (λ s. MetOwner pod error a b)
-    → Leaves observed MayClaim a (λ s. MetOwnerThen pod (setback.Refused error) a b)
+pub met_first : {observed : Bool} (pod : PodId) (a b : DirAt) (error : ClaimError) → WhereObservedKnew observed MayClaim a (λ s. MetOwner pod error a b)
+    → WhereObservedKnew observed MayClaim a (λ s. MetOwnerThen pod (setback.Refused error) a b)
 met_first pod a b error met t s may knows other is =
     let same : error ≡ other = cc in subst (λ (e : ClaimError). MetOwner pod e a b) same (met t s may knows)
 
-pub met_once : {observed : Bool} (pod : PodId) (a b : DirAt) (error : ClaimError) → Leaves observed MayClaim a (λ s. MetOwnerThen pod (setback.Refused error) a b)
-    → Leaves observed MayClaim a (λ s. MetOwner pod error a b)
+pub met_once : {observed : Bool} (pod : PodId) (a b : DirAt) (error : ClaimError) → WhereObservedKnew observed MayClaim a (λ s. MetOwnerThen pod (setback.Refused error) a b)
+    → WhereObservedKnew observed MayClaim a (λ s. MetOwner pod error a b)
 met_once pod a b error met t s may knows = met t s may knows error refl
 
-pub met_twice : {observed : Bool} {pod : PodId} {calls : ℕ} {l : Local} {a b : DirAt} → Went observed calls pod l a b → Leaves observed MayClaim a (λ s. LookedInto s b)
-    → (c : DirAt) (stop : Setback) → Leaves observed MayClaim b (λ s. MetOwnerThen pod stop b c) → Leaves observed MayClaim a (λ s. MetOwner pod (last_refusal stop) a c)
+pub met_twice : {observed : Bool} {pod : PodId} {calls : ℕ} {l : Local} {a b : DirAt} → WentClaiming observed calls pod l a b → WhereObservedKnew observed MayClaim a (λ s. LookedInto s b)
+    → (c : DirAt) (stop : Setback) → WhereObservedKnew observed MayClaim b (λ s. MetOwnerThen pod stop b c) → WhereObservedKnew observed MayClaim a (λ s. MetOwner pod (last_refusal stop) a c)
 met_twice went left c setback.Missing met t s may knows conforming q is owned = cc
 met_twice {observed} {pod} {calls} {l} {a} {b} went left c (setback.Refused error) met t s may knows conforming q is owned =
     let now = left t s may knows in

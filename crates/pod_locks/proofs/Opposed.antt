@@ -3,6 +3,7 @@
 use Rattle.std.proofs.Common.{◌≡◌, ◌⊎◌, inl, inr, ℕ, Bool, true, false, not, ◌&&◌, ◌==◌, cond}
 use Rattle.std.proofs.Common.{Option, Some, None, is_some, List, [], ◌∷◌, ◌++◌, append-nil, map, find, refl, sym, ap, subst, ◌∙◌}
 use Rattle.std.specs.List.{list_any}
+use Rattle.plain_laws.proofs.Lists.{none_of_filter, any_but}
 use Rattle.dir_model.specs.declared.area.Area.{Area}
 use Rattle.dir_model.specs.declared.event.Event.{Event}
 use Rattle.dir_model.specs.declared.opening.Opening.{Opening}
@@ -16,31 +17,31 @@ use Rattle.dir_model.specs.declared.spot.Which.{Which}
 use Rattle.dir_model.specs.declared.spot.Which.TheVariants.{Own, Claim}
 use Rattle.dir_model.specs.declared.request.DirError.{DirError}
 use Rattle.dir_model.specs.declared.request.DirError.TheVariants.{Locked}
-use Rattle.dir_model.specs.declared.request.Request.{Request}
 use Rattle.dir_model.specs.declared.request.Request.TheVariants.{Open, TryLock}
-use Rattle.dir_model.specs.declared.request.Reply.{Reply}
 use Rattle.dir_model.specs.declared.request.Reply.TheVariants.{Done, Opened, Refused}
 use Rattle.dir_model.specs.declared.tree.TreeEntry.{TreeEntry}
 use Rattle.dir_model.specs.Locks.{is_handle, is_folder, is_one_lock, is_same_lock, opposes, target_of}
 use Rattle.dir_model.specs.State.{Namespace, DirState, folder_at, has_open}
 use Rattle.dir_model.specs.Trace.{locked, opened, state_after}
-use Rattle.dir_model.specs.Replies.{is_late_reply, is_locked, is_opposed, refused_in, open_refusal}
+use Rattle.dir_model.specs.Replies.{is_locked, is_opposed, refused_in, open_refusal}
 use Rattle.dir_model.specs.Calls.{CallStep, Interference, IsRun, LeftNothing, TookPlace, AtOwnStep, event}
 use Rattle.dir_model.specs.Local.{holding_of}
 use Rattle.dir_model.proofs.Lists.{and_left, and_right, and_both, and_false, or_none, same_self, any_fewer, any_map, filter_push}
 use Rattle.dir_model.proofs.Chains.{state_after-push, run-left}
 use Rattle.dir_model.proofs.Allowed.{open_says, lock_says, held_says, allowed_reply}
 use Rattle.dir_model.proofs.Moments.{took_at, some_number}
+use Rattle.dir_model.proofs.Holdings.{mine}
 use Rattle.dir_rules.specs.declared.standing.Held.{Held}
 use Rattle.dir_rules.specs.declared.seen.Seen.{Seen}
 use Rattle.dir_rules.specs.Conforms.{seen_of, IsTied}
-use Rattle.dir_rules.proofs.Tied.{meanwhile_unseen, lived_meanwhile}
-use Rattle.dir_files.proofs.OwnHandles.{Lives, open_as_seen}
+use Rattle.dir_rules.proofs.Tied.{meanwhile_unseen, lived_meanwhile, Lives}
+use Rattle.dir_trait.proofs.Calls.{late_never}
+use Rattle.dir_files.proofs.OwnHandles.{open_as_seen}
 use Rattle.phase_read.specs.Read.{pod_spot}
 use Rattle.pod_locks.specs.ClaimCauses.{is_lock}
 use Rattle.pod_locks.specs.Holding.{and_held}
-use Rattle.pod_locks.specs.Causes.{OpensAt, is_held_against, HeldByAnother, FreeOfOthers}
-use Rattle.pod_locks.proofs.OwnOpenings.{none_fails, find_last, any_but, mine, own, own_any, find_own, own_meanwhile, same_lock, doubles}
+use Rattle.pod_locks.specs.Causes.{OpensAt, is_held_against, PodHeldByAnother, FreeOfOthers}
+use Rattle.pod_locks.proofs.OwnOpenings.{find_last, own, own_any, find_own, own_meanwhile, same_lock, doubles}
 
 abbrev pub asked_on : PodId → Area → Which → Handle → Bool → Held
 asked_on pod area which handle covered = record { handle = handle; target = target_of (pod_spot pod area) which; lock = None; covered = covered }
@@ -69,7 +70,7 @@ module _ (me : ℕ) (handle : Handle) (which : Which) (mode : Mode) (spot : Spot
       by false i true false l other single x y z = cc
       by false i true true false other single x y z = cc
 
-not_refused : (o : Option DirError) (more : Bool) → (not (is_some o) && more) ≡ true → o ≡ None
+pub not_refused : (o : Option DirError) (more : Bool) → (not (is_some o) && more) ≡ true → o ≡ None
 not_refused None more is = refl
 not_refused (Some e) more is = cc
 
@@ -94,7 +95,7 @@ module _ (me : ℕ) (handle : Handle) (pod : PodId) (area : Area) (which : Which
   is_it : find (is_handle me handle) after.openings ≡ Some New
   is_it = find_own me handle after.openings ∙ (ap (find (is_handle me handle)) own_then
       ∙ find_last (is_handle me handle) (own me before.openings) New
-      (none_fails (is_handle me handle) (mine me) before.openings (open_says (state_after opened_at) me (pod_spot pod area) which handle open_took.allowed).unopened)
+      (none_of_filter (is_handle me handle) (mine me) before.openings (open_says (state_after opened_at) me (pod_spot pod area) which handle open_took.allowed).unopened)
       (and_both (me == me) (handle.number == handle.number) (same_self me) (same_self handle.number)))
 
   -- of the folder that stood there
@@ -147,7 +148,7 @@ module _ (me : ℕ) (handle : Handle) (pod : PodId) (area : Area) (which : Which
   single_now : list_any (doubles which handle) (map holding_of (own me then.openings)) ≡ false
   single_now = sym (open_as_seen me asked_at earlier alive (doubles which handle)) ∙ seen_once
 
-  held_took : HeldByAnother pod area which mode me old late
+  held_took : PodHeldByAnother pod area which mode me old late
   held_took =
       let k = its me handle pod area which mode old opened_at mid asked_at first open_took between alive in
       record {
@@ -209,16 +210,13 @@ free_took me handle pod area which mode old opened_at mid asked_at late first op
           (any_map (is_held_against me which mode k.0) (locked me handle mode) (its_own me handle which mode (pod_spot pod area) k.0 mode) n.openings ∙ none);
     }
 
-late_never : {X : Type 0} {request : Request} {reply : Reply} {me : ℕ} {before new : List Event} → LeftNothing before me request reply new → is_late_reply request reply ≡ false → X
-late_never {X} {request} {reply} {me} {before} {new} l timely = let e : true ≡ false = sym l.late ∙ timely in cc
-
 -- the same of the calls
 pub held_step : (me : ℕ) (old mid late : List Event) (handle : Handle) (pod : PodId) (area : Area) (which : Which) (mode : Mode) (covered : Bool) → CallStep me old (Open (pod_spot pod area) which) (Opened handle) mid → CallStep me mid (TryLock handle mode) (Refused Locked 0) late
-    → (z : Seen) → list_any (λ h. is_lock which h.target) z.standing.holdings ≡ false → IsTied me mid (and_held (asked_on pod area which handle covered) z) → HeldByAnother pod area which mode me old late
+    → (z : Seen) → list_any (λ h. is_lock which h.target) z.standing.holdings ≡ false → IsTied me mid (and_held (asked_on pod area which handle covered) z) → PodHeldByAnother pod area which mode me old late
 held_step me old mid late handle pod area which mode covered opens asks z single tied = by opens.own asks.own
   where
     by : TookPlace opens.before me (Open (pod_spot pod area) which) (Opened handle) mid ⊎ LeftNothing opens.before me (Open (pod_spot pod area) which) (Opened handle) mid
-        → TookPlace asks.before me (TryLock handle mode) (Refused Locked 0) late ⊎ LeftNothing asks.before me (TryLock handle mode) (Refused Locked 0) late → HeldByAnother pod area which mode me old late
+        → TookPlace asks.before me (TryLock handle mode) (Refused Locked 0) late ⊎ LeftNothing asks.before me (TryLock handle mode) (Refused Locked 0) late → PodHeldByAnother pod area which mode me old late
     by (inl o) (inl a) = held_took me handle pod area which mode covered old opens.before mid asks.before late opens.meanwhile o asks.meanwhile a z single asks.run tied
     by (inl o) (inr l) = late_never l refl
     by (inr l) a = late_never l refl

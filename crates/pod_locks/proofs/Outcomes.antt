@@ -1,6 +1,7 @@
 -- One attempt or two, and what a claim comes to.
-use Rattle.std.proofs.Common.{◌≡◌, ◌⊎◌, inl, inr, ◌≤◌, ℕ, Bool, true, false, cond, Some, None, List, [], ◌∷◌, ◌++◌, refl, sym, ap, subst, ◌∙◌, append_assoc, append-nil, arith}
+use Rattle.std.proofs.Common.{◌≡◌, ◌⊎◌, inl, inr, ℕ, Bool, true, false, Some, None, List, [], ◌∷◌, ◌++◌, refl, sym, ap, subst, ◌∙◌, append_assoc, append-nil, arith}
 use Rattle.std.specs.List.{list_any}
+use Rattle.plain_laws.proofs.Texts.{same_bytes}
 use Rattle.dir_model.specs.declared.area.Area.{Area}
 use Rattle.dir_model.specs.declared.area.Area.TheVariants as area
 use Rattle.dir_model.specs.declared.area.Phase.{Phase}
@@ -15,21 +16,21 @@ use Rattle.dir_model.specs.declared.request.Request.TheVariants.{MoveFolder}
 use Rattle.dir_model.specs.declared.request.Reply.TheVariants.{Refused}
 use Rattle.dir_model.specs.Areas.{is_stage}
 use Rattle.dir_model.specs.Calls.{AtOwnStep}
-use Rattle.dir_model.specs.Causes.{Rose}
 use Rattle.dir_model.specs.Local.{Local}
 use Rattle.dir_model.specs.Pods.{pod_text}
-use Rattle.dir_model.specs.Replies.{is_error}
 use Rattle.dir_model.specs.State.{DirState, stands, folder_at}
 use Rattle.dir_model.specs.Trace.{state_after}
 use Rattle.dir_model.proofs.Allowed.{allowed_reply}
 use Rattle.dir_model.proofs.Lists.{and_both}
 use Rattle.dir_model.proofs.Moments.{at_grown, step_at}
-use Rattle.dir_rules.proofs.Looks.{looked_more, same_bytes}
+use Rattle.dir_rules.proofs.Looks.{looked_more}
+use Rattle.dir_laws.proofs.Rose.{rose_later}
+use Rattle.dir_laws.proofs.Refusals.{exists_by}
 use Rattle.dir_trait.specs.DirCalls.{DirAt}
 use Rattle.dir_trait.specs.Knowledge.{LookedInto}
 use Rattle.lifecycle.specs.declared.machine.PodState.{PodState}
 use Rattle.lifecycle.specs.declared.machine.PodState.TheVariants as state
-use Rattle.lifecycle.specs.PodMachine.{pod_state, pod_phase, phase_of_state, is_place, exists}
+use Rattle.lifecycle.specs.PodMachine.{pod_state, pod_phase, phase_of_state, is_area_of_state, exists}
 use Rattle.lifecycle.specs.Executions.{IsConforming}
 use Rattle.lifecycle.proofs.Draws.{conforming_left}
 use Rattle.lifecycle.proofs.Phases.{exists_stands, stands_exists}
@@ -44,10 +45,10 @@ use Rattle.pod_locks.specs.declared.claim_setback.Setback.{Setback}
 use Rattle.pod_locks.specs.declared.claim_setback.Setback.TheVariants as setback
 use Rattle.pod_locks.specs.ClaimRequests.{in_prepared, in_run}
 use Rattle.pod_locks.specs.ClaimSetbacks.{last_refusal}
-use Rattle.pod_locks.specs.ClaimHolding.{MayClaim, and_lock, with_pod}
-use Rattle.pod_locks.specs.Work.{Went, Grew, MovedNothing, TookBoth, Leaves}
-use Rattle.pod_locks.specs.ClaimCauses.{is_prepared, is_held_elsewhere, IsAbsent, LacksManifest, HeldByAnother, FoundThenMissed, MissedTwice, WasBarred, WasWrong, BusyInTurn, ClaimCause, SetBack}
-use Rattle.pod_locks.specs.Claims.{HasPod, RefusedByAnother, IsFree, IsFreeThroughout, IsFailure}
+use Rattle.pod_locks.specs.ClaimHolding.{MayClaim, and_prepared_lock, with_pod}
+use Rattle.pod_locks.specs.Work.{WentClaiming, Grew, MovedNothing, TookBoth, WhereObservedKnew}
+use Rattle.pod_locks.specs.ClaimCauses.{is_prepared, is_held_elsewhere, IsNotInPrepared, IsPreparedWithoutManifest, PreparedHeldByAnother, FoundThenMissedPrepared, MissedTwice, WasBarred, WasWrongToClaim, BusyInTurn, ClaimCause, SetBack}
+use Rattle.pod_locks.specs.Claims.{HasPod, ClaimRefusedByAnother, IsFree, IsFreeThroughout, IsClaimFailure}
 use Rattle.pod_locks.proofs.Parts.{went_more}
 use Rattle.pod_locks.proofs.Reading.{Moment, later_is, reading_grew, may_looked}
 use Rattle.pod_locks.proofs.ClaimSeen.{runs_pod}
@@ -56,20 +57,17 @@ use Rattle.pod_locks.proofs.Traces.{grown_none, grown_more, grown_by, still_more
 
 -- what was so after the first attempt was so after both
 
-event_part : {me other : ℕ} {a b c : List Event} {P : List Event → Type 0} → Grew a b → other ≡ me → AtOwnEvent other b c P → AtOwnEvent me a c P
+pub event_part : {me other : ℕ} {a b c : List Event} {P : List Event → Type 0} → Grew a b → other ≡ me → AtOwnEvent other b c P → AtOwnEvent me a c P
 event_part {me} {other} {a} {b} {c} {P} ab same at = event_within ab.more [] ab.grown (sym (append-nil c)) (subst (λ (p : ℕ). AtOwnEvent p b c P) same at)
 
-rose_later : (a b c : ℕ) → a ≤ b → Rose b c → Rose a c
-rose_later a b c before rose = omega arith
+missed_part : {pod : PodId} {me other : ℕ} {b c : List Event} → other ≡ me → FoundThenMissedPrepared pod other b c → FoundThenMissedPrepared pod me b c
+missed_part {pod} {me} {other} {b} {c} same m = subst (λ (p : ℕ). FoundThenMissedPrepared pod p b c) same m
 
-missed_part : {pod : PodId} {me other : ℕ} {b c : List Event} → other ≡ me → FoundThenMissed pod other b c → FoundThenMissed pod me b c
-missed_part {pod} {me} {other} {b} {c} same m = subst (λ (p : ℕ). FoundThenMissed pod p b c) same m
-
-twice_part : {pod : PodId} {me other : ℕ} {a b c : List Event} → FoundThenMissed pod me a b → other ≡ me → FoundThenMissed pod other b c → MissedTwice pod me a c
+twice_part : {pod : PodId} {me other : ℕ} {a b c : List Event} → FoundThenMissedPrepared pod me a b → other ≡ me → FoundThenMissedPrepared pod other b c → MissedTwice pod me a c
 twice_part {pod} {me} {other} {a} {b} {c} first same second = record { between = b; first = first; second = missed_part same second }
 
-module _ {observed : Bool} {pod : PodId} {n : ℕ} {l : Local} {a b : DirAt} (w : Went observed n pod l a b) where
-  missed_after : {d : List Event} → observed ≡ true → FoundThenMissed pod a.process b.trace d → FoundThenMissed pod a.process a.trace d
+module _ {observed : Bool} {pod : PodId} {n : ℕ} {l : Local} {a b : DirAt} (w : WentClaiming observed n pod l a b) where
+  missed_after : {d : List Event} → observed ≡ true → FoundThenMissedPrepared pod a.process b.trace d → FoundThenMissedPrepared pod a.process a.trace d
   missed_after {d} t m = record {
     between = m.between;
     read = record {
@@ -114,38 +112,38 @@ module _ {observed : Bool} {pod : PodId} {n : ℕ} {l : Local} {a b : DirAt} (w 
   last_still c first second t = still_more (first.still t) w.same (second.still t)
 
   -- what it knew, and looks
-  module _ (left : Leaves observed MayClaim a (λ s. LookedInto s b)) where
-    pub left_twice : (c : DirAt) → Leaves observed MayClaim b (λ s. LookedInto s c) → Leaves observed MayClaim a (λ s. LookedInto s c)
+  module _ (left : WhereObservedKnew observed MayClaim a (λ s. LookedInto s b)) where
+    pub left_twice : (c : DirAt) → WhereObservedKnew observed MayClaim b (λ s. LookedInto s c) → WhereObservedKnew observed MayClaim a (λ s. LookedInto s c)
     left_twice c x t s may k =
         let now = left t s may k in
         let then = x t now.known (may_looked now.looked may) now.knows in
         record { known = then.known; looked = looked_more now.looked then.looked; knows = then.knows }
 
-    pub held_twice : (c : DirAt) (own : Handle) → Leaves observed MayClaim b (λ s. HasPod pod own s c) → Leaves observed MayClaim a (λ s. HasPod pod own s c)
+    pub held_twice : (c : DirAt) (own : Handle) → WhereObservedKnew observed MayClaim b (λ s. HasPod pod own s c) → WhereObservedKnew observed MayClaim a (λ s. HasPod pod own s c)
     held_twice c own x t s may k =
         let now = left t s may k in
         let then = x t now.known (may_looked now.looked may) now.knows in
         record { known = then.known; looked = looked_more now.looked then.looked; knows = then.knows }
 
-    pub another_twice : (c : DirAt) (stop : Setback) → Leaves observed MayClaim b (λ s. BusyInTurn pod stop b c) → Leaves observed MayClaim a (λ s. RefusedByAnother pod (last_refusal stop) a c)
+    pub another_twice : (c : DirAt) (stop : Setback) → WhereObservedKnew observed MayClaim b (λ s. BusyInTurn pod stop b c) → WhereObservedKnew observed MayClaim a (λ s. ClaimRefusedByAnother pod (last_refusal stop) a c)
     another_twice c setback.Missing x t s may k which is = cc
     another_twice c (setback.Refused error) x t s may k which is =
         let now = left t s may k in
         in_turn_part pod which (grown_by (w.extends t)) w.same grown_none (x t now.known (may_looked now.looked may) now.knows which (ap (λ (e : ClaimError). setback.Refused e) is))
 
-pub another_once : {observed : Bool} {pod : PodId} (error : ClaimError) (a b : DirAt) → Leaves observed MayClaim a (λ s. BusyInTurn pod (setback.Refused error) a b) → Leaves observed MayClaim a (λ s. RefusedByAnother pod error a b)
+pub another_once : {observed : Bool} {pod : PodId} (error : ClaimError) (a b : DirAt) → WhereObservedKnew observed MayClaim a (λ s. BusyInTurn pod (setback.Refused error) a b) → WhereObservedKnew observed MayClaim a (λ s. ClaimRefusedByAnother pod error a b)
 another_once error a b x t s may k which is = x t s may k which (ap (λ (e : ClaimError). setback.Refused e) is)
 
 -- it runs the pod
-pub runs_it : {observed : Bool} {pod : PodId} {own : Handle} (a b : DirAt) → Leaves observed MayClaim a (λ s. HasPod pod own s b) → Leaves observed MayClaim a (λ s. RunsPod pod b)
+pub runs_it : {observed : Bool} {pod : PodId} {own : Handle} (a b : DirAt) → WhereObservedKnew observed MayClaim a (λ s. HasPod pod own s b) → WhereObservedKnew observed MayClaim a (λ s. RunsPod pod b)
 runs_it {observed} {pod} {own} a b x t s may k = let h = x t s may k in record { seen = with_pod pod own h.known; knows = h.knows; runs = runs_pod pod own h.known }
 
 -- what is open after both
-pub went_twice : {observed : Bool} {pod : PodId} {l : Local} {a b c : DirAt} → Went observed 33 pod a.local a b → Went observed 33 pod l b c → Went observed 66 pod l a c
+pub went_twice : {observed : Bool} {pod : PodId} {l : Local} {a b c : DirAt} → WentClaiming observed 33 pod a.local a b → WentClaiming observed 33 pod l b c → WentClaiming observed 66 pod l a c
 went_twice w v = went_more w v
 
-pub owned_twice : (pod : PodId) (m : Local) (n : Local) (own own' : Handle) → n ≡ m → own' ≡ own → and_lock n pod Own own ≡ and_lock m pod Own own'
-owned_twice pod m n own own' is same = ap (λ (x : Local). and_lock x pod Own own) is ∙ ap (λ (h : Handle). and_lock m pod Own h) (sym same)
+pub owned_twice : (pod : PodId) (m : Local) (n : Local) (own own' : Handle) → n ≡ m → own' ≡ own → and_prepared_lock n pod Own own ≡ and_prepared_lock m pod Own own'
+owned_twice pod m n own own' is same = ap (λ (x : Local). and_prepared_lock x pod Own own) is ∙ ap (λ (h : Handle). and_prepared_lock m pod Own h) (sym same)
 
 -- a pod whose phase is prepared stands there
 
@@ -153,7 +151,7 @@ is_waiting : (s : PodState) → phase_of_state s ≡ Some phase.Prepared → s �
 is_waiting state.Prepared is = refl
 is_waiting _ is = cc
 
-place_waiting : (a : Area) → is_place a state.Prepared ≡ true → a ≡ area.Prepared
+pub place_waiting : (a : Area) → is_area_of_state a state.Prepared ≡ true → a ≡ area.Prepared
 place_waiting area.Prepared is = refl
 place_waiting _ is = cc
 
@@ -163,7 +161,7 @@ stands_waiting pod h conforming is =
     let waiting = is_waiting (pod_state u h) is in
     let x = exists_stands u h conforming (ap exists waiting) in
     let at = stands_exists u h (record { area = x.0; name = u }) conforming (and_both (is_stage x.0) _ x.1.0 (same_bytes u)) x.1.1 in
-    let place : x.0 ≡ area.Prepared = place_waiting x.0 (sym (ap (is_place x.0) waiting) ∙ at.1) in
+    let place : x.0 ≡ area.Prepared = place_waiting x.0 (sym (ap (is_area_of_state x.0) waiting) ∙ at.1) in
     subst (λ (a : Area). stands (state_after h).namespace (record { area = a; name = u }) ≡ true) place x.1.1
 
 -- where nothing stands against the claim
@@ -181,16 +179,16 @@ module _ (pod : PodId) (a c : DirAt) (free : IsFreeThroughout pod a c) (conformi
   there_at : {P : DirState → Type 0} (at : Within P) → stands (state_after (Moment at)).namespace (in_prepared pod) ≡ true
   there_at at = stands_waiting pod (Moment at) (conforms_at at) (free_at at).waits
 
-  never_absent : Within (IsAbsent pod) → ⊥
+  never_absent : Within (IsNotInPrepared pod) → ⊥
   never_absent at = let e : true ≡ false = sym (there_at at) ∙ at.holds in cc
 
-  never_lacking : Within (LacksManifest pod) → ⊥
+  never_lacking : Within (IsPreparedWithoutManifest pod) → ⊥
   never_lacking at = let e : true ≡ false = sym ((free_at at).manifest at.holds.folder at.holds.there) ∙ at.holds.without in cc
 
   never_gone : AtOwnEvent a.process a.trace c.trace (IsNowhere pod) → ⊥
   never_gone at = let e : None ≡ Some phase.Prepared = sym at.holds ∙ (free at.before at.later at.rest at.step at.begins at.ends at.own).waits in cc
 
-  never_wrong : (p : Phase) → WasWrong pod p a.process a.trace c.trace → ⊥
+  never_wrong : (p : Phase) → WasWrongToClaim pod p a.process a.trace c.trace → ⊥
   never_wrong p w =
       let at = w.was in
       let e : Some p ≡ Some phase.Prepared = sym at.holds.is ∙ (free at.before at.later at.rest at.step at.begins at.ends at.own).waits in
@@ -201,7 +199,7 @@ module _ (pod : PodId) (a c : DirAt) (free : IsFreeThroughout pod a c) (conformi
   never_barred at =
       let e : false ≡ true = one_folder (Moment at) (in_prepared pod) (in_run pod) (conforms_at at) refl refl refl (there_at at) at.holds in cc
 
-  never_held : (which : Which) → HeldByAnother pod which a.process a.trace c.trace → ⊥
+  never_held : (which : Which) → PreparedHeldByAnother pod which a.process a.trace c.trace → ⊥
   never_held which h =
       let x = h.found in
       let y = h.held in
@@ -224,31 +222,25 @@ module _ (pod : PodId) (a c : DirAt) (free : IsFreeThroughout pod a c) (conformi
       let there = subst (λ (h' : List Event). folder_at (state_after h').namespace (in_prepared pod) ≡ Some h.folder) (sym yx) still in
       let e : false ≡ true = sym ((free_at at).unheld h.folder which there) ∙ y.holds in cc
 
--- the place in run was taken
-exists_by : (from to : Bool) → is_error Exists (cond from (cond to (Some Exists) None) (Some Missing)) ≡ true → to ≡ true
-exists_by true true is = refl
-exists_by true false is = cc
-exists_by false to is = cc
-
 barred_at : {me : ℕ} {old new : List Event} (pod : PodId) → WasBarred pod me old new → AtOwnStep me old new (λ s. stands s.namespace (in_run pod) ≡ true)
 barred_at {me} {old} {new} pod b =
     let o = b.each in
     at_part o.2 refl o.4 (step_at me o.0 (MoveFolder (in_prepared pod) (in_run pod)) (Refused Exists 0) o.1 (λ s. stands s.namespace (in_run pod) ≡ true) refl refl
     (λ s allowed. exists_by (stands s.namespace (in_prepared pod)) (stands s.namespace (in_run pod)) (allowed_reply s me (MoveFolder (in_prepared pod) (in_run pod)) (Refused Exists 0) allowed)) o.3)
 
-missed_grew : {pod : PodId} {me : ℕ} {old new : List Event} → FoundThenMissed pod me old new → Grew old new
+missed_grew : {pod : PodId} {me : ℕ} {old new : List Event} → FoundThenMissedPrepared pod me old new → Grew old new
 missed_grew {pod} m =
     let first = at_grown (reading_grew pod m.read) in
     let last = at_grown m.missed in
     grown_more (record { more = first.0; grown = first.1 }) (record { more = last.0; grown = last.1 })
 
-missed_at : {pod : PodId} {me : ℕ} {old new : List Event} → MissedTwice pod me old new → AtOwnStep me old new (IsAbsent pod)
+missed_at : {pod : PodId} {me : ℕ} {old new : List Event} → MissedTwice pod me old new → AtOwnStep me old new (IsNotInPrepared pod)
 missed_at {pod} m =
     let first = at_grown (reading_grew pod m.first.read) in
     at_part (record { more = first.0; grown = first.1 }) refl (missed_grew m.second) m.first.missed
 
 -- then only a failure refuses it
-pub only_failures : {observed : Bool} {pod : PodId} {a c : DirAt} (error : ClaimError) → observed ≡ true → ClaimCause observed pod error a c → RefusedByAnother pod error a c → IsConforming c.trace → IsFreeThroughout pod a c → IsFailure error
+pub only_failures : {observed : Bool} {pod : PodId} {a c : DirAt} (error : ClaimError) → observed ≡ true → ClaimCause observed pod error a c → ClaimRefusedByAnother pod error a c → IsConforming c.trace → IsFreeThroughout pod a c → IsClaimFailure error
 only_failures {observed} {pod} {a} {c} NoPod t x busy conforming free = absurd (never_gone pod a c free conforming (x.nowhere refl t conforming))
 only_failures {observed} {pod} {a} {c} (WrongPhase p) t x busy conforming free = absurd (never_wrong pod a c free conforming p (x.phase p refl t conforming))
 only_failures {observed} {pod} {a} {c} NoManifest t x busy conforming free = absurd (never_lacking pod a c free conforming (x.manifest refl t conforming))
@@ -257,6 +249,6 @@ only_failures DirFault t x busy conforming free = inl refl
 only_failures NoMemory t x busy conforming free = inr refl
 only_failures {observed} {pod} {a} {c} Stray t x busy conforming free = by (x.stray refl t)
   where
-    by : WasBarred pod a.process a.trace c.trace ⊎ MissedTwice pod a.process a.trace c.trace → IsFailure Stray
+    by : WasBarred pod a.process a.trace c.trace ⊎ MissedTwice pod a.process a.trace c.trace → IsClaimFailure Stray
     by (inl b) = absurd (never_barred pod a c free conforming (barred_at pod b))
     by (inr m) = absurd (never_absent pod a c free conforming (missed_at m))

@@ -1,8 +1,8 @@
 -- What others do leaves the handles of one process; and which lock of which folder a handle is on.
-use Rattle.std.proofs.Common.{arith, ◌≡◌, ℕ, Bool, true, false, not, ◌&&◌, ◌||◌, ◌==◌, cond}
+use Rattle.std.proofs.Common.{◌≡◌, ℕ, Bool, true, false, not, ◌&&◌, ◌||◌, ◌==◌, cond}
 use Rattle.std.proofs.Common.{Option, Some, List, [], ◌∷◌, ◌++◌, map, filter, find, refl, sym, ap, subst, ◌∙◌}
 use Rattle.std.specs.List.{list_any, AllByRecursion}
-use Rattle.std.proofs.lemmas.Bool.Decides.{nat_tests}
+use Rattle.plain_laws.proofs.Booleans.{over}
 use Rattle.dir_model.specs.declared.event.Event.{Event}
 use Rattle.dir_model.specs.declared.opening.Holding.{Holding}
 use Rattle.dir_model.specs.declared.opening.Opening.{Opening}
@@ -22,22 +22,13 @@ use Rattle.dir_model.specs.State.{Namespace, DirState, empty_state, has_begun, l
 use Rattle.dir_model.specs.Trace.{namespace_replied, locked, opened, opened_gate, state_next, states_next, state_after}
 use Rattle.dir_model.specs.Calls.{Interference, is_foreign, is_kill}
 use Rattle.dir_model.specs.Local.{holding_of}
-use Rattle.dir_model.proofs.Lists.{and_left, and_right, any_last, filter_past}
+use Rattle.dir_model.proofs.Lists.{and_left, and_right, any_last, filter_past, apart_clash}
 use Rattle.dir_model.proofs.Chains.{states_next-append}
-use Rattle.dir_rules.proofs.Tied.{lived_before}
-use Rattle.dir_files.proofs.OwnHandles.{Lives}
+use Rattle.dir_model.proofs.Holdings.{mine}
+use Rattle.dir_rules.proofs.Tied.{lived_before, Lives}
 use Rattle.pod_locks.specs.ClaimCauses.{is_lock}
 
 -- lists
-
-pub none_fails : {X : Type 0} (t q : X → Bool) (xs : List X) → list_any t xs ≡ false → list_any t (filter q xs) ≡ false
-none_fails t q [] none = refl
-none_fails t q (x ∷ xs) none = by (t x) (q x) refl none (λ rest. none_fails t q xs rest)
-  where
-    by : (a b : Bool) → t x ≡ a → (a || list_any t xs) ≡ false → (list_any t xs ≡ false → list_any t (filter q xs) ≡ false) → list_any t (cond b (x ∷ filter q xs) (filter q xs)) ≡ false
-    by true b is n go = cc
-    by false true is n go = ap (λ c. c || list_any t (filter q xs)) is ∙ go n
-    by false false is n go = go n
 
 pub find_last : {X : Type 0} (t : X → Bool) (xs : List X) (y : X) → list_any t xs ≡ false → t y ≡ true → find t (xs ++ y ∷ []) ≡ Some y
 find_last {X} t [] y none is = ap (λ b. cond b (Some y) (find t [])) is
@@ -47,21 +38,7 @@ find_last {X} t (x ∷ xs) y none is = by (t x) none (λ rest. find_last t xs y 
     by true n go = cc
     by false n go = go n
 
-pub any_but : {X : Type 0} (t bad q : X → Bool) → ((x : X) → t x ≡ true → bad x ≡ false → q x ≡ true) → (xs : List X) → list_any bad xs ≡ false → list_any t xs ≡ true → list_any q xs ≡ true
-any_but t bad q only [] none h = cc
-any_but t bad q only (x ∷ xs) none h = by (t x) (bad x) (q x) (only x) none h (λ rest more. any_but t bad q only xs rest more)
-  where
-    by : (a b c : Bool) → (a ≡ true → b ≡ false → c ≡ true) → (b || list_any bad xs) ≡ false → (a || list_any t xs) ≡ true
-        → (list_any bad xs ≡ false → list_any t xs ≡ true → list_any q xs ≡ true) → (c || list_any q xs) ≡ true
-    by a b true f n k go = refl
-    by true false false f n k go = let e : false ≡ true = f refl refl in cc
-    by false false false f n k go = go n k
-    by a true c f n k go = cc
-
 -- the handles of one process
-
-abbrev pub mine : ℕ → Opening → Bool
-mine me o = o.process == me
 
 abbrev pub own : ℕ → List Opening → List Opening
 own me os = filter (mine me) os
@@ -84,14 +61,11 @@ find_own me h (o ∷ os) = by (o.process == me) refl (find_own me h os)
     by true is rest = ap (λ (x : Option Opening). cond (o.handle.number == h.number) (Some o) x) rest ∙ ap (λ c. cond (c && (o.handle.number == h.number)) (Some o) (find (is_handle me h) (own me os))) (sym is)
     by false is rest = rest
 
-clash : (a p me : ℕ) → (a == p) ≡ true → (a == me) ≡ true → (p == me) ≡ false → ⊥
-clash a p me x y z = grind (arith, nat_tests)
-
 apart_from : (a p me : ℕ) → (p == me) ≡ false → (a == p) ≡ true → (a == me) ≡ false
 apart_from a p me apart is = by (a == me) refl
   where
     by : (b : Bool) → (a == me) ≡ b → (a == me) ≡ false
-    by true it = absurd (clash a p me is it apart)
+    by true it = absurd (apart_clash a p me is it apart)
     by false it = it
 
 own_mapped : (me p : ℕ) (h : Handle) (mode : Mode) → (p == me) ≡ false → (os : List Opening) → own me (map (locked p h mode) os) ≡ own me os
@@ -119,14 +93,14 @@ keeps_handle : (p : ℕ) (h : Handle) (me : ℕ) → (p == me) ≡ false → (o 
 keeps_handle p h me apart o is = by (is_handle p h o) (λ it. and_left (o.process == p) (o.handle.number == h.number) it)
   where
     by : (b : Bool) → (b ≡ true → (o.process == p) ≡ true) → not b ≡ true
-    by true it = absurd (clash o.process p me (it refl) is apart)
+    by true it = absurd (apart_clash o.process p me (it refl) is apart)
     by false it = refl
 
 keeps_process : (p me : ℕ) → (p == me) ≡ false → (o : Opening) → (o.process == me) ≡ true → not (o.process == p) ≡ true
 keeps_process p me apart o is = by (o.process == p) (λ it. it)
   where
     by : (b : Bool) → (b ≡ true → (o.process == p) ≡ true) → not b ≡ true
-    by true it = absurd (clash o.process p me (it refl) is apart)
+    by true it = absurd (apart_clash o.process p me (it refl) is apart)
     by false it = refl
 
 module _ (n : Namespace) (p me : ℕ) (apart : (p == me) ≡ false) where
@@ -141,10 +115,6 @@ module _ (n : Namespace) (p me : ℕ) (apart : (p == me) ≡ false) where
   others_own Kill Done = own_filtered me (λ o. not (o.process == p)) (keeps_process p me apart) n.openings
   others_own _ Done = refl
   others_own request reply = refl
-
-over : {X : Type 0} (b : Bool) → b ≡ true → not b ≡ true → X
-over true h k = cc
-over false h k = cc
 
 kill_own : (n : Namespace) (me p : ℕ) (request : Request) (reply : Reply) → (p == me) ≡ true → is_kill request ≡ true → lives (namespace_replied n p request reply) me ≡ true → own me (namespace_replied n p request reply).openings ≡ own me n.openings
 kill_own n me p Kill Done is kill now = over (list_any (λ q. q == me) (n.ended ++ p ∷ [])) (any_last (λ q. q == me) n.ended p is) (and_right (has_begun n me) (not (list_any (λ q. q == me) (n.ended ++ p ∷ []))) now)

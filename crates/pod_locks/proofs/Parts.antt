@@ -1,7 +1,7 @@
 -- The parts of a claim, one after the other: what they leave open, and what stops them.
-use Rattle.std.proofs.Common.{◌≡◌, inl, inr, ◌+◌, ◌≤◌, ◌==◌, not, ℕ, Bool, true, false, IfOk, IfErr, Option, Some, None, is_some, Result, Ok, Err, List, [], ◌∷◌, ◌++◌, filter, refl, sym, ap, subst, ◌∙◌, arith}
-use Rattle.std.proofs.lemmas.Bool.Decides.{nat_tests}
-use Rattle.std.specs.List.{list_any}
+use Rattle.std.proofs.Common.{◌≡◌, inl, inr, ◌+◌, ◌≤◌, ◌==◌, not, ℕ, Bool, true, false, IfOk, IfErr, Option, Some, None, is_some, Result, Ok, Err, List, [], ◌∷◌, ◌++◌, refl, ap, subst, ◌∙◌, arith}
+use Rattle.plain_laws.proofs.Lists.{none_before, none_last}
+use Rattle.plain_laws.proofs.Numbers.{flipped}
 use Rattle.dir_model.specs.declared.opening.Holding.{Holding}
 use Rattle.dir_model.specs.declared.pod.PodId.{PodId}
 use Rattle.dir_model.specs.declared.spot.Handle.{Handle}
@@ -13,39 +13,42 @@ use Rattle.dir_model.specs.declared.request.DirError.TheVariants.{Missing}
 use Rattle.dir_model.specs.declared.request.Request.TheVariants.{MoveFolder, Close}
 use Rattle.dir_model.specs.declared.request.Reply.TheVariants.{Done, Refused}
 use Rattle.dir_model.specs.declared.tree.TreeEntry.{TreeEntry}
-use Rattle.dir_model.specs.Local.{Local, is_number, without, is_open_among, IsUnopened}
+use Rattle.dir_model.specs.Local.{Local, is_handle_of, without, IsUnopened}
 use Rattle.dir_model.specs.Locks.{target_of}
 use Rattle.dir_model.specs.Replies.{refused_in, open_refusal}
 use Rattle.dir_model.specs.State.{DirState, folder_at}
 use Rattle.dir_model.proofs.Chains.{and_call, and_more}
-use Rattle.dir_model.proofs.Lists.{same_self, any_push, any_last, any_fewer, filter_all, filter_push, filter_past}
+use Rattle.dir_model.proofs.Lists.{same_self, filter_push, filter_past}
 use Rattle.dir_model.proofs.Moments.{at_weaker}
+use Rattle.dir_model.proofs.Holdings.{none_closed}
 use Rattle.dir_rules.specs.declared.seen.Seen.{Seen}
 use Rattle.dir_trait.specs.DirCalls.{DirAt, DirCall}
 use Rattle.dir_trait.specs.Knowledge.{Knows, LookedInto}
 use Rattle.dir_trait.proofs.Knowing.{knows_call}
+use Rattle.dir_trait.proofs.Looking.{fresh_of}
 use Rattle.pod_locks.specs.declared.claim_error.ClaimError.{ClaimError}
 use Rattle.pod_locks.specs.declared.claim_error.ClaimError.TheVariants.{NoPod, WrongPhase, Busy, Stray}
 use Rattle.pod_locks.specs.declared.claim_setback.Setback.{Setback}
 use Rattle.pod_locks.specs.declared.claim_setback.Setback.TheVariants as setback
 use Rattle.pod_locks.specs.ClaimRequests.{in_prepared, in_run}
-use Rattle.pod_locks.specs.ClaimHolding.{and_lock, and_locked, MayClaim, HasClaim, with_lock, with_pod}
-use Rattle.pod_locks.specs.Work.{Went, MovedNothing, InOrder, TookBoth, Leaves, Grew, takes, moves_on}
-use Rattle.pod_locks.specs.ClaimCauses.{CannotOpen, IsAbsent, Stopped, StopsAlone, IsLookRefusal, BusyElsewhere, BusyInTurn, HadAlone, HadBothAlone, HadClaim}
+use Rattle.pod_locks.specs.ClaimHolding.{and_prepared_lock, and_locked, MayClaim, HasClaim, with_prepared_lock, with_pod}
+use Rattle.pod_locks.specs.Work.{WentClaiming, MovedNothing, InOrder, TookBoth, WhereObservedKnew, Grew, taking_deeds, moving_deeds}
+use Rattle.pod_locks.specs.ClaimCauses.{CannotOpen, IsNotInPrepared, ClaimWasStopped, ClaimStopsAlone, IsLookRefusal, ClaimBusyElsewhere, BusyInTurn, HadAlone, HadBothAlone, HadClaimBefore}
 use Rattle.pod_locks.proofs.ClaimCalls.{asks_move, lock_closed}
-use Rattle.pod_locks.proofs.ClaimKnowing.{new_number, knows_as, looked_none}
+use Rattle.pod_locks.proofs.ClaimKnowing.{looked_none}
 use Rattle.pod_locks.proofs.ClaimSeen.{claim_back, claim_back_after}
 use Rattle.pod_locks.proofs.Times.{Follows, at_part, alone_had, stops_part, busy_part}
 use Rattle.pod_locks.proofs.Traces.{grown_none, grown_call, deeds_then, deeds_before, still_more}
+use Rattle.pod_locks.proofs.Knowing.{knows_as}
 
 -- more calls are allowed
-pub went_wider : {observed : Bool} {pod : PodId} {m n : ℕ} {l : Local} {a b : DirAt} → m ≤ n → Went observed m pod l a b → Went observed n pod l a b
+pub went_wider : {observed : Bool} {pod : PodId} {m n : ℕ} {l : Local} {a b : DirAt} → m ≤ n → WentClaiming observed m pod l a b → WentClaiming observed n pod l a b
 went_wider less w = record { counted = omega (arith, less, w.counted); same = w.same; faults = w.faults; local_is = w.local_is; extends = w.extends }
 
-pub went_as : {observed : Bool} {pod : PodId} {n : ℕ} {l m : Local} {a b : DirAt} → l ≡ m → Went observed n pod l a b → Went observed n pod m a b
-went_as {observed} {pod} {n} {l} {m} {a} {b} is w = subst (λ (x : Local). Went observed n pod x a b) is w
+pub went_as : {observed : Bool} {pod : PodId} {n : ℕ} {l m : Local} {a b : DirAt} → l ≡ m → WentClaiming observed n pod l a b → WentClaiming observed n pod m a b
+went_as {observed} {pod} {n} {l} {m} {a} {b} is w = subst (λ (x : Local). WentClaiming observed n pod x a b) is w
 
-pub went_more : {observed : Bool} {pod : PodId} {m n : ℕ} {l k : Local} {a b c : DirAt} → Went observed m pod l a b → Went observed n pod k b c → Went observed (m + n) pod k a c
+pub went_more : {observed : Bool} {pod : PodId} {m n : ℕ} {l k : Local} {a b c : DirAt} → WentClaiming observed m pod l a b → WentClaiming observed n pod k b c → WentClaiming observed (m + n) pod k a c
 went_more {observed} {pod} {m} {n} {l} {k} {a} {b} {c} ab bc = record {
   counted = omega (arith, ab.counted, bc.counted);
   same = bc.same ∙ ab.same;
@@ -54,12 +57,12 @@ went_more {observed} {pod} {m} {n} {l} {k} {a} {b} {c} ab bc = record {
   extends = λ t. and_more (ab.extends t) ab.same (bc.extends t);
 }
 
-pub locked_ok : (m : Local) (pod : PodId) (which : Which) (r : Result Handle Setback) (h : Handle) → r ≡ Ok h → and_locked m pod which r ≡ and_lock m pod which h
+pub locked_ok : (m : Local) (pod : PodId) (which : Which) (r : Result Handle Setback) (h : Handle) → r ≡ Ok h → and_locked m pod which r ≡ and_prepared_lock m pod which h
 locked_ok m pod which r h is = ap (and_locked m pod which) is
 
 -- the move under both locks
-module _ {observed : Bool} (pod : PodId) (own : Handle) {a b c : DirAt} (w : Went observed 3 pod (and_lock a.local pod Own own) a b) where
-  pub went_run : DirCall observed b (MoveFolder (in_prepared pod) (in_run pod)) Done c → Went observed 5 pod (and_lock a.local pod Own own) a c
+module _ {observed : Bool} (pod : PodId) (own : Handle) {a b c : DirAt} (w : WentClaiming observed 3 pod (and_prepared_lock a.local pod Own own) a b) where
+  pub went_run : DirCall observed b (MoveFolder (in_prepared pod) (in_run pod)) Done c → WentClaiming observed 5 pod (and_prepared_lock a.local pod Own own) a c
   went_run y = record {
     counted = omega (arith, w.counted, y.counted);
     same = y.same ∙ w.same;
@@ -68,7 +71,7 @@ module _ {observed : Bool} (pod : PodId) (own : Handle) {a b c : DirAt} (w : Wen
     extends = λ t. and_call (w.extends t) w.same (asks_move pod) (y.step t);
   }
 
-  pub went_unrun : {d : DirAt} (e : DirError) → IsUnopened a.local own → DirCall observed b (MoveFolder (in_prepared pod) (in_run pod)) (Refused e 0) c → DirCall observed c (Close own) Done d → Went observed 5 pod a.local a d
+  pub went_unrun : {d : DirAt} (e : DirError) → IsUnopened a.local own → DirCall observed b (MoveFolder (in_prepared pod) (in_run pod)) (Refused e 0) c → DirCall observed c (Close own) Done d → WentClaiming observed 5 pod a.local a d
   went_unrun e unopened y z = record {
     counted = omega (arith, w.counted, y.counted, z.counted);
     same = z.same ∙ (y.same ∙ w.same);
@@ -78,7 +81,7 @@ module _ {observed : Bool} (pod : PodId) (own : Handle) {a b c : DirAt} (w : Wen
   }
 
 -- what a lock that was had is followed by
-pub follows_taken : {observed : Bool} {pod : PodId} {n : ℕ} {l : Local} {a b : DirAt} → Went observed n pod l a b → (observed ≡ true → MovedNothing a.process a.trace b.trace) → Follows observed a b
+pub follows_taken : {observed : Bool} {pod : PodId} {n : ℕ} {l : Local} {a b : DirAt} → WentClaiming observed n pod l a b → (observed ≡ true → MovedNothing a.process a.trace b.trace) → Follows observed a b
 follows_taken w still = record { same = w.same; faults = w.faults; grown = λ t. record { more = (w.extends t).more; grown = (w.extends t).grown }; still = still }
 
 -- Own can't be opened where no folder stands
@@ -86,11 +89,11 @@ pub none_there : (es : List TreeEntry) (o : Option ℕ) → refused_in (open_ref
 none_there es None is = refl
 none_there es (Some folder) is = cc
 
-pub own_absent : {observed : Bool} {pod : PodId} {stop : Setback} {a b : DirAt} → Stopped observed pod (CannotOpen pod Own) stop a b → Stopped observed pod (IsAbsent pod) stop a b
+pub own_absent : {observed : Bool} {pod : PodId} {stop : Setback} {a b : DirAt} → ClaimWasStopped observed pod (CannotOpen pod Own) stop a b → ClaimWasStopped observed pod (IsNotInPrepared pod) stop a b
 own_absent {observed} {pod} {stop} {a} {b} s = record {
   still = s.still;
   fault = s.fault;
-  missing = λ is t. at_weaker (IsAbsent pod) (λ w h. none_there w.entries (folder_at w.namespace (in_prepared pod)) h) (s.missing is t);
+  missing = λ is t. at_weaker (IsNotInPrepared pod) (λ w h. none_there w.entries (folder_at w.namespace (in_prepared pod)) h) (s.missing is t);
   manifest = s.manifest;
   barred = s.barred;
   named = s.named;
@@ -99,7 +102,7 @@ own_absent {observed} {pod} {stop} {a} {b} s = record {
 }
 
 -- whatever stops it but a missing location
-pub stops_else : {observed : Bool} {pod : PodId} {stop : Setback} {a b : DirAt} {P Q : DirState → Type 0} → (stop ≡ setback.Missing → ⊥) → Stopped observed pod P stop a b → Stopped observed pod Q stop a b
+pub stops_else : {observed : Bool} {pod : PodId} {stop : Setback} {a b : DirAt} {P Q : DirState → Type 0} → (stop ≡ setback.Missing → ⊥) → ClaimWasStopped observed pod P stop a b → ClaimWasStopped observed pod Q stop a b
 stops_else {observed} {pod} {stop} other s = record {
   still = s.still;
   fault = s.fault;
@@ -118,8 +121,8 @@ look_only error (inr (inl is)) = (λ e. cc, (λ o w e. cc, (λ e. cc, λ p e. cc
 look_only error (inr (inr is)) = (λ e. cc, (λ o w e. cc, (λ e. cc, λ p e. cc)))
 
 -- Claim couldn't be opened, and then the folder was looked for
-pub alone_stops : {observed : Bool} {pod : PodId} {stop : Setback} {a b c : DirAt} → Stopped observed pod (CannotOpen pod Claim) setback.Missing a b → b.process ≡ a.process → a.faults ≤ b.faults → (observed ≡ true → Grew a.trace b.trace)
-    → StopsAlone observed pod stop b c → Stopped observed pod (IsAbsent pod) stop a c
+pub alone_stops : {observed : Bool} {pod : PodId} {stop : Setback} {a b c : DirAt} → ClaimWasStopped observed pod (CannotOpen pod Claim) setback.Missing a b → b.process ≡ a.process → a.faults ≤ b.faults → (observed ≡ true → Grew a.trace b.trace)
+    → ClaimStopsAlone observed pod stop b c → ClaimWasStopped observed pod (IsNotInPrepared pod) stop a c
 alone_stops {observed} {pod} {stop} {a} {b} {c} first same faults grew s =
     let ab : Follows observed a b = record { same = same; faults = faults; grown = grew; still = first.still } in
     record {
@@ -133,63 +136,39 @@ alone_stops {observed} {pod} {stop} {a} {b} {c} first same faults grew s =
       right = λ phase is. (look_only (WrongPhase phase) (s.calm (WrongPhase phase) is)).1.1.1 phase refl;
     }
 
-pub alone_calm : {observed : Bool} {pod : PodId} {stop : Setback} {b c : DirAt} (a : DirAt) → StopsAlone observed pod stop b c → BusyInTurn pod stop a c
+pub alone_calm : {observed : Bool} {pod : PodId} {stop : Setback} {b c : DirAt} (a : DirAt) → ClaimStopsAlone observed pod stop b c → BusyInTurn pod stop a c
 alone_calm {observed} {pod} {stop} a s which is = absurd ((look_only (Busy pod which) (s.calm (Busy pod which) is)).1.0 pod which refl)
 
 -- Claim is given up, once the pod was taken under it, or not
 
-not_twice : (b : Bool) → not (not b) ≡ true → b ≡ true
-not_twice true h = refl
-not_twice false h = cc
-
-none_given : (g : Handle) (hs : List Holding) → is_open_among g hs ≡ false → filter (λ x. not (is_number g x)) hs ≡ hs
-none_given g hs none = filter_all (λ x. not (is_number g x)) hs (any_fewer (λ x. not (not (is_number g x))) (is_number g) (λ x is. not_twice (is_number g x) is) hs none)
-
-none_before : {X : Type 0} (t : X → Bool) (xs : List X) (y : X) → list_any t (xs ++ y ∷ []) ≡ false → list_any t xs ≡ false
-none_before t xs y none = by (list_any t xs) (λ is. any_push t xs y is)
-  where
-    by : (b : Bool) → (b ≡ true → list_any t (xs ++ y ∷ []) ≡ true) → b ≡ false
-    by true f = let clash : true ≡ false = sym (f refl) ∙ none in cc
-    by false f = refl
-
-none_last : {X : Type 0} (t : X → Bool) (xs : List X) (y : X) → list_any t (xs ++ y ∷ []) ≡ false → t y ≡ false
-none_last t xs y none = by (t y) (λ is. any_last t xs y is)
-  where
-    by : (b : Bool) → (b ≡ true → list_any t (xs ++ y ∷ []) ≡ true) → b ≡ false
-    by true f = let clash : true ≡ false = sym (f refl) ∙ none in cc
-    by false f = refl
-
-flipped : (a b : ℕ) → (a == b) ≡ false → (b == a) ≡ false
-flipped a b h = grind (arith, nat_tests)
-
 abbrev held_on : PodId → Which → Handle → Holding
 held_on pod which h = record { handle = h; target = target_of (in_prepared pod) which; lock = Some Exclusive }
 
-module _ (m : Local) (pod : PodId) (claim own : Handle) (new : IsUnopened (and_lock m pod Claim claim) own) where
+module _ (m : Local) (pod : PodId) (claim own : Handle) (new : IsUnopened (and_prepared_lock m pod Claim claim) own) where
   pub still_unopened : IsUnopened m own
-  still_unopened = none_before (is_number own) m.holdings (held_on pod Claim claim) new
+  still_unopened = none_before (is_handle_of own) m.holdings (held_on pod Claim claim) new
 
   pub other_number : (own.number == claim.number) ≡ false
-  other_number = flipped claim.number own.number (none_last (is_number own) m.holdings (held_on pod Claim claim) new)
+  other_number = flipped claim.number own.number (none_last (is_handle_of own) m.holdings (held_on pod Claim claim) new)
 
-  pub claim_closed : IsUnopened m claim → without (and_lock (and_lock m pod Claim claim) pod Own own) claim ≡ and_lock m pod Own own
+  pub claim_closed : IsUnopened m claim → without (and_prepared_lock (and_prepared_lock m pod Claim claim) pod Own own) claim ≡ and_prepared_lock m pod Own own
   claim_closed unopened = ap (λ (hs : List Holding). let r : Local = record m { holdings = hs } in r)
-      (filter_push (λ x. not (is_number claim x)) (m.holdings ++ held_on pod Claim claim ∷ []) (held_on pod Own own) (ap not other_number)
-      ∙ (ap (λ (l : List Holding). l ++ held_on pod Own own ∷ []) (filter_past (λ x. not (is_number claim x)) m.holdings (held_on pod Claim claim) (ap not (same_self claim.number)))
-      ∙ ap (λ (l : List Holding). l ++ held_on pod Own own ∷ []) (none_given claim m.holdings unopened)))
+      (filter_push (λ x. not (is_handle_of claim x)) (m.holdings ++ held_on pod Claim claim ∷ []) (held_on pod Own own) (ap not other_number)
+      ∙ (ap (λ (l : List Holding). l ++ held_on pod Own own ∷ []) (filter_past (λ x. not (is_handle_of claim x)) m.holdings (held_on pod Claim claim) (ap not (same_self claim.number)))
+      ∙ ap (λ (l : List Holding). l ++ held_on pod Own own ∷ []) (none_closed claim m.holdings unopened)))
 
-pub unopened_before : {l : Local} (m : Local) (pod : PodId) (claim own : Handle) → l ≡ and_lock m pod Claim claim → IsUnopened l own → IsUnopened (and_lock m pod Claim claim) own
+pub unopened_before : {l : Local} (m : Local) (pod : PodId) (claim own : Handle) → l ≡ and_prepared_lock m pod Claim claim → IsUnopened l own → IsUnopened (and_prepared_lock m pod Claim claim) own
 unopened_before m pod claim own is new = subst (λ (x : Local). IsUnopened x own) is new
 
-claim_given_local : {late new l : Local} (m : Local) (pod : PodId) (claim : Handle) (r : Result Handle Setback) → IsUnopened m claim → l ≡ and_lock m pod Claim claim → IfOk r (λ own. IsUnopened l own)
+claim_given_local : {late new l : Local} (m : Local) (pod : PodId) (claim : Handle) (r : Result Handle Setback) → IsUnopened m claim → l ≡ and_prepared_lock m pod Claim claim → IfOk r (λ own. IsUnopened l own)
     → late ≡ and_locked l pod Own r → new ≡ without late claim → new ≡ and_locked m pod Own r
 claim_given_local m pod claim (Ok own) unopened at fresh is close_is =
-    close_is ∙ (ap (λ (x : Local). without x claim) (is ∙ ap (λ (x : Local). and_lock x pod Own own) at) ∙ claim_closed m pod claim own (unopened_before m pod claim own at fresh) unopened)
+    close_is ∙ (ap (λ (x : Local). without x claim) (is ∙ ap (λ (x : Local). and_prepared_lock x pod Own own) at) ∙ claim_closed m pod claim own (unopened_before m pod claim own at fresh) unopened)
 claim_given_local m pod claim (Err e) unopened at fresh is close_is = lock_closed m claim pod Claim unopened (is ∙ at) close_is
 
-module _ {observed : Bool} {pod : PodId} {claim : Handle} {a b c d : DirAt} (r : Result Handle Setback) (unopened : IsUnopened a.local claim) (w : Went observed 3 pod (and_lock a.local pod Claim claim) a b)
+module _ {observed : Bool} {pod : PodId} {claim : Handle} {a b c d : DirAt} (r : Result Handle Setback) (unopened : IsUnopened a.local claim) (w : WentClaiming observed 3 pod (and_prepared_lock a.local pod Claim claim) a b)
     (fresh : IfOk r (λ own. IsUnopened b.local own)) (z : DirCall observed c (Close claim) Done d) where
-  pub went_under : Went observed 5 pod (and_locked b.local pod Own r) b c → Went observed 9 pod (and_locked a.local pod Own r) a d
+  pub went_under : WentClaiming observed 5 pod (and_locked b.local pod Own r) b c → WentClaiming observed 9 pod (and_locked a.local pod Own r) a d
   went_under v = record {
     counted = omega (arith, w.counted, v.counted, z.counted);
     same = z.same ∙ (v.same ∙ w.same);
@@ -205,11 +184,11 @@ module _ {observed : Bool} {pod : PodId} {claim : Handle} {a b c d : DirAt} (r :
       by (Ok own) f = still_unopened a.local pod claim own (unopened_before a.local pod claim own w.local_is f)
       by (Err e) f = tt
 
-  pub order_under : b.process ≡ a.process → (observed ≡ true → InOrder a.process a.trace b.trace (takes pod Claim claim [])) → IfOk r (λ own. observed ≡ true → InOrder b.process b.trace c.trace (takes pod Own own (moves_on pod)))
+  pub order_under : b.process ≡ a.process → (observed ≡ true → InOrder a.process a.trace b.trace (taking_deeds pod Claim claim [])) → IfOk r (λ own. observed ≡ true → InOrder b.process b.trace c.trace (taking_deeds pod Own own (moving_deeds pod)))
       → IfOk r (λ own. observed ≡ true → TookBoth pod own a.process a.trace d.trace)
   order_under same first second = by r second
     where
-      by : (r : Result Handle Setback) → IfOk r (λ own. observed ≡ true → InOrder b.process b.trace c.trace (takes pod Own own (moves_on pod))) → IfOk r (λ own. observed ≡ true → TookBoth pod own a.process a.trace d.trace)
+      by : (r : Result Handle Setback) → IfOk r (λ own. observed ≡ true → InOrder b.process b.trace c.trace (taking_deeds pod Own own (moving_deeds pod))) → IfOk r (λ own. observed ≡ true → TookBoth pod own a.process a.trace d.trace)
       by (Ok own) f = λ t. record { claim = claim; order = deeds_then (first t) same (deeds_before (f t) (grown_call (z.step t))) }
       by (Err e) f = tt
 
@@ -220,40 +199,40 @@ module _ {observed : Bool} {pod : PodId} {claim : Handle} {a b c d : DirAt} (r :
       by (Ok own) f = λ t. record { claim = first t; own = alone_had (ab t) same (grown_call (z.step t)) (f t) }
       by (Err e) f = tt
 
-  pub stopped_under : Follows observed a b → c.process ≡ b.process → Follows observed c d → IfErr r (λ e. Stopped observed pod (IsAbsent pod) e b c) → IfErr r (λ e. Stopped observed pod (IsAbsent pod) e a d)
+  pub stopped_under : Follows observed a b → c.process ≡ b.process → Follows observed c d → IfErr r (λ e. ClaimWasStopped observed pod (IsNotInPrepared pod) e b c) → IfErr r (λ e. ClaimWasStopped observed pod (IsNotInPrepared pod) e a d)
   stopped_under ab bc cd s = by r s
     where
-      by : (r : Result Handle Setback) → IfErr r (λ e. Stopped observed pod (IsAbsent pod) e b c) → IfErr r (λ e. Stopped observed pod (IsAbsent pod) e a d)
+      by : (r : Result Handle Setback) → IfErr r (λ e. ClaimWasStopped observed pod (IsNotInPrepared pod) e b c) → IfErr r (λ e. ClaimWasStopped observed pod (IsNotInPrepared pod) e a d)
       by (Ok own) f = tt
       by (Err e) f = stops_part ab bc cd f
 
   -- what the process knows under Claim, and without it
-  module _ (held : Leaves observed MayClaim a (λ s. Knows b (with_lock pod Claim claim s))) where
-    has_claim : {s : Seen} → MayClaim s → Knows a s → HasClaim pod (with_lock pod Claim claim s)
-    has_claim {s} may k = record { claim = claim; base = s; may = may; fresh = new_number claim k unopened; is = refl }
+  module _ (held : WhereObservedKnew observed MayClaim a (λ s. Knows b (with_prepared_lock pod Claim claim s))) where
+    has_claim : {s : Seen} → MayClaim s → Knows a s → HasClaim pod (with_prepared_lock pod Claim claim s)
+    has_claim {s} may k = record { claim = claim; base = s; may = may; fresh = fresh_of claim k unopened; is = refl }
 
-    pub another_under : Follows observed a b → c.process ≡ b.process → Follows observed c d → IfErr r (λ e. Leaves observed (HasClaim pod) b (λ s. BusyElsewhere pod e b c)) → (observed ≡ true → HadAlone pod Claim a.process a.trace d.trace) → IfErr r (λ e. Leaves observed MayClaim a (λ s. BusyInTurn pod e a d))
+    pub another_under : Follows observed a b → c.process ≡ b.process → Follows observed c d → IfErr r (λ e. WhereObservedKnew observed (HasClaim pod) b (λ s. ClaimBusyElsewhere pod e b c)) → (observed ≡ true → HadAlone pod Claim a.process a.trace d.trace) → IfErr r (λ e. WhereObservedKnew observed MayClaim a (λ s. BusyInTurn pod e a d))
     another_under ab bc cd x alone = by r x
       where
-        had : (which : Which) → HadAlone pod Claim a.process a.trace d.trace → HadClaim pod which a.process a.trace d.trace
+        had : (which : Which) → HadAlone pod Claim a.process a.trace d.trace → HadClaimBefore pod which a.process a.trace d.trace
         had Own o = o
         had Claim o = tt
 
-        by : (r : Result Handle Setback) → IfErr r (λ e. Leaves observed (HasClaim pod) b (λ s. BusyElsewhere pod e b c)) → IfErr r (λ e. Leaves observed MayClaim a (λ s. BusyInTurn pod e a d))
+        by : (r : Result Handle Setback) → IfErr r (λ e. WhereObservedKnew observed (HasClaim pod) b (λ s. ClaimBusyElsewhere pod e b c)) → IfErr r (λ e. WhereObservedKnew observed MayClaim a (λ s. BusyInTurn pod e a d))
         by (Ok own) f = tt
-        by (Err e) f = λ t s may k which is. (busy_part {stop = e} t ab bc cd (f t (with_lock pod Claim claim s) (has_claim may k) (held t s may k)) which is, had which (alone t))
+        by (Err e) f = λ t s may k which is. (busy_part {stop = e} t ab bc cd (f t (with_prepared_lock pod Claim claim s) (has_claim may k) (held t s may k)) which is, had which (alone t))
 
-    pub held_under : IfOk r (λ own. Leaves observed (HasClaim pod) b (λ s. Knows c (with_pod pod own s))) → IfOk r (λ own. Leaves observed MayClaim a (λ s. Knows d (with_pod pod own s)))
+    pub held_under : IfOk r (λ own. WhereObservedKnew observed (HasClaim pod) b (λ s. Knows c (with_pod pod own s))) → IfOk r (λ own. WhereObservedKnew observed MayClaim a (λ s. Knows d (with_pod pod own s)))
     held_under x = by r fresh x
       where
-        by : (r : Result Handle Setback) → IfOk r (λ own. IsUnopened b.local own) → IfOk r (λ own. Leaves observed (HasClaim pod) b (λ s. Knows c (with_pod pod own s))) → IfOk r (λ own. Leaves observed MayClaim a (λ s. Knows d (with_pod pod own s)))
-        by (Ok own) f g = λ t s may k. knows_as (claim_back_after pod claim s may (new_number claim k unopened) own (other_number a.local pod claim own (unopened_before a.local pod claim own w.local_is f)))
-            (knows_call t (g t (with_lock pod Claim claim s) (has_claim may k) (held t s may k)) refl refl z)
+        by : (r : Result Handle Setback) → IfOk r (λ own. IsUnopened b.local own) → IfOk r (λ own. WhereObservedKnew observed (HasClaim pod) b (λ s. Knows c (with_pod pod own s))) → IfOk r (λ own. WhereObservedKnew observed MayClaim a (λ s. Knows d (with_pod pod own s)))
+        by (Ok own) f g = λ t s may k. knows_as (claim_back_after pod claim s may (fresh_of claim k unopened) own (other_number a.local pod claim own (unopened_before a.local pod claim own w.local_is f)))
+            (knows_call t (g t (with_prepared_lock pod Claim claim s) (has_claim may k) (held t s may k)) refl refl z)
         by (Err e) f g = tt
 
-    pub left_under : IfErr r (λ e. Leaves observed (HasClaim pod) b (λ s. Knows c s)) → IfErr r (λ e. Leaves observed MayClaim a (λ s. LookedInto s d))
+    pub left_under : IfErr r (λ e. WhereObservedKnew observed (HasClaim pod) b (λ s. Knows c s)) → IfErr r (λ e. WhereObservedKnew observed MayClaim a (λ s. LookedInto s d))
     left_under x = by r x
       where
-        by : (r : Result Handle Setback) → IfErr r (λ e. Leaves observed (HasClaim pod) b (λ s. Knows c s)) → IfErr r (λ e. Leaves observed MayClaim a (λ s. LookedInto s d))
+        by : (r : Result Handle Setback) → IfErr r (λ e. WhereObservedKnew observed (HasClaim pod) b (λ s. Knows c s)) → IfErr r (λ e. WhereObservedKnew observed MayClaim a (λ s. LookedInto s d))
         by (Ok own) g = tt
-        by (Err e) g = λ t s may k. looked_none (knows_as (claim_back pod claim s may (new_number claim k unopened)) (knows_call t (g t (with_lock pod Claim claim s) (has_claim may k) (held t s may k)) refl refl z))
+        by (Err e) g = λ t s may k. looked_none (knows_as (claim_back pod claim s may (fresh_of claim k unopened)) (knows_call t (g t (with_prepared_lock pod Claim claim s) (has_claim may k) (held t s may k)) refl refl z))

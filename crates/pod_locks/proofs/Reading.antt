@@ -1,5 +1,5 @@
 -- What is read before a pod is taken, and what follows of it.
-use Rattle.std.proofs.Common.{◌≡◌, inl, inr, ◌+◌, ◌≤◌, ℕ, Bool, true, false, cond, IfOk, IfErr, Option, Some, None, is_some, Result, Ok, Err, List, [], ◌∷◌, ◌++◌, refl, sym, ap, subst, ◌∙◌, append_assoc, arith, codes}
+use Rattle.std.proofs.Common.{◌≡◌, inl, inr, ◌+◌, ◌≤◌, ℕ, Bool, true, false, cond, Option, Some, None, is_some, List, [], ◌∷◌, ◌++◌, refl, sym, ap, subst, ◌∙◌, append_assoc, arith, codes}
 use Rattle.dir_model.specs.declared.area.Area.{Area}
 use Rattle.dir_model.specs.declared.area.Area.TheVariants as area
 use Rattle.dir_model.specs.declared.area.Phase.{Phase}
@@ -28,6 +28,7 @@ use Rattle.dir_model.proofs.Moments.{at_grown, some_number}
 use Rattle.dir_rules.specs.declared.seen.Seen.{Seen}
 use Rattle.dir_rules.specs.Conforms.{Looked}
 use Rattle.dir_rules.proofs.Looks.{looked_more}
+use Rattle.dir_laws.proofs.Rose.{rose_later}
 use Rattle.dir_trait.specs.DirCalls.{DirAt, ExtendsBy, HeldBetween}
 use Rattle.dir_trait.specs.Knowledge.{Knows, LookedInto, OnlyLooks}
 use Rattle.lifecycle.specs.Executions.{IsConforming}
@@ -35,7 +36,7 @@ use Rattle.lifecycle.proofs.Stays.{stays_between}
 use Rattle.phase_read.specs.declared.found.Found.TheVariants.{At}
 use Rattle.phase_read.specs.declared.found.LookError.{LookError}
 use Rattle.phase_read.specs.declared.found.LookError.TheVariants as look
-use Rattle.phase_read.specs.Read.{IsReading, WasFound, is_pod_spot}
+use Rattle.phase_read.specs.Read.{IsPhaseReading, WasFound, is_pod_spot}
 use Rattle.phase_read.specs.Exact.{AtOwnEvent, IsInPhase, IsNowhere}
 use Rattle.phase_read.proofs.InTurn.{left_out_grown}
 use Rattle.phase_read.proofs.Stages.{pod_spot_only}
@@ -46,8 +47,8 @@ use Rattle.pod_locks.specs.declared.claim_setback.Setback.TheVariants as setback
 use Rattle.pod_locks.specs.ClaimRequests.{in_prepared, claims}
 use Rattle.pod_locks.specs.ClaimSetbacks.{look_refusal}
 use Rattle.pod_locks.specs.ClaimHolding.{MayClaim, with_pod}
-use Rattle.pod_locks.specs.Work.{Went, Grew, MovedNothing, TookBoth, Leaves}
-use Rattle.pod_locks.specs.ClaimCauses.{is_prepared, CannotOpen, IsAbsent, LacksManifest, OpensOwnAlone, WasWrong, Stopped, StopsAlone, BusyInTurn, ClaimCause, SetBack}
+use Rattle.pod_locks.specs.Work.{WentClaiming, Grew, MovedNothing, TookBoth, WhereObservedKnew}
+use Rattle.pod_locks.specs.ClaimCauses.{is_prepared, CannotOpen, IsNotInPrepared, IsPreparedWithoutManifest, OpensOwnAlone, WasWrongToClaim, ClaimWasStopped, ClaimStopsAlone, BusyInTurn, ClaimCause, SetBack}
 use Rattle.pod_locks.specs.Claims.{HasPod}
 use Rattle.pod_locks.proofs.Times.{Follows, at_part, deeds_part, in_turn_part}
 use Rattle.pod_locks.proofs.Traces.{grown_none, grown_by, still_looks, still_more}
@@ -59,7 +60,7 @@ look_claims pod test f (TryLock handle mode) is = refl
 look_claims pod test f (Close handle) is = refl
 look_claims pod test f _ is = cc
 
-pub went_looked : {observed : Bool} {pod : PodId} {n : ℕ} {a b : DirAt} → b.calls ≤ a.calls + n → b.process ≡ a.process → a.faults ≤ b.faults → b.local ≡ a.local → (observed ≡ true → ExtendsBy (is_look_at (is_pod_spot pod)) a b) → Went observed n pod a.local a b
+pub went_looked : {observed : Bool} {pod : PodId} {n : ℕ} {a b : DirAt} → b.calls ≤ a.calls + n → b.process ≡ a.process → a.faults ≤ b.faults → b.local ≡ a.local → (observed ≡ true → ExtendsBy (is_look_at (is_pod_spot pod)) a b) → WentClaiming observed n pod a.local a b
 went_looked {observed} {pod} counted same faults local extends = record {
   counted = counted;
   same = same;
@@ -81,13 +82,13 @@ looks_there {observed} {spot} pod a b is extends t =
 
 -- the folder was looked for alone
 module _ {observed : Bool} {pod : PodId} {a b : DirAt} (extends : observed ≡ true → ExtendsBy (is_look_at (is_pod_spot pod)) a b) where
-  pub alone_there : (observed ≡ true → HeldBetween a b (λ s. stands s.namespace (in_prepared pod) ≡ true)) → StopsAlone observed pod (setback.Refused NoManifest) a b
+  pub alone_there : (observed ≡ true → HeldBetween a b (λ s. stands s.namespace (in_prepared pod) ≡ true)) → ClaimStopsAlone observed pod (setback.Refused NoManifest) a b
   alone_there there = record { still = λ t. still_looks (extends t); fault = λ is. cc; missing = λ is. cc; there = λ is t. there t; calm = λ error is. inl cc }
 
-  pub alone_missing : (observed ≡ true → HeldBetween a b (IsAbsent pod)) → StopsAlone observed pod setback.Missing a b
+  pub alone_missing : (observed ≡ true → HeldBetween a b (IsNotInPrepared pod)) → ClaimStopsAlone observed pod setback.Missing a b
   alone_missing absent = record { still = λ t. still_looks (extends t); fault = λ is. cc; missing = λ is t. absent t; there = λ is. cc; calm = λ error is. cc }
 
-  pub alone_failed : (e : LookError) → (e ≡ look.DirFault → Rose a.faults b.faults) → StopsAlone observed pod (setback.Refused (look_refusal e)) a b
+  pub alone_failed : (e : LookError) → (e ≡ look.DirFault → Rose a.faults b.faults) → ClaimStopsAlone observed pod (setback.Refused (look_refusal e)) a b
   alone_failed look.DirFault rose = record { still = λ t. still_looks (extends t); fault = λ is. rose refl; missing = λ is. cc; there = λ is. cc; calm = λ error is. inr (inl cc) }
   alone_failed _ rose = record { still = λ t. still_looks (extends t); fault = λ is. cc; missing = λ is. cc; there = λ is. cc; calm = λ error is. inr (inr cc) }
 
@@ -113,18 +114,18 @@ found_in : {me : ℕ} {a b : List Event} {spot : Spot} {p : Phase} → WasFound 
 found_in (inl s) = (false, s.is)
 found_in (inr s) = (s.0, s.2)
 
-pub found_prepared : {me : ℕ} {old new : List Event} (pod : PodId) (p : Phase) (at : Area) → is_prepared p ≡ true → IsReading me old new pod (At p at) → IsReading me old new pod (At phase.Prepared area.Prepared)
+pub found_prepared : {me : ℕ} {old new : List Event} (pod : PodId) (p : Phase) (at : Area) → is_prepared p ≡ true → IsPhaseReading me old new pod (At p at) → IsPhaseReading me old new pod (At phase.Prepared area.Prepared)
 found_prepared {me} {old} {new} pod p at is read =
-    let here = subst (λ (q : Phase). IsReading me old new pod (At q at)) (phase_by p is) read in
+    let here = subst (λ (q : Phase). IsPhaseReading me old new pod (At q at)) (phase_by p is) read in
     let place = found_in here.found in
-    subst (λ (b : Area). IsReading me old new pod (At phase.Prepared b)) (prepared_in at place.0 place.1) here
+    subst (λ (b : Area). IsPhaseReading me old new pod (At phase.Prepared b)) (prepared_in at place.0 place.1) here
 
 -- why a read doesn't find it in prepared
 pub cause_wrong : {observed : Bool} {a b : DirAt} (pod : PodId) (p : Phase) (at : Area) → is_prepared p ≡ false → (observed ≡ true → IsConforming b.trace → AtOwnEvent a.process a.trace b.trace (IsInPhase pod p at)) → ClaimCause observed pod (WrongPhase p) a b
 cause_wrong {observed} {a} {b} pod p at wrong exact = record {
   fault = λ is. cc;
   nowhere = λ is. cc;
-  phase = λ q is t conforming. let same : p ≡ q = cc in subst (λ (x : Phase). WasWrong pod x a.process a.trace b.trace) same (record { wrong = wrong; area = at; was = exact t conforming });
+  phase = λ q is t conforming. let same : p ≡ q = cc in subst (λ (x : Phase). WasWrongToClaim pod x a.process a.trace b.trace) same (record { wrong = wrong; area = at; was = exact t conforming });
   manifest = λ is. cc;
   named = λ other which is. cc;
   stray = λ is. cc;
@@ -144,7 +145,7 @@ look_calm pod _ which is = cc
 
 -- where the pod was found in prepared, and stood there later again, it stood there between
 
-pub reading_grew : {me : ℕ} {old new : List Event} (pod : PodId) → IsReading me old new pod (At phase.Prepared area.Prepared) → AtOwnStep me old new (λ s. stands s.namespace (in_prepared pod) ≡ true)
+pub reading_grew : {me : ℕ} {old new : List Event} (pod : PodId) → IsPhaseReading me old new pod (At phase.Prepared area.Prepared) → AtOwnStep me old new (λ s. stands s.namespace (in_prepared pod) ≡ true)
 reading_grew {me} {old} {new} pod r = by r.found
   where
     before : Grew old r.between
@@ -184,7 +185,7 @@ no_file es folder is = by (has_file es folder (codes "pod")) is
     by false h = refl
 
 pub stood_between : {me : ℕ} {a b c d : List Event} (pod : PodId) → AtOwnStep me a b (λ s. stands s.namespace (in_prepared pod) ≡ true) → (y : AtOwnStep me b c (CannotOpen pod Claim))
-    → AtOwnStep me c d (λ s. stands s.namespace (in_prepared pod) ≡ true) → IsConforming d → LacksManifest pod (state_after (Moment y))
+    → AtOwnStep me c d (λ s. stands s.namespace (in_prepared pod) ≡ true) → IsConforming d → IsPreparedWithoutManifest pod (state_after (Moment y))
 stood_between {me} {a} {b} {c} {d} pod x y z conforming =
     let k = some_number (folder_at (state_after (Moment x)).namespace (in_prepared pod)) x.holds in
     let p = x.rest ++ (y.later ++ y.step ∷ []) in
@@ -200,13 +201,13 @@ stood_between {me} {a} {b} {c} {d} pod x y z conforming =
       without = no_file (state_after (Moment y)).entries k.0 (subst (λ (o : Option ℕ). refused_in (open_refusal Claim) (state_after (Moment y)).entries o ≡ Some Missing) there y.holds);
     }
 
-pub lacks_manifest : {me : ℕ} {a b c : List Event} (pod : PodId) → IsReading me a b pod (At phase.Prepared area.Prepared) → OpensOwnAlone pod me b c → IsConforming c → AtOwnStep me a c (LacksManifest pod)
+pub lacks_manifest : {me : ℕ} {a b c : List Event} (pod : PodId) → IsPhaseReading me a b pod (At phase.Prepared area.Prepared) → OpensOwnAlone pod me b c → IsConforming c → AtOwnStep me a c (IsPreparedWithoutManifest pod)
 lacks_manifest {me} {a} {b} {c} pod read alone conforming =
     let x = reading_grew pod read in
     let g = at_grown x in
     let last = at_grown alone.there in
     let y = alone.closed in
-    let at : AtOwnStep me b alone.between (LacksManifest pod) = record {
+    let at : AtOwnStep me b alone.between (IsPreparedWithoutManifest pod) = record {
       before = y.before;
       step = y.step;
       later = y.later;
@@ -221,17 +222,14 @@ lacks_manifest {me} {a} {b} {c} pod read alone conforming =
 -- the read, and then the rest of the attempt
 
 pub may_looked : {s t : Seen} → Looked s t → MayClaim s → MayClaim t
-may_looked {s} {t} l may = subst MayClaim (sym l.same) (record { began = may.began; apart = may.apart; cleared = may.cleared })
+may_looked {s} {t} l may = subst MayClaim (sym l.same) (record { began = may.began; apart = may.apart; seen_unowned_under_claim = may.seen_unowned_under_claim })
 
-rose_later : (a b c : ℕ) → a ≤ b → Rose b c → Rose a c
-rose_later a b c before rose = omega arith
-
-module _ {observed : Bool} {pod : PodId} {n : ℕ} {l : Local} {a b : DirAt} (w : Went observed n pod l a b) (still : observed ≡ true → MovedNothing a.process a.trace b.trace)
-    (found : observed ≡ true → IsReading a.process a.trace b.trace pod (At phase.Prepared area.Prepared)) where
+module _ {observed : Bool} {pod : PodId} {n : ℕ} {l : Local} {a b : DirAt} (w : WentClaiming observed n pod l a b) (still : observed ≡ true → MovedNothing a.process a.trace b.trace)
+    (found : observed ≡ true → IsPhaseReading a.process a.trace b.trace pod (At phase.Prepared area.Prepared)) where
   follows : Follows observed a b
   follows = record { same = w.same; faults = w.faults; grown = λ t. grown_by (w.extends t); still = still }
 
-  pub set_back_after : {c : DirAt} (stop : Setback) → Stopped observed pod (IsAbsent pod) stop b c → SetBack observed pod stop a c
+  pub set_back_after : {c : DirAt} (stop : Setback) → ClaimWasStopped observed pod (IsNotInPrepared pod) stop b c → SetBack observed pod stop a c
   set_back_after {c} stop s = record {
     still = λ t. still_more (still t) w.same (s.still t);
     missing = λ is t. record { between = b.trace; read = found t; missed = at_part grown_none w.same grown_none (s.missing is t) };
@@ -249,27 +247,19 @@ module _ {observed : Bool} {pod : PodId} {n : ℕ} {l : Local} {a b : DirAt} (w 
   took_after c t o = record { claim = o.claim; order = deeds_part (grown_by (w.extends t)) w.same grown_none o.order }
 
   module _ (known : observed ≡ true → OnlyLooks a b) where
-    pub another_after : (c : DirAt) (stop : Setback) → Leaves observed MayClaim b (λ s. BusyInTurn pod stop b c) → Leaves observed MayClaim a (λ s. BusyInTurn pod stop a c)
+    pub another_after : (c : DirAt) (stop : Setback) → WhereObservedKnew observed MayClaim b (λ s. BusyInTurn pod stop b c) → WhereObservedKnew observed MayClaim a (λ s. BusyInTurn pod stop a c)
     another_after c stop x t s may k = λ which is. let now = known t s k in in_turn_part pod which (grown_by (w.extends t)) w.same grown_none (x t now.known (may_looked now.looked may) now.knows which is)
 
-    pub held_after : (c : DirAt) (own : Handle) → Leaves observed MayClaim b (λ s. Knows c (with_pod pod own s)) → Leaves observed MayClaim a (λ s. HasPod pod own s c)
+    pub held_after : (c : DirAt) (own : Handle) → WhereObservedKnew observed MayClaim b (λ s. Knows c (with_pod pod own s)) → WhereObservedKnew observed MayClaim a (λ s. HasPod pod own s c)
     held_after c own x t s may k = let now = known t s k in record { known = now.known; looked = now.looked; knows = x t now.known (may_looked now.looked may) now.knows }
 
-    pub left_after : (c : DirAt) → Leaves observed MayClaim b (λ s. LookedInto s c) → Leaves observed MayClaim a (λ s. LookedInto s c)
+    pub left_after : (c : DirAt) → WhereObservedKnew observed MayClaim b (λ s. LookedInto s c) → WhereObservedKnew observed MayClaim a (λ s. LookedInto s c)
     left_after c x t s may k =
         let now = known t s k in
         let then = x t now.known (may_looked now.looked may) now.knows in
         record { known = then.known; looked = looked_more now.looked then.looked; knows = then.knows }
 
 -- the same of a result
-
-pub ok_more : {T E : Type 0} (P Q : T → Type 0) (r : Result T E) → ((x : T) → P x → Q x) → IfOk r P → IfOk r Q
-ok_more P Q (Ok x) f p = f x p
-ok_more P Q (Err e) f p = tt
-
-pub err_more : {T E : Type 0} (P Q : E → Type 0) (r : Result T E) → ((e : E) → P e → Q e) → IfErr r P → IfErr r Q
-err_more P Q (Ok x) f p = tt
-err_more P Q (Err e) f p = f e p
 
 -- the read refused the claim
 pub refused_first : {observed : Bool} {pod : PodId} {error : ClaimError} {a b : DirAt} → (observed ≡ true → MovedNothing a.process a.trace b.trace) → ClaimCause observed pod error a b → SetBack observed pod (setback.Refused error) a b

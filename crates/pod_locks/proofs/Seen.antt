@@ -1,5 +1,6 @@
 -- What a process knows that looks at a pod's lock, takes one, moves the pod, and gives the lock up.
 use Rattle.std.proofs.Common.{◌≡◌, ℕ, Bool, true, false, not, ◌&&◌, ◌||◌, Option, Some, None, List, [], ◌∷◌, map, refl, ap, ◌∙◌}
+use Rattle.plain_laws.proofs.Lists.{none_of_filter}
 use Rattle.dir_model.specs.declared.area.Area.{Area}
 use Rattle.dir_model.specs.declared.area.Area.TheVariants as area
 use Rattle.dir_model.specs.declared.opening.Target.TheVariants as target
@@ -20,14 +21,13 @@ use Rattle.dir_model.proofs.Lists.{and_false}
 use Rattle.dir_rules.specs.declared.standing.Held.{Held}
 use Rattle.dir_rules.specs.declared.standing.Standing.{Standing}
 use Rattle.dir_rules.specs.declared.seen.Seen.{Seen}
-use Rattle.dir_rules.specs.Standing.{is_claim_of, uncover, holds_claim, looked_by, standing_done, held_in}
+use Rattle.dir_rules.specs.Standing.{is_claim_of, uncover, holds_claim, looked_by, standing_done, held_with_mode}
 use Rattle.dir_rules.specs.LockRules.{is_open_on, may_open, may_lock_own, may_lock_by, may_lock_target}
 use Rattle.dir_rules.specs.Rules.{allows}
 use Rattle.dir_rules.specs.Conforms.{seen_replied}
 use Rattle.dir_rules.proofs.Looks.{Fresh, Plain, closed_plain, newest_found, newest_locked, alone_newest}
 use Rattle.phase_read.specs.Read.{pod_spot}
-use Rattle.pod_locks.specs.Holding.{on_lock, and_held, with_lock, covers, MayLook, MayTake, MayMove, with_look, Keeps, is_in_garbage}
-use Rattle.pod_locks.proofs.OwnOpenings.{none_fails}
+use Rattle.pod_locks.specs.Holding.{on_pod_lock, and_held, with_pod_lock, covers, MayLook, MayTakeLock, MayMove, with_look, KeepsHoldings, is_in_garbage}
 
 -- lists
 
@@ -79,7 +79,7 @@ module _ (pod : PodId) (a : Area) (h : Handle) (z : Seen) (fresh : Fresh h z.sta
 
   had_standing : standing_done Opening.standing (TryLock h Shared) ≡ Had.standing
   had_standing =
-      ap (λ (o : Option Held). looked_by o (record z.standing { holdings = map (held_in h Shared) (New ∷ z.standing.holdings) })) (newest_found New z.standing.holdings)
+      ap (λ (o : Option Held). looked_by o (record z.standing { holdings = map (held_with_mode h Shared) (New ∷ z.standing.holdings) })) (newest_found New z.standing.holdings)
       ∙ ap (λ (l : List Held). looked_by (Some New) (record z.standing { holdings = l })) (newest_locked New Shared z.standing.holdings fresh)
 
   own_had : seen_replied Opening (TryLock h Shared) Done ≡ Had
@@ -106,7 +106,7 @@ not_opened pod a z error = refl
 
 -- a lock of the pod is taken exclusively
 
-plain_lock : (pod : PodId) (a : Area) (which : Which) (h : Handle) → Plain (on_lock pod a which h None) h
+plain_lock : (pod : PodId) (a : Area) (which : Which) (h : Handle) → Plain (on_pod_lock pod a which h None) h
 plain_lock pod a Own h = record { number = refl; gate = refl; closes = λ b. refl; claim = λ u. refl; removal = λ here. refl }
 plain_lock pod a Claim h = record { number = refl; gate = refl; closes = λ b. refl; claim = λ u. and_false (is_claim_of u (target.Claim (pod_spot pod a))); removal = λ here. refl }
 
@@ -121,12 +121,12 @@ target_stays : (pod : PodId) (a : Area) (which : Which) (x : Held) (s : Seen) �
 target_stays pod a Own x s may = lock_stays x s (pod_text pod.bytes) a may
 target_stays pod a Claim x s may = may
 
-pub lock_unopened : (pod : PodId) (a : Area) (which : Which) (z : Seen) → MayTake pod a which z → (error : DirError) → seen_replied z (Open (pod_spot pod a) which) (Refused error 0) ≡ z
+pub lock_unopened : (pod : PodId) (a : Area) (which : Which) (z : Seen) → MayTakeLock pod a which z → (error : DirError) → seen_replied z (Open (pod_spot pod a) which) (Refused error 0) ≡ z
 lock_unopened pod a which z may error = ap (λ b. let r : Seen = record z { kept = (b && true) && z.kept } in r) may.opens
 
-module _ (pod : PodId) (a : Area) (which : Which) (h : Handle) (z : Seen) (fresh : Fresh h z.standing.holdings) (may : MayTake pod a which z) where
+module _ (pod : PodId) (a : Area) (which : Which) (h : Handle) (z : Seen) (fresh : Fresh h z.standing.holdings) (may : MayTakeLock pod a which z) where
   abbrev Newest : Held
-  Newest = on_lock pod a which h None
+  Newest = on_pod_lock pod a which h None
 
   abbrev Opens : Bool → Bool → Seen
   Opens covered allowed = record z { standing = record z.standing { holdings = record Newest { covered = covered && holds_claim (pod_text pod.bytes) z.standing } ∷ z.standing.holdings }; kept = (allowed && true) && z.kept }
@@ -140,7 +140,7 @@ module _ (pod : PodId) (a : Area) (which : Which) (h : Handle) (z : Seen) (fresh
       ∙ (ap (λ b. (b && may_lock_target (and_held Newest z).standing false (target_of (pod_spot pod a) which) Exclusive) && true) (alone_newest Newest z.standing.holdings may.alone)
       ∙ ap (λ b. b && true) (target_stays pod a which Newest z may.may))
 
-  pub lock_had : seen_replied (and_held Newest z) (TryLock h Exclusive) Done ≡ with_lock pod a which h z
+  pub lock_had : seen_replied (and_held Newest z) (TryLock h Exclusive) Done ≡ with_pod_lock pod a which h z
   lock_had =
       ap (λ b. let r : Seen = record z { standing = standing_done (and_held Newest z).standing (TryLock h Exclusive); kept = b && z.kept } in r) may_try
       ∙ ap (λ (l : List Held). let r : Seen = record z { standing = record z.standing { holdings = l } } in r) (newest_locked Newest Exclusive z.standing.holdings fresh)
@@ -149,9 +149,9 @@ module _ (pod : PodId) (a : Area) (which : Which) (h : Handle) (z : Seen) (fresh
   lock_refused error = ap (λ b. let r : Seen = record (and_held Newest z) { kept = b && z.kept } in r) may_try
 
 -- one that wasn't had is given up
-pub lock_given : (pod : PodId) (a : Area) (which : Which) (h : Handle) (z : Seen) → Fresh h z.standing.holdings → seen_replied (and_held (on_lock pod a which h None) z) (Close h) Done ≡ z
-lock_given pod a Own h z fresh = closed_plain z h (on_lock pod a Own h None) z.standing.looked (plain_lock pod a Own h) fresh
-lock_given pod a Claim h z fresh = closed_plain z h (on_lock pod a Claim h None) z.standing.looked (plain_lock pod a Claim h) fresh
+pub lock_given : (pod : PodId) (a : Area) (which : Which) (h : Handle) (z : Seen) → Fresh h z.standing.holdings → seen_replied (and_held (on_pod_lock pod a which h None) z) (Close h) Done ≡ z
+lock_given pod a Own h z fresh = closed_plain z h (on_pod_lock pod a Own h None) z.standing.looked (plain_lock pod a Own h) fresh
+lock_given pod a Claim h z fresh = closed_plain z h (on_pod_lock pod a Claim h None) z.standing.looked (plain_lock pod a Claim h) fresh
 
 -- the pod is moved
 
@@ -170,12 +170,12 @@ module _ (pod : PodId) (from to : Area) (z : Seen) (may : MayMove pod from to z)
   abbrev Moves : Seen
   Moves = seen_replied z (MoveFolder (pod_spot pod from) (pod_spot pod to)) Done
 
-  pub moved_keeps : Keeps z Moves
+  pub moved_keeps : KeepsHoldings z Moves
   moved_keeps = record {
     intent = refl;
     holdings = uncovers_none (pod_spot pod from) z.standing.holdings may.alone;
     kept = ap (λ b. b && z.kept) may.allowed;
-    bare = none_fails is_in_garbage _ z.items may.bare;
+    bare = none_of_filter is_in_garbage _ z.items may.bare;
   }
 
   pub unmoved : (error : DirError) → seen_replied z (MoveFolder (pod_spot pod from) (pod_spot pod to)) (Refused error 0) ≡ z

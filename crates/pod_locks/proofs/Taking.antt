@@ -1,6 +1,7 @@
 -- Stretches in which a process took nothing away.
 use Rattle.std.proofs.Common.{◌≡◌, ◌⊎◌, inl, inr, ◌||◌, ℕ, Bool, true, false, not, List, [], ◌∷◌, ◌++◌, refl, ap, subst, ◌∙◌, append_assoc}
 use Rattle.std.specs.List.{AllByRecursion}
+use Rattle.plain_laws.proofs.Booleans.{own_kept}
 use Rattle.dir_model.specs.declared.area.Area.{Area}
 use Rattle.dir_model.specs.declared.event.Event.{Event}
 use Rattle.dir_model.specs.declared.pod.PodId.{PodId}
@@ -13,11 +14,11 @@ use Rattle.dir_model.specs.Calls.{CallStep, TookPlace, LeftNothing, Extends, is_
 use Rattle.dir_model.specs.Local.{Local}
 use Rattle.dir_model.proofs.Lists.{all_both, all_weaker, or_map}
 use Rattle.dir_trait.specs.DirCalls.{DirAt, DirCall}
+use Rattle.dir_trait.specs.Effects.{LeavesOpen}
 use Rattle.pod_locks.specs.Requests.{looks_at}
-use Rattle.pod_locks.specs.Holding.{Went}
 use Rattle.pod_locks.specs.Taking.{takes_away, TookNothing}
 
-abbrev Untaken : ℕ → Event → Type 0
+abbrev pub Untaken : ℕ → Event → Type 0
 Untaken me e = (is_foreign me e || not (takes_away e.request e.reply)) ≡ true
 
 pub took_more : {me other : ℕ} {a b c : List Event} → TookNothing me a b → other ≡ me → TookNothing other b c → TookNothing me a c
@@ -33,10 +34,6 @@ others_took : (me : ℕ) (es : List Event) → AllByRecursion (λ e. is_foreign 
 others_took me [] a = tt
 others_took me (e ∷ es) a = (rw a.0 refl, others_took me es a.1)
 
-own_took : (a b : Bool) → b ≡ false → (a || not b) ≡ true
-own_took true b h = refl
-own_took false b h = rw h refl
-
 -- a call that wasn't answered so
 pub took_call : {me : ℕ} {request : Request} {reply : Reply} {a b : List Event} → takes_away request reply ≡ false → CallStep me a request reply b → TookNothing me a b
 took_call {me} {request} {reply} {a} {b} untaken s = from s.own
@@ -45,7 +42,7 @@ took_call {me} {request} {reply} {a} {b} untaken s = from s.own
     from (inl took) = record {
       more = s.meanwhile.others ++ event me request reply ∷ [];
       grown = took.grown ∙ (ap (λ h. h ++ event me request reply ∷ []) s.meanwhile.grown ∙ append_assoc a s.meanwhile.others (event me request reply ∷ []));
-      still = all_both (Untaken me) s.meanwhile.others (event me request reply ∷ []) (others_took me s.meanwhile.others s.meanwhile.foreign) (own_took _ _ untaken, tt);
+      still = all_both (Untaken me) s.meanwhile.others (event me request reply ∷ []) (others_took me s.meanwhile.others s.meanwhile.foreign) (own_kept _ _ untaken, tt);
     }
     from (inr late) = record { more = s.meanwhile.others; grown = late.same ∙ s.meanwhile.grown; still = others_took me s.meanwhile.others s.meanwhile.foreign }
 
@@ -68,5 +65,5 @@ took_looks pod place e = took_by (look_spares pod place) e
 
 -- between a lock's taking and its close
 pub took_closed : {observed : Bool} {l : Local} {a b c d : DirAt} {h : Handle} → observed ≡ true → (pod : PodId) (place : Area)
-    → Went observed (looks_at pod place) l a b → c.process ≡ b.process → DirCall observed c (Close h) Done d → TookNothing b.process b.trace c.trace → TookNothing a.process a.trace d.trace
+    → LeavesOpen observed (looks_at pod place) l a b → c.process ≡ b.process → DirCall observed c (Close h) Done d → TookNothing b.process b.trace c.trace → TookNothing a.process a.trace d.trace
 took_closed t pod place w same z x = took_more (took_more (took_looks pod place (w.extends t)) w.same x) (same ∙ w.same) (took_call refl (z.step t))

@@ -7,13 +7,13 @@ use Rattle.dir_model.specs.declared.request.Reply.{Reply}
 use Rattle.dir_model.specs.declared.spot.Which.{Which}
 use Rattle.dir_model.specs.declared.spot.Which.TheVariants.{Own, Claim}
 use Rattle.dir_model.specs.Calls.{AtOwnStep}
-use Rattle.dir_model.specs.Causes.{Rose}
 use Rattle.dir_model.specs.State.{DirState}
 use Rattle.dir_model.proofs.Moments.{at_within}
+use Rattle.dir_laws.proofs.Rose.{rose_later, rose_still}
 use Rattle.dir_trait.specs.DirCalls.{DirAt, DirCall}
 use Rattle.pod_locks.specs.declared.claim_setback.Setback.{Setback}
 use Rattle.pod_locks.specs.Work.{Deed, Grew, MovedNothing, InOrder, is_ok_move}
-use Rattle.pod_locks.specs.ClaimCauses.{Stopped, OpensOwnAlone, HeldByAnother, HadAlone, HadBothAlone, HadClaim, BusyElsewhere}
+use Rattle.pod_locks.specs.ClaimCauses.{ClaimWasStopped, OpensOwnAlone, PreparedHeldByAnother, HadAlone, HadBothAlone, HadClaimBefore, ClaimBusyElsewhere}
 use Rattle.pod_locks.proofs.Traces.{grown_none, grown_more, grown_call, deeds_after, deeds_before, still_none, still_more, still_call}
 
 -- calls that moved nothing, whatever they leave open
@@ -26,12 +26,6 @@ pub record Follows (observed : Bool) (old new : DirAt) : Type 0 where
 pub nothing_follows : {observed : Bool} {a : DirAt} → Follows observed a a
 nothing_follows {observed} {a} = record { same = refl; faults = omega arith; grown = λ t. grown_none; still = λ t. still_none }
 
-rose_later : (a b c : ℕ) → a ≤ b → Rose b c → Rose a c
-rose_later a b c before rose = omega arith
-
-rose_still : (a b c : ℕ) → Rose a b → b ≤ c → Rose a c
-rose_still a b c rose after = omega arith
-
 -- a moment of a part
 pub at_part : {me other : ℕ} {a b c d : List Event} {P : DirState → Type 0} → Grew a b → other ≡ me → Grew c d → AtOwnStep other b c P → AtOwnStep me a d P
 at_part {me} {other} {a} {b} {c} {d} {P} ab same cd at = at_within ab.more cd.more ab.grown cd.grown (subst (λ (p : ℕ). AtOwnStep p b c P) same at)
@@ -42,9 +36,9 @@ deeds_part {me} {other} {a} {b} {c} {d} {deeds} ab same cd o = deeds_before (dee
 pub alone_part : {pod : PodId} {me other : ℕ} {a b c d : List Event} → Grew a b → other ≡ me → Grew c d → OpensOwnAlone pod other b c → OpensOwnAlone pod me a d
 alone_part ab same cd o = record { between = o.between; closed = at_part ab same grown_none o.closed; there = at_part grown_none same cd o.there }
 
-pub held_part : {pod : PodId} {which : Which} {me other : ℕ} {a b c d : List Event} → Grew a b → other ≡ me → Grew c d → HeldByAnother pod which other b c → HeldByAnother pod which me a d
+pub held_part : {pod : PodId} {which : Which} {me other : ℕ} {a b c d : List Event} → Grew a b → other ≡ me → Grew c d → PreparedHeldByAnother pod which other b c → PreparedHeldByAnother pod which me a d
 held_part {pod} {which} {me} {other} {a} {b} {c} {d} ab same cd h =
-    let g = subst (λ (p : ℕ). HeldByAnother pod which p b c) same h in
+    let g = subst (λ (p : ℕ). PreparedHeldByAnother pod which p b c) same h in
     record { folder = g.folder; between = g.between; found = at_part ab refl grown_none g.found; held = at_part grown_none refl cd g.held }
 
 pub alone_had : {pod : PodId} {which : Which} {me other : ℕ} {a b c d : List Event} → Grew a b → other ≡ me → Grew c d → HadAlone pod which other b c → HadAlone pod which me a d
@@ -55,18 +49,18 @@ alone_had {pod} {which} {me} {other} {a} {b} {c} {d} ab same cd h =
 pub both_had : {pod : PodId} {me other : ℕ} {a b c d : List Event} → Grew a b → other ≡ me → Grew c d → HadBothAlone pod other b c → HadBothAlone pod me a d
 both_had ab same cd h = record { claim = alone_had ab same cd h.claim; own = alone_had ab same cd h.own }
 
-pub had_part : (pod : PodId) (which : Which) {me other : ℕ} {a b c d : List Event} → Grew a b → other ≡ me → Grew c d → HadClaim pod which other b c → HadClaim pod which me a d
+pub had_part : (pod : PodId) (which : Which) {me other : ℕ} {a b c d : List Event} → Grew a b → other ≡ me → Grew c d → HadClaimBefore pod which other b c → HadClaimBefore pod which me a d
 had_part pod Own ab same cd had = alone_had ab same cd had
 had_part pod Claim ab same cd had = tt
 
-pub in_turn_part : (pod : PodId) (which : Which) {me other : ℕ} {a b c d : List Event} → Grew a b → other ≡ me → Grew c d → HeldByAnother pod which other b c × HadClaim pod which other b c → HeldByAnother pod which me a d × HadClaim pod which me a d
+pub in_turn_part : (pod : PodId) (which : Which) {me other : ℕ} {a b c d : List Event} → Grew a b → other ≡ me → Grew c d → PreparedHeldByAnother pod which other b c × HadClaimBefore pod which other b c → PreparedHeldByAnother pod which me a d × HadClaimBefore pod which me a d
 in_turn_part pod which ab same cd x = (held_part ab same cd x.0, had_part pod which ab same cd x.1)
 
-pub busy_part : {observed : Bool} {pod : PodId} {stop : Setback} {a b c d : DirAt} → observed ≡ true → Follows observed a b → c.process ≡ b.process → Follows observed c d → BusyElsewhere pod stop b c → BusyElsewhere pod stop a d
+pub busy_part : {observed : Bool} {pod : PodId} {stop : Setback} {a b c d : DirAt} → observed ≡ true → Follows observed a b → c.process ≡ b.process → Follows observed c d → ClaimBusyElsewhere pod stop b c → ClaimBusyElsewhere pod stop a d
 busy_part t ab bc cd busy which is = held_part (ab.grown t) ab.same (cd.grown t) (busy which is)
 
 -- what stops a part stops the whole
-pub stops_part : {observed : Bool} {pod : PodId} {Missed : DirState → Type 0} {stop : Setback} {a b c d : DirAt} → Follows observed a b → c.process ≡ b.process → Follows observed c d → Stopped observed pod Missed stop b c → Stopped observed pod Missed stop a d
+pub stops_part : {observed : Bool} {pod : PodId} {Missed : DirState → Type 0} {stop : Setback} {a b c d : DirAt} → Follows observed a b → c.process ≡ b.process → Follows observed c d → ClaimWasStopped observed pod Missed stop b c → ClaimWasStopped observed pod Missed stop a d
 stops_part {observed} {pod} {Missed} {stop} {a} {b} {c} {d} ab bc cd s = record {
   still = λ t. still_more (still_more (ab.still t) ab.same (s.still t)) (bc ∙ ab.same) (cd.still t);
   fault = λ is. rose_still a.faults c.faults d.faults (rose_later a.faults b.faults c.faults ab.faults (s.fault is)) cd.faults;

@@ -1,6 +1,7 @@
 -- Deeds of a process in their order, and stretches in which it moved nothing.
 use Rattle.std.proofs.Common.{◌≡◌, ◌⊎◌, inl, inr, ℕ, Bool, true, false, not, ◌||◌, List, [], ◌∷◌, ◌++◌, refl, sym, ap, subst, ◌∙◌, append_assoc, append-nil}
 use Rattle.std.specs.List.{AllByRecursion}
+use Rattle.plain_laws.proofs.Booleans.{own_kept}
 use Rattle.dir_model.specs.declared.event.Event.{Event}
 use Rattle.dir_model.specs.declared.request.Request.{Request}
 use Rattle.dir_model.specs.declared.request.Request.TheVariants.{Open, TryLock, Close}
@@ -71,10 +72,6 @@ foreign_still : (me : ℕ) (es : List Event) → AllByRecursion (λ e. is_foreig
 foreign_still me [] a = tt
 foreign_still me (e ∷ es) a = (rw a.0 refl, foreign_still me es a.1)
 
-own_still : (a b : Bool) → b ≡ false → (a || not b) ≡ true
-own_still true b h = refl
-own_still false b h = rw h refl
-
 pub still_call : {me : ℕ} {request : Request} {reply : Reply} {a b : List Event} → is_ok_move request reply ≡ false → CallStep me a request reply b → MovedNothing me a b
 still_call {me} {request} {reply} {a} {b} unmoved s = from s.own
   where
@@ -82,7 +79,7 @@ still_call {me} {request} {reply} {a} {b} unmoved s = from s.own
     from (inl took) = record {
       more = s.meanwhile.others ++ event me request reply ∷ [];
       grown = took.grown ∙ (ap (λ h. h ++ event me request reply ∷ []) s.meanwhile.grown ∙ append_assoc a s.meanwhile.others (event me request reply ∷ []));
-      still = all_both (Still me) s.meanwhile.others (event me request reply ∷ []) (foreign_still me s.meanwhile.others s.meanwhile.foreign) (own_still _ _ unmoved, tt);
+      still = all_both (Still me) s.meanwhile.others (event me request reply ∷ []) (foreign_still me s.meanwhile.others s.meanwhile.foreign) (own_kept _ _ unmoved, tt);
     }
     from (inr late) = record { more = s.meanwhile.others; grown = late.same ∙ s.meanwhile.grown; still = foreign_still me s.meanwhile.others s.meanwhile.foreign }
 

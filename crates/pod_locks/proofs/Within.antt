@@ -10,12 +10,12 @@ use Rattle.dir_model.specs.Between.{LockTold}
 use Rattle.pod_locks.specs.Work.{Grew}
 use Rattle.pod_locks.proofs.Times.{at_part}
 use Rattle.pod_locks.proofs.Traces.{grown_none}
-use Rattle.pod_locks.specs.Causes.{HeldByAnother, FreeOfOthers}
+use Rattle.pod_locks.specs.Causes.{PodHeldByAnother, FreeOfOthers}
 
 module _ {me other : ℕ} {a b c d : List Event} (ab : Grew a b) (same : other ≡ me) (cd : Grew c d) where
-  pub held_within : {pod : PodId} {area : Area} {which : Which} {mode : Mode} → HeldByAnother pod area which mode other b c → HeldByAnother pod area which mode me a d
+  pub held_within : {pod : PodId} {area : Area} {which : Which} {mode : Mode} → PodHeldByAnother pod area which mode other b c → PodHeldByAnother pod area which mode me a d
   held_within {pod} {area} {which} {mode} h =
-      let g = subst (λ (p : ℕ). HeldByAnother pod area which mode p b c) same h in
+      let g = subst (λ (p : ℕ). PodHeldByAnother pod area which mode p b c) same h in
       record { folder = g.folder; between = g.between; found = at_part ab refl grown_none g.found; held = at_part grown_none refl cd g.held }
 
   pub free_within : {pod : PodId} {area : Area} {which : Which} {mode : Mode} → FreeOfOthers pod area which mode other b c → FreeOfOthers pod area which mode me a d

@@ -18,14 +18,14 @@ use Rattle.dir_model.specs.Locks.{is_folder, opposes}
 use Rattle.dir_model.specs.Replies.{refused_in, open_refusal}
 use Rattle.dir_model.specs.State.{DirState, folder_at, stands}
 use Rattle.dir_trait.specs.DirCalls.{DirAt, HeldBetween}
+use Rattle.dir_trait.specs.Effects.{Given}
 use Rattle.dir_rules.specs.declared.seen.Seen.{Seen}
-use Rattle.folder_removal.specs.Removal.{is_stray, WasCalledFor}
+use Rattle.folder_removal.specs.Removal.{is_stray_deletion, WasCalledFor}
 use Rattle.impossible_replies.specs.Replies.{AppWroteOn}
 use Rattle.lifecycle.specs.Executions.{IsConforming}
 use Rattle.phase_read.specs.Read.{pod_spot}
 use Rattle.pod_locks.specs.ClaimCauses.{is_lock}
 use Rattle.pod_locks.specs.Work.{InOrder}
-use Rattle.pod_locks.specs.Holding.{Stays}
 use Rattle.pod_locks.specs.declared.setback.Setback.{Setback}
 use Rattle.pod_locks.specs.declared.setback.Setback.TheVariants.{Missing, NoManifest, Busy, DirFault, Stray}
 
@@ -46,25 +46,25 @@ abbrev pub Did : Request → Reply → ℕ → List Event → List Event → Typ
 Did request reply me old new = InOrder me old new (record { request = request; reply = reply } ∷ [])
 
 -- an answer that what the locks keep doesn't explain
-abbrev pub is_stray_answer : Request → Reply → Bool
-is_stray_answer (MoveFolder from to) (Refused dir.Exists left) = true
-is_stray_answer request reply = is_stray request reply
+abbrev pub is_stray_step : Request → Reply → Bool
+is_stray_step (MoveFolder from to) (Refused dir.Exists left) = true
+is_stray_step request reply = is_stray_deletion request reply
 
 -- and where it was a listing of what was missing: of the folder itself, which had stood there, or of a directory that a
 -- listing had shown
-pub record WasStray (me : ℕ) (old new : List Event) : Type 0 where
+pub record WasStrayStep (me : ℕ) (old new : List Event) : Type 0 where
   pub request : Request
   pub reply : Reply
-  pub stray : is_stray_answer request reply ≡ true
+  pub stray : is_stray_step request reply ≡ true
   pub called : WasCalledFor request reply me old new
   pub did : Did request reply me old new
 
 -- why a step wasn't done
-pub record Stopped (observed : Bool) (pod : PodId) (Missed : DirState → Type 0) (stop : Setback) (old new : DirAt) : Type 0 where
+pub record StepWasStopped (observed : Bool) (pod : PodId) (Missed : DirState → Type 0) (stop : Setback) (old new : DirAt) : Type 0 where
   pub fault : stop ≡ DirFault → Rose old.faults new.faults
   pub missing : stop ≡ Missing → observed ≡ true → HeldBetween old new Missed
   pub manifest : stop ≡ NoManifest → ⊥
-  pub stray : stop ≡ Stray → observed ≡ true → WasStray old.process old.trace new.trace
+  pub stray : stop ≡ Stray → observed ≡ true → WasStrayStep old.process old.trace new.trace
 
 -- some process doesn't keep the local rules
 abbrev pub BreaksRules : Bool → DirAt → Type 0
@@ -72,7 +72,7 @@ BreaksRules observed new = observed ≡ true → IsConforming new.trace → ⊥
 
 -- or, for a process that knew this, a started app wrote on
 abbrev pub ByApp : Bool → (Seen → Type 0) → DirAt → DirAt → Type 0
-ByApp observed May old new = observed ≡ true → Stays May old (λ s. IsConforming new.trace → AppWroteOn old.process old.trace new.trace)
+ByApp observed May old new = observed ≡ true → Given May old (λ s. IsConforming new.trace → AppWroteOn old.process old.trace new.trace)
 
 -- it is stray only where some process doesn't keep them
 abbrev pub NeverStray : Bool → Setback → DirAt → Type 0
@@ -87,7 +87,7 @@ abbrev pub is_held_against : ℕ → Which → Mode → ℕ → Opening → Bool
 is_held_against me which mode folder o = not (o.process == me) && (is_folder folder o.folder && (is_lock which o.target && opposes mode o.lock))
 
 -- the lock was opened at this place, and later another process held it so
-pub record HeldByAnother (pod : PodId) (area : Area) (which : Which) (mode : Mode) (me : ℕ) (old new : List Event) : Type 0 where
+pub record PodHeldByAnother (pod : PodId) (area : Area) (which : Which) (mode : Mode) (me : ℕ) (old new : List Event) : Type 0 where
   pub folder : ℕ
   pub between : List Event
   pub found : AtOwnStep me old between (OpensAt pod area which folder)
@@ -101,9 +101,9 @@ pub record FreeOfOthers (pod : PodId) (area : Area) (which : Which) (mode : Mode
   pub free : AtOwnStep me between new (λ s. list_any (is_held_against me which mode folder) s.namespace.openings ≡ false)
 
 -- that, where the trace is observed
-abbrev pub FreeWhere : Bool → PodId → Area → Which → Mode → DirAt → DirAt → Type 0
-FreeWhere observed pod area which mode old new = observed ≡ true → FreeOfOthers pod area which mode old.process old.trace new.trace
+abbrev pub FreeIfObserved : Bool → PodId → Area → Which → Mode → DirAt → DirAt → Type 0
+FreeIfObserved observed pod area which mode old new = observed ≡ true → FreeOfOthers pod area which mode old.process old.trace new.trace
 
 -- where the lock was refused, another process held it
-abbrev pub BusyElsewhere : PodId → Area → Mode → Setback → DirAt → DirAt → Type 0
-BusyElsewhere pod area mode stop old new = (which : Which) → stop ≡ Busy which → HeldByAnother pod area which mode old.process old.trace new.trace
+abbrev pub LockBusyElsewhere : PodId → Area → Mode → Setback → DirAt → DirAt → Type 0
+LockBusyElsewhere pod area mode stop old new = (which : Which) → stop ≡ Busy which → PodHeldByAnother pod area which mode old.process old.trace new.trace

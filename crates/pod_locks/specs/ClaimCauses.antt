@@ -24,7 +24,7 @@ use Rattle.dir_model.specs.Trees.{has_file}
 use Rattle.dir_trait.specs.DirCalls.{DirAt, HeldBetween}
 use Rattle.lifecycle.specs.Executions.{IsConforming}
 use Rattle.phase_read.specs.declared.found.Found.TheVariants.{At}
-use Rattle.phase_read.specs.Read.{IsReading}
+use Rattle.phase_read.specs.Read.{IsPhaseReading}
 use Rattle.phase_read.specs.Exact.{AtOwnEvent, IsInPhase, IsNowhere}
 use Rattle.pod_locks.specs.declared.claim_error.ClaimError.{ClaimError}
 use Rattle.pod_locks.specs.declared.claim_error.ClaimError.TheVariants.{NoPod, WrongPhase, NoManifest, Busy, DirFault, Stray, NoMemory}
@@ -38,15 +38,15 @@ is_prepared phase.Prepared = true
 is_prepared _ = false
 
 -- no folder of the pod stands in prepared
-abbrev pub IsAbsent : PodId → DirState → Type 0
-IsAbsent pod s = stands s.namespace (in_prepared pod) ≡ false
+abbrev pub IsNotInPrepared : PodId → DirState → Type 0
+IsNotInPrepared pod s = stands s.namespace (in_prepared pod) ≡ false
 
 -- the lock can't be opened in prepared: no folder stands there, or for Claim one without its file
 abbrev pub CannotOpen : PodId → Which → DirState → Type 0
 CannotOpen pod which s = refused_in (open_refusal which) s.entries (folder_at s.namespace (in_prepared pod)) ≡ Some Missing
 
 -- the pod's folder stands in prepared, without its manifest
-pub record LacksManifest (pod : PodId) (s : DirState) : Type 0 where
+pub record IsPreparedWithoutManifest (pod : PodId) (s : DirState) : Type 0 where
   pub folder : ℕ
   pub there : folder_at s.namespace (in_prepared pod) ≡ Some folder
   pub without : has_file s.entries folder (codes "pod") ≡ false
@@ -72,36 +72,36 @@ abbrev pub OpensThere : PodId → Which → ℕ → DirState → Type 0
 OpensThere pod which folder s = (folder_at s.namespace (in_prepared pod) ≡ Some folder) × (refused_in (open_refusal which) s.entries (Some folder) ≡ None)
 
 -- the lock was opened in prepared, and later another process held it
-pub record HeldByAnother (pod : PodId) (which : Which) (me : ℕ) (old new : List Event) : Type 0 where
+pub record PreparedHeldByAnother (pod : PodId) (which : Which) (me : ℕ) (old new : List Event) : Type 0 where
   pub folder : ℕ
   pub between : List Event
   pub found : AtOwnStep me old between (OpensThere pod which folder)
   pub held : AtOwnStep me between new (λ s. list_any (is_held_elsewhere me which folder) s.namespace.openings ≡ true)
 
 -- a read found the pod in prepared, and later its folder was missing there
-pub record FoundThenMissed (pod : PodId) (me : ℕ) (old new : List Event) : Type 0 where
+pub record FoundThenMissedPrepared (pod : PodId) (me : ℕ) (old new : List Event) : Type 0 where
   pub between : List Event
-  pub read : IsReading me old between pod (At phase.Prepared area.Prepared)
-  pub missed : AtOwnStep me between new (IsAbsent pod)
+  pub read : IsPhaseReading me old between pod (At phase.Prepared area.Prepared)
+  pub missed : AtOwnStep me between new (IsNotInPrepared pod)
 
 -- and that twice
 pub record MissedTwice (pod : PodId) (me : ℕ) (old new : List Event) : Type 0 where
   pub between : List Event
-  pub first : FoundThenMissed pod me old between
-  pub second : FoundThenMissed pod me between new
+  pub first : FoundThenMissedPrepared pod me old between
+  pub second : FoundThenMissedPrepared pod me between new
 
 -- the move to run was refused, as a folder of that name stands there
 abbrev pub WasBarred : PodId → ℕ → List Event → List Event → Type 0
 WasBarred pod me old new = InOrder me old new (record { request = MoveFolder (in_prepared pod) (in_run pod); reply = Refused Exists 0 } ∷ [])
 
 -- the pod had this phase, which isn't that of one that waits to be run
-pub record WasWrong (pod : PodId) (phase : Phase) (me : ℕ) (old new : List Event) : Type 0 where
+pub record WasWrongToClaim (pod : PodId) (phase : Phase) (me : ℕ) (old new : List Event) : Type 0 where
   pub wrong : is_prepared phase ≡ false
   pub area : Area
   pub was : AtOwnEvent me old new (IsInPhase pod phase area)
 
 -- what stops the taking of locks in prepared, and the move
-pub record Stopped (observed : Bool) (pod : PodId) (Missed : DirState → Type 0) (stop : Setback) (old new : DirAt) : Type 0 where
+pub record ClaimWasStopped (observed : Bool) (pod : PodId) (Missed : DirState → Type 0) (stop : Setback) (old new : DirAt) : Type 0 where
   pub still : observed ≡ true → MovedNothing old.process old.trace new.trace
   pub fault : stop ≡ setback.Refused DirFault → Rose old.faults new.faults
   pub missing : stop ≡ setback.Missing → observed ≡ true → HeldBetween old new Missed
@@ -116,16 +116,16 @@ abbrev pub IsLookRefusal : ClaimError → Type 0
 IsLookRefusal error = (error ≡ NoManifest) ⊎ ((error ≡ DirFault) ⊎ (error ≡ NoMemory))
 
 -- the folder stands there, or it doesn't: where Claim couldn't be opened
-pub record StopsAlone (observed : Bool) (pod : PodId) (stop : Setback) (old new : DirAt) : Type 0 where
+pub record ClaimStopsAlone (observed : Bool) (pod : PodId) (stop : Setback) (old new : DirAt) : Type 0 where
   pub still : observed ≡ true → MovedNothing old.process old.trace new.trace
   pub fault : stop ≡ setback.Refused DirFault → Rose old.faults new.faults
-  pub missing : stop ≡ setback.Missing → observed ≡ true → HeldBetween old new (IsAbsent pod)
+  pub missing : stop ≡ setback.Missing → observed ≡ true → HeldBetween old new (IsNotInPrepared pod)
   pub there : stop ≡ setback.Refused NoManifest → observed ≡ true → HeldBetween old new (λ s. stands s.namespace (in_prepared pod) ≡ true)
   pub calm : (error : ClaimError) → stop ≡ setback.Refused error → IsLookRefusal error
 
 -- where the lock was refused, another process held it
-abbrev pub BusyElsewhere : PodId → Setback → DirAt → DirAt → Type 0
-BusyElsewhere pod stop old new = (which : Which) → stop ≡ setback.Refused (Busy pod which) → HeldByAnother pod which old.process old.trace new.trace
+abbrev pub ClaimBusyElsewhere : PodId → Setback → DirAt → DirAt → Type 0
+ClaimBusyElsewhere pod stop old new = (which : Which) → stop ≡ setback.Refused (Busy pod which) → PreparedHeldByAnother pod which old.process old.trace new.trace
 
 -- the lock was opened in prepared and later had, and no other process held it then
 pub record HadAlone (pod : PodId) (which : Which) (me : ℕ) (old new : List Event) : Type 0 where
@@ -140,25 +140,25 @@ pub record HadBothAlone (pod : PodId) (me : ℕ) (old new : List Event) : Type 0
   pub own : HadAlone pod Own me old new
 
 -- before Own is asked for Claim is had
-abbrev pub HadClaim : PodId → Which → ℕ → List Event → List Event → Type 0
-HadClaim pod Own me old new = HadAlone pod Claim me old new
-HadClaim pod Claim me old new = Unit {0}
+abbrev pub HadClaimBefore : PodId → Which → ℕ → List Event → List Event → Type 0
+HadClaimBefore pod Own me old new = HadAlone pod Claim me old new
+HadClaimBefore pod Claim me old new = Unit {0}
 
 -- where a lock was refused, another process held it, and the locks were asked for in their order
 abbrev pub BusyInTurn : PodId → Setback → DirAt → DirAt → Type 0
-BusyInTurn pod stop old new = (which : Which) → stop ≡ setback.Refused (Busy pod which) → HeldByAnother pod which old.process old.trace new.trace × HadClaim pod which old.process old.trace new.trace
+BusyInTurn pod stop old new = (which : Which) → stop ≡ setback.Refused (Busy pod which) → PreparedHeldByAnother pod which old.process old.trace new.trace × HadClaimBefore pod which old.process old.trace new.trace
 
 -- a pod isn't claimed for one of these causes
 pub record ClaimCause (observed : Bool) (pod : PodId) (error : ClaimError) (old new : DirAt) : Type 0 where
   pub fault : error ≡ DirFault → Rose old.faults new.faults
   pub nowhere : error ≡ NoPod → observed ≡ true → IsConforming new.trace → AtOwnEvent old.process old.trace new.trace (IsNowhere pod)
-  pub phase : (phase : Phase) → error ≡ WrongPhase phase → observed ≡ true → IsConforming new.trace → WasWrong pod phase old.process old.trace new.trace
-  pub manifest : error ≡ NoManifest → observed ≡ true → IsConforming new.trace → HeldBetween old new (LacksManifest pod)
+  pub phase : (phase : Phase) → error ≡ WrongPhase phase → observed ≡ true → IsConforming new.trace → WasWrongToClaim pod phase old.process old.trace new.trace
+  pub manifest : error ≡ NoManifest → observed ≡ true → IsConforming new.trace → HeldBetween old new (IsPreparedWithoutManifest pod)
   pub named : (other : PodId) (which : Which) → error ≡ Busy other which → other ≡ pod
   pub stray : error ≡ Stray → observed ≡ true → WasBarred pod old.process old.trace new.trace ⊎ MissedTwice pod old.process old.trace new.trace
 
 -- what sets one attempt back
 pub record SetBack (observed : Bool) (pod : PodId) (stop : Setback) (old new : DirAt) : Type 0 where
   pub still : observed ≡ true → MovedNothing old.process old.trace new.trace
-  pub missing : stop ≡ setback.Missing → observed ≡ true → FoundThenMissed pod old.process old.trace new.trace
+  pub missing : stop ≡ setback.Missing → observed ≡ true → FoundThenMissedPrepared pod old.process old.trace new.trace
   pub cause : (error : ClaimError) → stop ≡ setback.Refused error → ClaimCause observed pod error old new

@@ -11,16 +11,16 @@ use Rattle.pod_locks.specs.declared.claim_setback.Setback.{Setback}
 use Rattle.pod_locks.specs.declared.claim_setback.Setback.TheVariants.{Missing, Refused}
 
 -- a location that is missing sends the claim back to the read
-abbrev pub set_back : DirError → Setback
-set_back dir.Missing = Missing
-set_back dir.Failed = Refused DirFault
-set_back dir.NoMemory = Refused NoMemory
-set_back _ = Refused Stray
+abbrev pub claim_setback_of : DirError → Setback
+claim_setback_of dir.Missing = Missing
+claim_setback_of dir.Failed = Refused DirFault
+claim_setback_of dir.NoMemory = Refused NoMemory
+claim_setback_of _ = Refused Stray
 
 -- the lock was asked for
-abbrev pub lock_setback : PodId → Which → DirError → Setback
-lock_setback pod which dir.Locked = Refused (Busy pod which)
-lock_setback pod which error = set_back error
+abbrev pub claim_lock_setback : PodId → Which → DirError → Setback
+claim_lock_setback pod which dir.Locked = Refused (Busy pod which)
+claim_lock_setback pod which error = claim_setback_of error
 
 -- a look at a pod gives DirFault or NoMemory
 abbrev pub look_refusal : LookError → ClaimError

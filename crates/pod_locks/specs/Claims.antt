@@ -22,12 +22,12 @@ use Rattle.pod_locks.specs.declared.owned.Owned.{Owned}
 use Rattle.pod_locks.specs.declared.claim_error.ClaimError.{ClaimError}
 use Rattle.pod_locks.specs.declared.claim_error.ClaimError.TheVariants.{Busy, DirFault, NoMemory}
 use Rattle.pod_locks.specs.ClaimRequests.{in_prepared}
-use Rattle.pod_locks.specs.ClaimHolding.{and_lock, with_pod}
-use Rattle.pod_locks.specs.ClaimCauses.{is_held_elsewhere, HeldByAnother, HadClaim}
+use Rattle.pod_locks.specs.ClaimHolding.{and_prepared_lock, with_pod}
+use Rattle.pod_locks.specs.ClaimCauses.{is_held_elsewhere, PreparedHeldByAnother, HadClaimBefore}
 
 -- what is open after a claim
 abbrev pub and_owned : Local → PodId → Result Owned ClaimError → Local
-and_owned m pod (Ok owned) = and_lock m pod Own owned.own
+and_owned m pod (Ok owned) = and_prepared_lock m pod Own owned.own
 and_owned m pod (Err error) = m
 
 -- it looked for the pod, moved it to run, and holds its Own: that is all that it knows beside what it knew
@@ -37,8 +37,8 @@ pub record HasPod (pod : PodId) (own : Handle) (s : Seen) (new : DirAt) : Type 0
   pub knows : Knows new (with_pod pod own known)
 
 -- where a lock was refused, another process held it, and the locks were asked for in their order
-abbrev pub RefusedByAnother : PodId → ClaimError → DirAt → DirAt → Type 0
-RefusedByAnother pod error old new = (which : Which) → error ≡ Busy pod which → HeldByAnother pod which old.process old.trace new.trace × HadClaim pod which old.process old.trace new.trace
+abbrev pub ClaimRefusedByAnother : PodId → ClaimError → DirAt → DirAt → Type 0
+ClaimRefusedByAnother pod error old new = (which : Which) → error ≡ Busy pod which → PreparedHeldByAnother pod which old.process old.trace new.trace × HadClaimBefore pod which old.process old.trace new.trace
 
 -- the pod waits to be run with its manifest, and no other process holds a lock of it
 pub record IsFree (pod : PodId) (me : ℕ) (trace : List Event) : Type 0 where
@@ -53,5 +53,5 @@ IsFreeThroughout pod old new = (before later rest : List Event) (step : Event) �
     → is_foreign old.process step ≡ false → IsFree pod old.process (before ++ step ∷ [])
 
 -- the directory failed, or memory ran out
-abbrev pub IsFailure : ClaimError → Type 0
-IsFailure error = (error ≡ DirFault) ⊎ (error ≡ NoMemory)
+abbrev pub IsClaimFailure : ClaimError → Type 0
+IsClaimFailure error = (error ≡ DirFault) ⊎ (error ≡ NoMemory)

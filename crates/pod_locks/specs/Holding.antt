@@ -26,32 +26,25 @@ use Rattle.dir_trait.specs.Knowledge.{Knows}
 use Rattle.phase_read.specs.Read.{pod_spot}
 use Rattle.pod_locks.specs.ClaimCauses.{is_lock}
 
--- calls were made, each for something of this kind, and this is open after them
-pub record Went (observed : Bool) (asks : Request → Bool) (local : Local) (old new : DirAt) : Type 0 where
-  pub same : new.process ≡ old.process
-  pub faults : old.faults ≤ new.faults
-  pub local_is : new.local ≡ local
-  pub extends : observed ≡ true → ExtendsBy asks old new
-
 -- what is open, and a lock of the pod that was taken at this place
-abbrev pub and_lock : Local → PodId → Area → Which → Handle → Local
-and_lock m pod area which handle = record m { holdings = m.holdings ++ record { handle = handle; target = target_of (pod_spot pod area) which; lock = Some Exclusive } ∷ [] }
+abbrev pub and_pod_lock : Local → PodId → Area → Which → Handle → Local
+and_pod_lock m pod area which handle = record m { holdings = m.holdings ++ record { handle = handle; target = target_of (pod_spot pod area) which; lock = Some Exclusive } ∷ [] }
 
 abbrev pub and_taken : {E : Type 0} → Local → PodId → Area → Which → Result Handle E → Local
-and_taken m pod area which (Ok handle) = and_lock m pod area which handle
+and_taken m pod area which (Ok handle) = and_pod_lock m pod area which handle
 and_taken m pod area which (Err error) = m
 
 -- a handle on a lock of the pod that is opened at this place
-abbrev pub on_lock : PodId → Area → Which → Handle → Option Mode → Held
-on_lock pod area which handle lock = record { handle = handle; target = target_of (pod_spot pod area) which; lock = lock; covered = false }
+abbrev pub on_pod_lock : PodId → Area → Which → Handle → Option Mode → Held
+on_pod_lock pod area which handle lock = record { handle = handle; target = target_of (pod_spot pod area) which; lock = lock; covered = false }
 
 -- what a process knows, and this newest handle
 abbrev pub and_held : Held → Seen → Seen
 and_held h s = record s { standing = record s.standing { holdings = h ∷ s.standing.holdings } }
 
 -- it knows that it holds the lock
-abbrev pub with_lock : PodId → Area → Which → Handle → Seen → Seen
-with_lock pod area which handle s = and_held (on_lock pod area which handle (Some Exclusive)) s
+abbrev pub with_pod_lock : PodId → Area → Which → Handle → Seen → Seen
+with_pod_lock pod area which handle s = and_held (on_pod_lock pod area which handle (Some Exclusive)) s
 
 -- nothing is known to stand in a folder in a garbage place
 abbrev pub is_in_garbage : ShownItem → Bool
@@ -65,13 +58,13 @@ abbrev pub covers : PodId → Area → Seen → Bool
 covers pod area s = is_in Prepared area && holds_claim (pod_text pod.bytes) s.standing
 
 -- it has no handle on a lock of that kind
-abbrev pub HasNone : Which → Seen → Type 0
-HasNone which s = list_any (λ h. is_lock which h.target) s.standing.holdings ≡ false
+abbrev pub HasNoHandle : Which → Seen → Type 0
+HasNoHandle which s = list_any (λ h. is_lock which h.target) s.standing.holdings ≡ false
 
 -- it may ask for Own shared at this place: it has no handle on such a lock, and in prepared it holds Claim
 pub record MayLook (pod : PodId) (area : Area) (s : Seen) : Type 0 where
   pub alone : is_open_on (target.Own (pod_spot pod area)) s.standing.holdings ≡ false
-  pub single : HasNone Own s
+  pub single : HasNoHandle Own s
   pub may : may_lock_own s.standing (covers pod area s) (pod_text pod.bytes) area Shared ≡ true
 
 -- it knows that it had Own shared there, and in prepared under Claim
@@ -79,7 +72,7 @@ abbrev pub with_look : PodId → Area → Seen → Seen
 with_look pod area s = record s {
   standing = record s.standing {
     looked = own_spot (target.Own (pod_spot pod area)) ++ s.standing.looked;
-    cleared = cond (covers pod area s) (prepared_name (target.Own (pod_spot pod area))) [] ++ s.standing.cleared;
+    seen_unowned_under_claim = cond (covers pod area s) (prepared_name (target.Own (pod_spot pod area))) [] ++ s.standing.seen_unowned_under_claim;
   };
 }
 
@@ -87,9 +80,9 @@ abbrev pub LooksFree : PodId → Area → Seen → DirAt → Type 0
 LooksFree pod area s new = Knows new (with_look pod area s)
 
 -- it may take a lock of the pod at this place: Claim in prepared, or Own in a garbage place
-pub record MayTake (pod : PodId) (area : Area) (which : Which) (s : Seen) : Type 0 where
+pub record MayTakeLock (pod : PodId) (area : Area) (which : Which) (s : Seen) : Type 0 where
   pub alone : is_open_on (target_of (pod_spot pod area) which) s.standing.holdings ≡ false
-  pub single : HasNone which s
+  pub single : HasNoHandle which s
   pub opens : may_open (pod_spot pod area) which ≡ true
   pub bare : is_own_in_prepared (pod_spot pod area) which ≡ false
   pub may : may_lock_target s.standing false (target_of (pod_spot pod area) which) Exclusive ≡ true
@@ -102,7 +95,7 @@ pub record MayMove (pod : PodId) (from to : Area) (s : Seen) : Type 0 where
 
 -- it has what it had open, knows of nothing that stands in a garbage place, and each of its requests was allowed, if those
 -- before were
-pub record Keeps (s known : Seen) : Type 0 where
+pub record KeepsHoldings (s known : Seen) : Type 0 where
   pub intent : known.standing.intent ≡ s.standing.intent
   pub holdings : known.standing.holdings ≡ s.standing.holdings
   pub kept : known.kept ≡ s.kept
@@ -110,9 +103,5 @@ pub record Keeps (s known : Seen) : Type 0 where
 
 pub record KeepsReady (s : Seen) (new : DirAt) : Type 0 where
   pub known : Seen
-  pub keeps : Keeps s known
+  pub keeps : KeepsHoldings s known
   pub knows : Knows new known
-
--- wherever a process knew this of itself before, this holds of it after
-abbrev pub Stays : (Seen → Type 0) → DirAt → (Seen → Type 0) → Type 0
-Stays May old After = (s : Seen) → Knows old s → May s → After s

@@ -20,6 +20,6 @@ abbrev pub peeks_at : PodId → Area → Request → Bool
 peeks_at pod area request = is_look_at (spot_eq (pod_spot pod area)) request
 
 -- it is moved from here to there
-abbrev pub moves : PodId → Area → Area → Request → Bool
-moves pod from to (MoveFolder here there) = spot_eq (pod_spot pod from) here && spot_eq (pod_spot pod to) there
-moves pod from to _ = false
+abbrev pub moves_pod : PodId → Area → Area → Request → Bool
+moves_pod pod from to (MoveFolder here there) = spot_eq (pod_spot pod from) here && spot_eq (pod_spot pod to) there
+moves_pod pod from to _ = false

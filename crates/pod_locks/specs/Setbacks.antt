@@ -10,16 +10,16 @@ use Rattle.pod_locks.specs.declared.setback.Setback.{Setback}
 use Rattle.pod_locks.specs.declared.setback.Setback.TheVariants.{Missing, Busy, DirFault, Stray, NoMemory}
 
 -- a lock was opened, the pod moved or marked
-abbrev pub set_back : DirError → Setback
-set_back dir.Missing = Missing
-set_back dir.Failed = DirFault
-set_back dir.NoMemory = NoMemory
-set_back _ = Stray
+abbrev pub step_setback_of : DirError → Setback
+step_setback_of dir.Missing = Missing
+step_setback_of dir.Failed = DirFault
+step_setback_of dir.NoMemory = NoMemory
+step_setback_of _ = Stray
 
 -- the lock was asked for
-abbrev pub lock_setback : Which → DirError → Setback
-lock_setback which dir.Locked = Busy which
-lock_setback which error = set_back error
+abbrev pub step_lock_setback : Which → DirError → Setback
+step_lock_setback which dir.Locked = Busy which
+step_lock_setback which error = step_setback_of error
 
 -- a look at a pod gives DirFault or NoMemory
 abbrev pub look_setback : LookError → Setback

@@ -19,7 +19,7 @@ use Rattle.dir_trait.specs.Knowledge.{Knows}
 use Rattle.pod_locks.specs.ClaimRequests.{in_prepared, in_run, claims}
 
 -- at most so many calls were made, each of a claim, and this is open after them
-pub record Went (observed : Bool) (calls : ℕ) (pod : PodId) (local : Local) (old new : DirAt) : Type 0 where
+pub record WentClaiming (observed : Bool) (calls : ℕ) (pod : PodId) (local : Local) (old new : DirAt) : Type 0 where
   pub counted : new.calls ≤ old.calls + calls
   pub same : new.process ≡ old.process
   pub faults : old.faults ≤ new.faults
@@ -58,19 +58,19 @@ pub record InOrder (me : ℕ) (old new : List Event) (deeds : List Deed) : Type 
   pub each : OneByOne me old new deeds
 
 -- a lock of the pod was opened in prepared, and then had exclusively
-abbrev pub takes : PodId → Which → Handle → List Deed → List Deed
-takes pod which handle rest =
+abbrev pub taking_deeds : PodId → Which → Handle → List Deed → List Deed
+taking_deeds pod which handle rest =
     record { request = Open (in_prepared pod) which; reply = Opened handle } ∷ (record { request = TryLock handle Exclusive; reply = Done } ∷ rest)
 
 -- and then it was moved from prepared to run
-abbrev pub moves_on : PodId → List Deed
-moves_on pod = record { request = MoveFolder (in_prepared pod) (in_run pod); reply = Done } ∷ []
+abbrev pub moving_deeds : PodId → List Deed
+moving_deeds pod = record { request = MoveFolder (in_prepared pod) (in_run pod); reply = Done } ∷ []
 
 -- Claim was taken, then Own was opened and taken, and then the pod was moved
 pub record TookBoth (pod : PodId) (own : Handle) (me : ℕ) (old new : List Event) : Type 0 where
   pub claim : Handle
-  pub order : InOrder me old new (takes pod Claim claim (takes pod Own own (moves_on pod)))
+  pub order : InOrder me old new (taking_deeds pod Claim claim (taking_deeds pod Own own (moving_deeds pod)))
 
 -- wherever a process knew this of itself before, it knows that after
-abbrev pub Leaves : Bool → (Seen → Type 0) → DirAt → (Seen → Type 0) → Type 0
-Leaves observed May old After = observed ≡ true → (s : Seen) → May s → Knows old s → After s
+abbrev pub WhereObservedKnew : Bool → (Seen → Type 0) → DirAt → (Seen → Type 0) → Type 0
+WhereObservedKnew observed May old After = observed ≡ true → (s : Seen) → May s → Knows old s → After s

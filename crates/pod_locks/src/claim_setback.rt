@@ -1,8 +1,8 @@
 // What sets an attempt at a pod back: it begins again, or it is refused.
 ghost use Rattle.std.specs.Prelude.{◌≡◌, true};
 ghost use Rattle.dir_files.specs.AreaLocks.{is_lock_refusal};
-ghost use Rattle.phase_read.specs.Faults.{IsFault};
-ghost use Rattle.pod_locks.specs.ClaimSetbacks.{set_back, lock_setback, look_refusal, last_refusal};
+ghost use Rattle.phase_read.specs.Faults.{IsLookFault};
+ghost use Rattle.pod_locks.specs.ClaimSetbacks.{claim_setback_of, claim_lock_setback, look_refusal, last_refusal};
 
 use crate::claim_error::ClaimError;
 use dir_trait::{DirError, PodId, Which};
@@ -19,7 +19,7 @@ pub(crate) enum Setback {
 
 /// What it means that the directory refused to open a lock or to move the pod.
 pub(crate) fn set_back(error: DirError) -> Setback
-    ensures { result ≡ set_back error }
+    ensures { result ≡ claim_setback_of error }
 {
     match error {
         DirError::Missing => Setback::Missing,
@@ -31,7 +31,7 @@ pub(crate) fn set_back(error: DirError) -> Setback
 
 /// What it means that it refused a lock.
 pub(crate) fn lock_setback(pod: PodId, which: Which, error: DirError) -> Setback
-    ensures { result ≡ lock_setback pod which error }
+    ensures { result ≡ claim_lock_setback pod which error }
 {
     match error {
         DirError::Locked => Setback::Refused(ClaimError::Busy(pod, which)),
@@ -41,7 +41,7 @@ pub(crate) fn lock_setback(pod: PodId, which: Which, error: DirError) -> Setback
 
 /// What it means that a look found nothing out.
 pub(crate) fn look_refusal(error: LookError) -> ClaimError
-    requires { IsFault error }
+    requires { IsLookFault error }
     ensures { result ≡ look_refusal error }
 {
     match error {

@@ -6,17 +6,17 @@ ghost use Rattle.dir_trait.specs.Pods.{pod_text};
 ghost use Rattle.lifecycle.specs.Executions.{IsConforming};
 ghost use Rattle.phase_read.specs.Often.{ReadsAtMost};
 ghost use Rattle.pod_locks.specs.ClaimHolding.{MayClaim};
-ghost use Rattle.pod_locks.specs.Work.{Went, MovedNothing, TookBoth, Leaves};
+ghost use Rattle.pod_locks.specs.Work.{WentClaiming, MovedNothing, TookBoth, WhereObservedKnew};
 ghost use Rattle.pod_locks.specs.ClaimCauses.{ClaimCause, HadBothAlone};
-ghost use Rattle.pod_locks.specs.Claims.{and_owned, HasPod, RefusedByAnother, IsFreeThroughout, IsFailure};
+ghost use Rattle.pod_locks.specs.Claims.{and_owned, HasPod, ClaimRefusedByAnother, IsFreeThroughout, IsClaimFailure};
 ghost use Rattle.pod_locks.specs.Elsewhere.{MetOwner};
 ghost use Rattle.pod_locks.specs.Running.{IsOwned, RunsPod};
 
+use crate::Owned;
 use crate::attempt::attempt;
 use crate::claim_error::ClaimError;
 use crate::claim_setback::{Setback, last_refusal};
 use dir_trait::{Area, Dir, Handle, PodId};
-use crate::Owned;
 use std::alloc::Global;
 
 // What a process owns that has moved the pod to run.
@@ -43,22 +43,22 @@ pub fn claim<D: Dir>(alloc: Global, dir: &mut D, pod: PodId) -> Result<Owned, Cl
     requires active { IsActive (D.shown dir.old).local }
     requires alone { has_own_open (D.shown dir.old).local (pod_text pod.bytes) ≡ false }
     ensures owned { IfOk result (λ owned. IsOwned pod (D.shown dir.old).local owned) }
-    ensures went { Went D.observed 66 pod (and_owned (D.shown dir.old).local pod result) (D.shown dir.old) (D.shown dir.new) }
+    ensures went { WentClaiming D.observed 66 pod (and_owned (D.shown dir.old).local pod result) (D.shown dir.old) (D.shown dir.new) }
     ensures reads { ReadsAtMost 2 D.observed pod (D.shown dir.old) (D.shown dir.new) }
     ensures cause { IfErr result (λ e. ClaimCause D.observed pod e (D.shown dir.old) (D.shown dir.new)) }
-    ensures another { IfErr result (λ e. Leaves D.observed MayClaim (D.shown dir.old)
-        (λ s. RefusedByAnother pod e (D.shown dir.old) (D.shown dir.new))) }
-    ensures owned_elsewhere { IfErr result (λ e. Leaves D.observed MayClaim (D.shown dir.old)
+    ensures by_other_process { IfErr result (λ e. WhereObservedKnew D.observed MayClaim (D.shown dir.old)
+        (λ s. ClaimRefusedByAnother pod e (D.shown dir.old) (D.shown dir.new))) }
+    ensures owned_elsewhere { IfErr result (λ e. WhereObservedKnew D.observed MayClaim (D.shown dir.old)
         (λ s. MetOwner pod e (D.shown dir.old) (D.shown dir.new))) }
     ensures moved { IfOk result (λ owned. D.observed ≡ true
         → TookBoth pod owned.own (D.shown dir.old).process (D.shown dir.old).trace (D.shown dir.new).trace) }
     ensures alone { IfOk result (λ owned. D.observed ≡ true → HadBothAlone pod (D.shown dir.old).process (D.shown dir.old).trace (D.shown dir.new).trace) }
     ensures still { IfErr result (λ e. D.observed ≡ true → MovedNothing (D.shown dir.old).process (D.shown dir.old).trace (D.shown dir.new).trace) }
-    ensures runs { IfOk result (λ owned. Leaves D.observed MayClaim (D.shown dir.old) (λ s. RunsPod pod (D.shown dir.new))) }
-    ensures held { IfOk result (λ owned. Leaves D.observed MayClaim (D.shown dir.old) (λ s. HasPod pod owned.own s (D.shown dir.new))) }
-    ensures left { IfErr result (λ e. Leaves D.observed MayClaim (D.shown dir.old) (λ s. LookedInto s (D.shown dir.new))) }
-    ensures complete { IfErr result (λ e. Leaves D.observed MayClaim (D.shown dir.old)
-        (λ s. IsConforming (D.shown dir.new).trace → IsFreeThroughout pod (D.shown dir.old) (D.shown dir.new) → IsFailure e)) }
+    ensures runs { IfOk result (λ owned. WhereObservedKnew D.observed MayClaim (D.shown dir.old) (λ s. RunsPod pod (D.shown dir.new))) }
+    ensures held { IfOk result (λ owned. WhereObservedKnew D.observed MayClaim (D.shown dir.old) (λ s. HasPod pod owned.own s (D.shown dir.new))) }
+    ensures left { IfErr result (λ e. WhereObservedKnew D.observed MayClaim (D.shown dir.old) (λ s. LookedInto s (D.shown dir.new))) }
+    ensures complete { IfErr result (λ e. WhereObservedKnew D.observed MayClaim (D.shown dir.old)
+        (λ s. IsConforming (D.shown dir.new).trace → IsFreeThroughout pod (D.shown dir.old) (D.shown dir.new) → IsClaimFailure e)) }
     ensures lawful { IsErrOf result ClaimError.Stray → D.observed ≡ true → IsConforming (D.shown dir.new).trace → ⊥ }
 {
     match attempt(alloc, dir, pod) {

@@ -6,14 +6,14 @@ ghost use Rattle.dir_model.specs.declared.spot.Which.TheVariants as lock;
 ghost use Rattle.dir_trait.specs.Local.{IsActive, IsUnopened};
 ghost use Rattle.dir_trait.specs.Knowledge.{Knows, OnlyLooks, LookedInto};
 ghost use Rattle.phase_read.specs.Often.{ReadsAtMost};
-ghost use Rattle.pod_locks.specs.ClaimHolding.{MayTake, MayClaim, HasClaim, and_locked, with_lock, with_pod};
-ghost use Rattle.pod_locks.specs.Work.{Went, InOrder, MovedNothing, takes, moves_on, TookBoth, Leaves};
-ghost use Rattle.pod_locks.specs.ClaimCauses.{Stopped, StopsAlone, IsAbsent, CannotOpen, BusyElsewhere, BusyInTurn, HadAlone, HadBothAlone};
+ghost use Rattle.pod_locks.specs.ClaimHolding.{MayTakePrepared, MayClaim, HasClaim, and_locked, with_prepared_lock, with_pod};
+ghost use Rattle.pod_locks.specs.Work.{WentClaiming, InOrder, MovedNothing, taking_deeds, moving_deeds, TookBoth, WhereObservedKnew};
+ghost use Rattle.pod_locks.specs.ClaimCauses.{ClaimWasStopped, ClaimStopsAlone, IsNotInPrepared, CannotOpen, ClaimBusyElsewhere, BusyInTurn, HadAlone, HadBothAlone};
 ghost use Rattle.pod_locks.specs.Claims.{HasPod};
 
 use crate::claim_error::ClaimError;
-use crate::place::pod_spot;
 use crate::claim_setback::{Setback, lock_setback, look_refusal, set_back};
+use crate::place::pod_spot;
 use dir_trait::{Area, Dir, Handle, Mode, PodId, Which};
 use phase_read::look;
 use std::alloc::Global;
@@ -21,21 +21,21 @@ use std::alloc::Global;
 // Opens a lock of the pod in prepared and takes it.
 fn take<D: Dir>(alloc: Global, dir: &mut D, pod: PodId, which: Which) -> Result<Handle, Setback>
     requires active { IsActive (D.shown dir.old).local }
-    ensures went { Went D.observed 3 pod (and_locked (D.shown dir.old).local pod which result) (D.shown dir.old) (D.shown dir.new) }
+    ensures went { WentClaiming D.observed 3 pod (and_locked (D.shown dir.old).local pod which result) (D.shown dir.old) (D.shown dir.new) }
     ensures reads { ReadsAtMost 0 D.observed pod (D.shown dir.old) (D.shown dir.new) }
     ensures unopened { IfOk result (λ handle. IsUnopened (D.shown dir.old).local handle) }
     ensures order { IfOk result (λ handle. D.observed ≡ true
-        → InOrder (D.shown dir.old).process (D.shown dir.old).trace (D.shown dir.new).trace (takes pod which handle [])) }
+        → InOrder (D.shown dir.old).process (D.shown dir.old).trace (D.shown dir.new).trace (taking_deeds pod which handle [])) }
     ensures still { IfOk result (λ handle. D.observed ≡ true
         → MovedNothing (D.shown dir.old).process (D.shown dir.old).trace (D.shown dir.new).trace) }
-    ensures stopped { IfErr result (λ e. Stopped D.observed pod (CannotOpen pod which) e (D.shown dir.old) (D.shown dir.new)) }
-    ensures another { IfErr result (λ e. Leaves D.observed (MayTake pod which) (D.shown dir.old)
-        (λ s. BusyElsewhere pod e (D.shown dir.old) (D.shown dir.new))) }
+    ensures stopped { IfErr result (λ e. ClaimWasStopped D.observed pod (CannotOpen pod which) e (D.shown dir.old) (D.shown dir.new)) }
+    ensures by_other_process { IfErr result (λ e. WhereObservedKnew D.observed (MayTakePrepared pod which) (D.shown dir.old)
+        (λ s. ClaimBusyElsewhere pod e (D.shown dir.old) (D.shown dir.new))) }
     ensures alone { IfOk result (λ handle. D.observed ≡ true → HadAlone pod which (D.shown dir.old).process (D.shown dir.old).trace (D.shown dir.new).trace) }
     ensures own { IfErr result (λ e. (other : PodId) (named : Which) → e ≡ Setback.Refused (ClaimError.Busy other named) → named ≡ which) }
-    ensures held { IfOk result (λ handle. Leaves D.observed (MayTake pod which) (D.shown dir.old)
-        (λ s. Knows (D.shown dir.new) (with_lock pod which handle s))) }
-    ensures left { IfErr result (λ e. Leaves D.observed (MayTake pod which) (D.shown dir.old) (λ s. Knows (D.shown dir.new) s)) }
+    ensures held { IfOk result (λ handle. WhereObservedKnew D.observed (MayTakePrepared pod which) (D.shown dir.old)
+        (λ s. Knows (D.shown dir.new) (with_prepared_lock pod which handle s))) }
+    ensures left { IfErr result (λ e. WhereObservedKnew D.observed (MayTakePrepared pod which) (D.shown dir.old) (λ s. Knows (D.shown dir.new) s)) }
 {
     let prepared = pod_spot(pod, Area::Prepared);
     match dir.open(alloc, prepared, which) {
@@ -54,18 +54,18 @@ fn take<D: Dir>(alloc: Global, dir: &mut D, pod: PodId, which: Which) -> Result<
 // the folder that was opened is the one that is moved.
 fn run_under_claim<D: Dir>(alloc: Global, dir: &mut D, pod: PodId) -> Result<Handle, Setback>
     requires active { IsActive (D.shown dir.old).local }
-    ensures went { Went D.observed 5 pod (and_locked (D.shown dir.old).local pod lock.Own result) (D.shown dir.old) (D.shown dir.new) }
+    ensures went { WentClaiming D.observed 5 pod (and_locked (D.shown dir.old).local pod lock.Own result) (D.shown dir.old) (D.shown dir.new) }
     ensures reads { ReadsAtMost 0 D.observed pod (D.shown dir.old) (D.shown dir.new) }
     ensures unopened { IfOk result (λ own. IsUnopened (D.shown dir.old).local own) }
     ensures order { IfOk result (λ own. D.observed ≡ true
-        → InOrder (D.shown dir.old).process (D.shown dir.old).trace (D.shown dir.new).trace (takes pod lock.Own own (moves_on pod))) }
+        → InOrder (D.shown dir.old).process (D.shown dir.old).trace (D.shown dir.new).trace (taking_deeds pod lock.Own own (moving_deeds pod))) }
     ensures alone { IfOk result (λ own. D.observed ≡ true → HadAlone pod lock.Own (D.shown dir.old).process (D.shown dir.old).trace (D.shown dir.new).trace) }
-    ensures stopped { IfErr result (λ e. Stopped D.observed pod (IsAbsent pod) e (D.shown dir.old) (D.shown dir.new)) }
-    ensures another { IfErr result (λ e. Leaves D.observed (HasClaim pod) (D.shown dir.old)
-        (λ s. BusyElsewhere pod e (D.shown dir.old) (D.shown dir.new))) }
-    ensures held { IfOk result (λ own. Leaves D.observed (HasClaim pod) (D.shown dir.old)
+    ensures stopped { IfErr result (λ e. ClaimWasStopped D.observed pod (IsNotInPrepared pod) e (D.shown dir.old) (D.shown dir.new)) }
+    ensures by_other_process { IfErr result (λ e. WhereObservedKnew D.observed (HasClaim pod) (D.shown dir.old)
+        (λ s. ClaimBusyElsewhere pod e (D.shown dir.old) (D.shown dir.new))) }
+    ensures held { IfOk result (λ own. WhereObservedKnew D.observed (HasClaim pod) (D.shown dir.old)
         (λ s. Knows (D.shown dir.new) (with_pod pod own s))) }
-    ensures left { IfErr result (λ e. Leaves D.observed (HasClaim pod) (D.shown dir.old) (λ s. Knows (D.shown dir.new) s)) }
+    ensures left { IfErr result (λ e. WhereObservedKnew D.observed (HasClaim pod) (D.shown dir.old) (λ s. Knows (D.shown dir.new) s)) }
 {
     let own = take(alloc, dir, pod, Which::Own)?;
     let from = pod_spot(pod, Area::Prepared);
@@ -82,9 +82,9 @@ fn run_under_claim<D: Dir>(alloc: Global, dir: &mut D, pod: PodId) -> Result<Han
 // Claim couldn't be opened: the pod's folder is gone from prepared, or it has no manifest.
 fn without_claim<D: Dir>(alloc: Global, dir: &mut D, pod: PodId) -> Setback
     requires active { IsActive (D.shown dir.old).local }
-    ensures went { Went D.observed 2 pod (D.shown dir.old).local (D.shown dir.old) (D.shown dir.new) }
+    ensures went { WentClaiming D.observed 2 pod (D.shown dir.old).local (D.shown dir.old) (D.shown dir.new) }
     ensures reads { ReadsAtMost 0 D.observed pod (D.shown dir.old) (D.shown dir.new) }
-    ensures stopped { StopsAlone D.observed pod result (D.shown dir.old) (D.shown dir.new) }
+    ensures stopped { ClaimStopsAlone D.observed pod result (D.shown dir.old) (D.shown dir.new) }
     ensures left { D.observed ≡ true → OnlyLooks (D.shown dir.old) (D.shown dir.new) }
 {
     match look(alloc, dir, pod_spot(pod, Area::Prepared)) {
@@ -101,18 +101,18 @@ pub(crate) fn take_and_run<D: Dir>(
     pod: PodId,
 ) -> Result<Handle, Setback>
     requires active { IsActive (D.shown dir.old).local }
-    ensures went { Went D.observed 9 pod (and_locked (D.shown dir.old).local pod lock.Own result) (D.shown dir.old) (D.shown dir.new) }
+    ensures went { WentClaiming D.observed 9 pod (and_locked (D.shown dir.old).local pod lock.Own result) (D.shown dir.old) (D.shown dir.new) }
     ensures reads { ReadsAtMost 0 D.observed pod (D.shown dir.old) (D.shown dir.new) }
     ensures unopened { IfOk result (λ own. IsUnopened (D.shown dir.old).local own) }
     ensures order { IfOk result (λ own. D.observed ≡ true
         → TookBoth pod own (D.shown dir.old).process (D.shown dir.old).trace (D.shown dir.new).trace) }
     ensures alone { IfOk result (λ own. D.observed ≡ true → HadBothAlone pod (D.shown dir.old).process (D.shown dir.old).trace (D.shown dir.new).trace) }
-    ensures stopped { IfErr result (λ e. Stopped D.observed pod (IsAbsent pod) e (D.shown dir.old) (D.shown dir.new)) }
-    ensures another { IfErr result (λ e. Leaves D.observed MayClaim (D.shown dir.old)
+    ensures stopped { IfErr result (λ e. ClaimWasStopped D.observed pod (IsNotInPrepared pod) e (D.shown dir.old) (D.shown dir.new)) }
+    ensures by_other_process { IfErr result (λ e. WhereObservedKnew D.observed MayClaim (D.shown dir.old)
         (λ s. BusyInTurn pod e (D.shown dir.old) (D.shown dir.new))) }
-    ensures held { IfOk result (λ own. Leaves D.observed MayClaim (D.shown dir.old)
+    ensures held { IfOk result (λ own. WhereObservedKnew D.observed MayClaim (D.shown dir.old)
         (λ s. Knows (D.shown dir.new) (with_pod pod own s))) }
-    ensures left { IfErr result (λ e. Leaves D.observed MayClaim (D.shown dir.old) (λ s. LookedInto s (D.shown dir.new))) }
+    ensures left { IfErr result (λ e. WhereObservedKnew D.observed MayClaim (D.shown dir.old) (λ s. LookedInto s (D.shown dir.new))) }
 {
     match take(alloc, dir, pod, Which::Claim) {
         Ok(claim) => {

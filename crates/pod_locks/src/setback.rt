@@ -1,7 +1,7 @@
 // What sets a step at a pod back.
 ghost use Rattle.std.specs.Prelude.{◌≡◌};
-ghost use Rattle.phase_read.specs.Faults.{IsFault};
-ghost use Rattle.pod_locks.specs.Setbacks.{set_back, lock_setback, look_setback, delete_setback};
+ghost use Rattle.phase_read.specs.Faults.{IsLookFault};
+ghost use Rattle.pod_locks.specs.Setbacks.{step_setback_of, step_lock_setback, look_setback, delete_setback};
 
 use dir_trait::{DirError, Which};
 use folder_removal::DeleteError;
@@ -26,7 +26,7 @@ pub enum Setback {
 
 /// What it means that the directory refused to open a lock, to move the pod or to mark it.
 pub fn set_back(error: DirError) -> Setback
-    ensures { result ≡ set_back error }
+    ensures { result ≡ step_setback_of error }
 {
     match error {
         DirError::Missing => Setback::Missing,
@@ -38,7 +38,7 @@ pub fn set_back(error: DirError) -> Setback
 
 /// What it means that it refused a lock.
 pub(crate) fn lock_setback(which: Which, error: DirError) -> Setback
-    ensures { result ≡ lock_setback which error }
+    ensures { result ≡ step_lock_setback which error }
 {
     match error {
         DirError::Locked => Setback::Busy(which),
@@ -48,7 +48,7 @@ pub(crate) fn lock_setback(which: Which, error: DirError) -> Setback
 
 /// What it means that a look found nothing out.
 pub fn look_setback(error: LookError) -> Setback
-    requires { IsFault error }
+    requires { IsLookFault error }
     ensures { result ≡ look_setback error }
 {
     match error {

@@ -9,11 +9,11 @@ ghost use Rattle.dir_model.specs.Areas.{is_stage};
 ghost use Rattle.dir_trait.specs.Local.{IsActive, IsUnopened};
 ghost use Rattle.dir_trait.specs.DirCalls.{ExtendsBy, LockToldBetween};
 ghost use Rattle.dir_trait.specs.Knowledge.{Knows};
-ghost use Rattle.folder_building.specs.Work.{Worked};
+ghost use Rattle.dir_trait.specs.Effects.{OnlyAsks, LeavesOpen, Given};
 ghost use Rattle.phase_read.specs.Read.{pod_spot};
-ghost use Rattle.pod_locks.specs.Requests.{looks_at, peeks_at, moves};
-ghost use Rattle.pod_locks.specs.Holding.{Went, and_taken, with_lock, MayLook, MayTake, MayMove, LooksFree, KeepsReady, Stays};
-ghost use Rattle.pod_locks.specs.Causes.{Stopped, NeverStray, CannotOpenAt, IsAbsentAt, BusyElsewhere, FreeWhere, Did};
+ghost use Rattle.pod_locks.specs.Requests.{looks_at, peeks_at, moves_pod};
+ghost use Rattle.pod_locks.specs.Holding.{and_taken, with_pod_lock, MayLook, MayTakeLock, MayMove, LooksFree, KeepsReady};
+ghost use Rattle.pod_locks.specs.Causes.{StepWasStopped, NeverStray, CannotOpenAt, IsAbsentAt, LockBusyElsewhere, FreeIfObserved, Did};
 ghost use Rattle.pod_locks.specs.Taking.{TakesNothing};
 
 use crate::place::pod_spot;
@@ -26,17 +26,17 @@ use std::alloc::Global;
 /// `Busy` where another process holds the lock exclusively.
 pub fn probe<D: Dir>(alloc: Global, dir: &mut D, pod: PodId, area: Area) -> Result<(), Setback>
     requires active { IsActive (D.shown dir.old).local }
-    ensures worked { Worked D.observed (looks_at pod area) (D.shown dir.old) (D.shown dir.new) }
+    ensures worked { OnlyAsks D.observed (looks_at pod area) (D.shown dir.old) (D.shown dir.new) }
     ensures peeks { D.observed ≡ true → ExtendsBy (peeks_at pod area) (D.shown dir.old) (D.shown dir.new) }
-    ensures stopped { IfErr result (λ e. Stopped D.observed pod (IsAbsentAt pod area) e (D.shown dir.old) (D.shown dir.new)) }
+    ensures stopped { IfErr result (λ e. StepWasStopped D.observed pod (IsAbsentAt pod area) e (D.shown dir.old) (D.shown dir.new)) }
     ensures never { IfErr result (λ e. e ≡ Setback.Stray → ⊥) }
     ensures named { IfErr result (λ e. (which : Which) → e ≡ Setback.Busy which → which ≡ Own) }
-    ensures another { IfErr result (λ e. D.observed ≡ true → Stays (MayLook pod area) (D.shown dir.old)
-        (λ s. BusyElsewhere pod area mode.Shared e (D.shown dir.old) (D.shown dir.new))) }
+    ensures by_other_process { IfErr result (λ e. D.observed ≡ true → Given (MayLook pod area) (D.shown dir.old)
+        (λ s. LockBusyElsewhere pod area mode.Shared e (D.shown dir.old) (D.shown dir.new))) }
     ensures told { IfOk result (λ done. D.observed ≡ true → LockToldBetween (D.shown dir.old) (D.shown dir.new) (pod_spot pod area) false) }
     ensures owned { IfErr result (λ e. (which : Which) → e ≡ Setback.Busy which → D.observed ≡ true → LockToldBetween (D.shown dir.old) (D.shown dir.new) (pod_spot pod area) true) }
-    ensures free { IfOk result (λ done. D.observed ≡ true → Stays (MayLook pod area) (D.shown dir.old) (λ s. LooksFree pod area s (D.shown dir.new))) }
-    ensures left { IfErr result (λ e. D.observed ≡ true → Stays (MayLook pod area) (D.shown dir.old) (λ s. Knows (D.shown dir.new) s)) }
+    ensures free { IfOk result (λ done. D.observed ≡ true → Given (MayLook pod area) (D.shown dir.old) (λ s. LooksFree pod area s (D.shown dir.new))) }
+    ensures left { IfErr result (λ e. D.observed ≡ true → Given (MayLook pod area) (D.shown dir.old) (λ s. Knows (D.shown dir.new) s)) }
 {
     match dir.open(alloc, pod_spot(pod, area), Which::Own) {
         Ok(handle) => {
@@ -62,17 +62,17 @@ pub fn take<D: Dir>(
     which: Which,
 ) -> Result<Handle, Setback>
     requires active { IsActive (D.shown dir.old).local }
-    ensures went { Went D.observed (looks_at pod area) (and_taken (D.shown dir.old).local pod area which result) (D.shown dir.old) (D.shown dir.new) }
+    ensures went { LeavesOpen D.observed (looks_at pod area) (and_taken (D.shown dir.old).local pod area which result) (D.shown dir.old) (D.shown dir.new) }
     ensures unopened { IfOk result (λ handle. IsUnopened (D.shown dir.old).local handle) }
-    ensures stopped { IfErr result (λ e. Stopped D.observed pod (CannotOpenAt pod area which) e (D.shown dir.old) (D.shown dir.new)) }
+    ensures stopped { IfErr result (λ e. StepWasStopped D.observed pod (CannotOpenAt pod area which) e (D.shown dir.old) (D.shown dir.new)) }
     ensures never { IfErr result (λ e. e ≡ Setback.Stray → ⊥) }
     ensures named { IfErr result (λ e. (other : Which) → e ≡ Setback.Busy other → other ≡ which) }
-    ensures another { IfErr result (λ e. D.observed ≡ true → Stays (MayTake pod area which) (D.shown dir.old)
-        (λ s. BusyElsewhere pod area mode.Exclusive e (D.shown dir.old) (D.shown dir.new))) }
-    ensures free { IfOk result (λ handle. FreeWhere D.observed pod area which mode.Exclusive (D.shown dir.old) (D.shown dir.new)) }
-    ensures held { IfOk result (λ handle. D.observed ≡ true → Stays (MayTake pod area which) (D.shown dir.old)
-        (λ s. Knows (D.shown dir.new) (with_lock pod area which handle s))) }
-    ensures left { IfErr result (λ e. D.observed ≡ true → Stays (MayTake pod area which) (D.shown dir.old) (λ s. Knows (D.shown dir.new) s)) }
+    ensures by_other_process { IfErr result (λ e. D.observed ≡ true → Given (MayTakeLock pod area which) (D.shown dir.old)
+        (λ s. LockBusyElsewhere pod area mode.Exclusive e (D.shown dir.old) (D.shown dir.new))) }
+    ensures free { IfOk result (λ handle. FreeIfObserved D.observed pod area which mode.Exclusive (D.shown dir.old) (D.shown dir.new)) }
+    ensures held { IfOk result (λ handle. D.observed ≡ true → Given (MayTakeLock pod area which) (D.shown dir.old)
+        (λ s. Knows (D.shown dir.new) (with_pod_lock pod area which handle s))) }
+    ensures left { IfErr result (λ e. D.observed ≡ true → Given (MayTakeLock pod area which) (D.shown dir.old) (λ s. Knows (D.shown dir.new) s)) }
 {
     match dir.open(alloc, pod_spot(pod, area), which) {
         Ok(handle) => match dir.try_lock(alloc, handle, Mode::Exclusive) {
@@ -97,14 +97,14 @@ pub fn put_aside<D: Dir>(
     to: Area,
 ) -> Result<(), Setback>
     requires active { IsActive (D.shown dir.old).local }
-    ensures worked { Worked D.observed (moves pod from to) (D.shown dir.old) (D.shown dir.new) }
-    ensures stopped { IfErr result (λ e. Stopped D.observed pod (IsAbsentAt pod from) e (D.shown dir.old) (D.shown dir.new)) }
+    ensures worked { OnlyAsks D.observed (moves_pod pod from to) (D.shown dir.old) (D.shown dir.new) }
+    ensures stopped { IfErr result (λ e. StepWasStopped D.observed pod (IsAbsentAt pod from) e (D.shown dir.old) (D.shown dir.new)) }
     ensures lawful { IfErr result (λ e. is_stage from ≡ true → NeverStray D.observed e (D.shown dir.new)) }
     ensures calm { IfErr result (λ e. (which : Which) → e ≡ Setback.Busy which → ⊥) }
     ensures done { IfOk result (λ done. D.observed ≡ true
         → Did (MoveFolder (pod_spot pod from) (pod_spot pod to)) Done (D.shown dir.old).process (D.shown dir.old).trace (D.shown dir.new).trace) }
     ensures still { IfErr result (λ e. TakesNothing D.observed (D.shown dir.old) (D.shown dir.new)) }
-    ensures ready { D.observed ≡ true → Stays (MayMove pod from to) (D.shown dir.old) (λ s. KeepsReady s (D.shown dir.new)) }
+    ensures ready { D.observed ≡ true → Given (MayMove pod from to) (D.shown dir.old) (λ s. KeepsReady s (D.shown dir.new)) }
 {
     match dir.move_folder(alloc, pod_spot(pod, from), pod_spot(pod, to)) {
         Ok(()) => Ok(()),

@@ -8,20 +8,16 @@ use Rattle.std.specs.declared.cmp.Ordering.TheVariants.{Equal, Greater}
 use Rattle.std.specs.Cmp.Lexicographic.{slice_cmp, nat_list_cmp_total}
 use Rattle.std.specs.BTreeSet.{insert_key}
 use Rattle.std.proofs.lemmas.Map.Text.{is_eq-slice_cmp}
-use Rattle.std.proofs.lemmas.Slice.Eq.{bytes_eq-Decides}
+use Rattle.plain_laws.proofs.Texts.{same_bytes, same_text}
 use Rattle.dir_model.specs.Listings.{has_name}
 use Rattle.dir_model.proofs.Lists.{all_weaker}
-use Rattle.dir_rules.proofs.Looks.{same_bytes}
 use Rattle.pod_lookup.specs.Pods.{in_order}
 
 abbrev pub Rising : List (List ℕ) → Type 0
 Rising names = IsStrictlySortedBy (slice_cmp nat_cmp) names
 
-pub same_name : (k x : List ℕ) → bytes_eq k x ≡ true → k ≡ x
-same_name k x is = (bytes_eq-Decides k x).0 is
-
 same_order : (k x : List ℕ) → slice_cmp nat_cmp k x ≡ Equal → k ≡ x
-same_order k x e = same_name k x (sym (is_eq-slice_cmp k x) ∙ ap is_eq e)
+same_order k x e = same_text k x (sym (is_eq-slice_cmp k x) ∙ ap is_eq e)
 
 after : (k x : List ℕ) → slice_cmp nat_cmp k x ≡ Greater → slice_cmp nat_cmp x k ≡ Less
 after k x e = nat_list_cmp_total.antisymm x k ∙ ap ordering_reverse e
@@ -101,7 +97,7 @@ named_holds P name [] all named = cc
 named_holds P name (x ∷ xs) all named = by (bytes_eq x name) refl named (λ rest. named_holds P name xs all.1 rest)
   where
     by : (b : Bool) → bytes_eq x name ≡ b → (b || has_name xs name) ≡ true → (has_name xs name ≡ true → P name) → P name
-    by true same h go = subst P (same_name x name same) all.0
+    by true same h go = subst P (same_text x name same) all.0
     by false apart h go = go h
 
 pub head_named : (x : List ℕ) (xs : List (List ℕ)) → has_name (x ∷ xs) x ≡ true
@@ -122,8 +118,8 @@ module _ (x y : List ℕ) (xs ys : List (List ℕ)) (s : Rising (x ∷ xs)) (t :
   heads = by (bytes_eq y x) refl (sym (same x) ∙ head_named x xs) (bytes_eq x y) refl (same y ∙ head_named y ys)
     where
       by : (b : Bool) → bytes_eq y x ≡ b → (b || has_name ys x) ≡ true → (c : Bool) → bytes_eq x y ≡ c → (c || has_name xs y) ≡ true → x ≡ y
-      by true is h c d g = sym (same_name y x is)
-      by false is h true d g = same_name x y d
+      by true is h c d g = sym (same_text y x is)
+      by false is h true d g = same_text x y d
       by false is h false d g = no_cycle x y (named_holds (λ (z : List ℕ). slice_cmp nat_cmp x z ≡ Less) y xs s.0 g) (named_holds (λ (z : List ℕ). slice_cmp nat_cmp y z ≡ Less) x ys t.0 h)
 
   tails : (n : List ℕ) → has_name xs n ≡ has_name ys n
@@ -132,7 +128,7 @@ module _ (x y : List ℕ) (xs ys : List (List ℕ)) (s : Rising (x ∷ xs)) (t :
       by : (b : Bool) → bytes_eq x n ≡ b → (bytes_eq x n || has_name xs n) ≡ (bytes_eq x n || has_name ys n) → has_name xs n ≡ has_name ys n
       by false apart h = sym (ap (λ c. c || has_name xs n) apart) ∙ (h ∙ ap (λ c. c || has_name ys n) apart)
       by true is h =
-          let at = same_name x n is in
+          let at = same_text x n is in
           subst (λ (z : List ℕ). has_name xs z ≡ false) at (head_apart x xs s) ∙ sym (subst (λ (z : List ℕ). has_name ys z ≡ false) (sym heads ∙ at) (head_apart y ys t))
 
 pub one_order : (xs ys : List (List ℕ)) → Rising xs → Rising ys → ((n : List ℕ) → has_name xs n ≡ has_name ys n) → xs ≡ ys

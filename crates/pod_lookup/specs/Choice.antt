@@ -4,7 +4,7 @@ use Rattle.std.specs.Ordering.{nat_cmp}
 use Rattle.std.specs.declared.cmp.Ordering.TheVariants.{Less}
 use Rattle.std.specs.Cmp.Lexicographic.{slice_cmp}
 use Rattle.dir_model.specs.declared.pod.PodId.{PodId}
-use Rattle.dir_model.specs.Pods.{pod_text, pod_of}
+use Rattle.dir_model.specs.Pods.{pod_text, pod_of_text}
 use Rattle.dir_model.specs.State.{DirState}
 use Rattle.dir_rules.specs.Marks.{begins}
 use Rattle.phase_read.specs.declared.found.LookError.{LookError}
@@ -26,10 +26,10 @@ abbrev pub choice : List ℕ → List PodId → Result PodId LookError
 choice word pods = the_only (filter (is_meant word) pods)
 
 -- it isn't a fault of the directory, nor want of memory
-abbrev pub IsChoice : Result PodId LookError → Type 0
-IsChoice (Err DirFault) = ⊥
-IsChoice (Err NoMemory) = ⊥
-IsChoice result = Unit {0}
+abbrev pub IsLookupAnswer : Result PodId LookError → Type 0
+IsLookupAnswer (Err DirFault) = ⊥
+IsLookupAnswer (Err NoMemory) = ⊥
+IsLookupAnswer result = Unit {0}
 
 -- this holds of the two pods of an answer that several are meant
 abbrev pub IfAmbiguous : Result PodId LookError → (PodId → PodId → Type 0) → Type 0
@@ -50,4 +50,4 @@ whole_or None chosen = chosen
 
 -- what a word means where nobody else steps: a whole uuid its pod, there or not, and else the choice among the pods that stand
 abbrev pub sequential_resolve : DirState → List ℕ → Result PodId LookError
-sequential_resolve s word = whole_or (pod_of word) (choice word (pods_standing s.namespace))
+sequential_resolve s word = whole_or (pod_of_text word) (choice word (pods_standing s.namespace))

@@ -7,7 +7,7 @@ use Rattle.std.specs.BTreeSet.{insert_key}
 use Rattle.dir_model.specs.declared.event.Event.{Event}
 use Rattle.dir_model.specs.declared.pod.PodId.{PodId}
 use Rattle.dir_model.specs.declared.spot.Spot.{Spot}
-use Rattle.dir_model.specs.Pods.{pod_text, pod_of}
+use Rattle.dir_model.specs.Pods.{pod_text, pod_of_text}
 use Rattle.dir_model.specs.State.{Namespace, stands}
 use Rattle.dir_model.specs.Trace.{state_after}
 use Rattle.dir_model.specs.Trees.{names_in}
@@ -24,7 +24,7 @@ pod_names pods = map (λ (pod : PodId). pod_text pod.bytes) pods
 
 -- the name is the text of a pod's uuid
 abbrev pub is_pod_name : List ℕ → Bool
-is_pod_name name = is_some (pod_of name)
+is_pod_name name = is_some (pod_of_text name)
 
 -- names in byte order, each once
 abbrev pub in_order : List (List ℕ) → List (List ℕ)
@@ -33,7 +33,7 @@ in_order (name ∷ names) = insert_key (slice_cmp nat_cmp) (in_order names) name
 
 -- the pods of these names, each once, and their uuids rise; a name that isn't a uuid's text is passed over
 abbrev pub pods_named : List (List ℕ) → List PodId
-pods_named names = filter_map pod_of (in_order names)
+pods_named names = filter_map pod_of_text (in_order names)
 
 -- the six areas were listed in lifecycle order, and these are the pods that they showed
 pub record FindsPods (me : ℕ) (old new : List Event) (pods : List PodId) : Type 0 where
@@ -58,9 +58,9 @@ abbrev pub StandsAs : Namespace → Namespace → Type 0
 StandsAs old new = (spot : Spot) → stands new spot ≡ stands old spot
 
 -- between the two traces no folder comes to a location or leaves one
-abbrev pub KeepsFolders : List Event → List Event → Type 0
-KeepsFolders old new = AtEachMoment old new (λ trace. StandsAs (state_after old).namespace (state_after trace).namespace)
+abbrev pub NoFolderMoves : List Event → List Event → Type 0
+NoFolderMoves old new = AtEachMoment old new (λ trace. StandsAs (state_after old).namespace (state_after trace).namespace)
 
 -- where no folder comes or goes meanwhile, they are those that stood before
 abbrev pub FindsStanding : DirAt → DirAt → List PodId → Type 0
-FindsStanding old new pods = KeepsFolders old.trace new.trace → pods ≡ pods_standing (state_after old.trace).namespace
+FindsStanding old new pods = NoFolderMoves old.trace new.trace → pods ≡ pods_standing (state_after old.trace).namespace

@@ -15,7 +15,7 @@ use Rattle.lifecycle.specs.Executions.{IsConforming}
 use Rattle.lifecycle.specs.Readings.{WasPhase}
 use Rattle.phase_read.specs.Read.{stages}
 use Rattle.phase_read.specs.declared.found.LookError.{LookError}
-use Rattle.pod_lookup.specs.AreaListings.{AreListedBetween, WasShown}
+use Rattle.pod_lookup.specs.AreaListings.{AreListedBetween, NameWasShown}
 use Rattle.pod_lookup.specs.Choice.{is_meant, choice, sequential_resolve}
 use Rattle.pod_lookup.specs.Moments.{AtEachMoment, AtSomeMoment, Exists}
 use Rattle.pod_lookup.specs.Pods.{is_pod_name, FindsPodsBetween}
@@ -39,7 +39,7 @@ Existed pod old new = IsConforming new.trace → AtSomeMoment old.trace new.trac
 pub record IsShown (word : List ℕ) (names : List (List ℕ)) (old new : DirAt) (pod : PodId) : Type 0 where
   pub meant : is_meant word pod ≡ true
   pub among : has_name names (pod_text pod.bytes) ≡ true
-  pub shown : WasShown old.process old.trace new.trace (pod_text pod.bytes)
+  pub shown : NameWasShown old.process old.trace new.trace (pod_text pod.bytes)
   pub existed : Existed pod old new
 
 -- of the pods that listings of the six areas showed and that the word begins, these two have the least uuids

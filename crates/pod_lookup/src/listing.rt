@@ -7,7 +7,7 @@ ghost use Rattle.dir_model.specs.Areas.{is_stage, rank};
 ghost use Rattle.dir_trait.specs.Causes.{Rose};
 ghost use Rattle.dir_trait.specs.Local.{IsActive};
 ghost use Rattle.lifecycle.specs.Executions.{IsConforming};
-ghost use Rattle.phase_read.specs.Faults.{IsFault};
+ghost use Rattle.phase_read.specs.Faults.{IsLookFault};
 ghost use Rattle.phase_read.specs.Read.{stages};
 ghost use Rattle.pod_lookup.specs.Looks.{OnlyLooksFor, lists_stages};
 ghost use Rattle.pod_lookup.specs.AreaListings.{AreListedBetween, AddsListedBetween};
@@ -30,7 +30,7 @@ fn list_next<D: Dir>(
     requires stage { rank area ≤ 5 }
     ensures only { OnlyLooksFor D.observed lists_stages (D.shown dir.old) (D.shown dir.new) }
     ensures cause { IsErrOf result LookError.DirFault → Rose (D.shown dir.old).faults (D.shown dir.new).faults }
-    ensures kind { IfErr result IsFault }
+    ensures kind { IfErr result IsLookFault }
     ensures listed { IfOk result (λ done. D.observed ≡ true → AddsListedBetween area (D.shown dir.old) (D.shown dir.new) names.old.items names.new.items) }
 {
     match names_of(alloc, dir, area) {
@@ -47,7 +47,7 @@ fn list_each<D: Dir>(alloc: Global, dir: &mut D) -> Result<Vec<Name>, LookError>
     requires active { IsActive (D.shown dir.old).local }
     ensures only { OnlyLooksFor D.observed lists_stages (D.shown dir.old) (D.shown dir.new) }
     ensures cause { IsErrOf result LookError.DirFault → Rose (D.shown dir.old).faults (D.shown dir.new).faults }
-    ensures kind { IfErr result IsFault }
+    ensures kind { IfErr result IsLookFault }
     ensures listed { IfOk result (λ names. D.observed ≡ true → AreListedBetween stages (D.shown dir.old) (D.shown dir.new) names.items) }
 {
     let mut names = Vec::new(alloc);
@@ -69,7 +69,7 @@ pub fn listed_pods<D: Dir>(alloc: Global, dir: &mut D) -> Result<Vec<PodId>, Loo
     requires active { IsActive (D.shown dir.old).local }
     ensures only { OnlyLooksFor D.observed lists_stages (D.shown dir.old) (D.shown dir.new) }
     ensures cause { IsErrOf result LookError.DirFault → Rose (D.shown dir.old).faults (D.shown dir.new).faults }
-    ensures kind { IfErr result IsFault }
+    ensures kind { IfErr result IsLookFault }
     ensures rise { IfOk result (λ pods. IsStrictlySortedBy (slice_cmp nat_cmp) (pod_names pods.items)) }
     ensures found { IfOk result (λ pods. D.observed ≡ true → FindsPodsBetween (D.shown dir.old) (D.shown dir.new) pods.items) }
     ensures still { IfOk result (λ pods. D.observed ≡ true → FindsStanding (D.shown dir.old) (D.shown dir.new) pods.items) }

@@ -1,10 +1,10 @@
 // The pod that a word means.
 ghost use Rattle.std.specs.Prelude.{◌≡◌, ◌↔◌, true, IfOk, IfErr, IfSome, IsErrOf, IsOk, IsSome, length, filter};
-ghost use Rattle.dir_model.specs.Pods.{pod_of, pod_text};
+ghost use Rattle.dir_model.specs.Pods.{pod_of_text, pod_text};
 ghost use Rattle.dir_trait.specs.Causes.{Rose};
 ghost use Rattle.dir_trait.specs.Local.{IsActive};
 ghost use Rattle.pod_lookup.specs.Looks.{OnlyLooksFor, lists_stages};
-ghost use Rattle.pod_lookup.specs.Choice.{is_meant, the_only, choice, IsChoice, IfAmbiguous, NamesMeant};
+ghost use Rattle.pod_lookup.specs.Choice.{is_meant, the_only, choice, IsLookupAnswer, IfAmbiguous, NamesMeant};
 ghost use Rattle.pod_lookup.specs.Resolved.{IsChosen, IsNoneOf, Existed, AreTheLeast, FindsTheOne, IsSequential};
 
 use crate::listing::listed_pods;
@@ -46,7 +46,7 @@ fn the_only(pods: &[PodId]) -> Result<PodId, LookError>
 }
 
 fn choose(alloc: Global, prefix: PodPrefix, pods: &[PodId]) -> Result<PodId, LookError>
-    ensures chosen { IsChoice result → result ≡ choice prefix pods.now }
+    ensures chosen { IsLookupAnswer result → result ≡ choice prefix pods.now }
     ensures calm { IsErrOf result LookError.DirFault → ⊥ }
 {
     let found = meant(alloc, prefix, pods)?;
@@ -57,7 +57,7 @@ fn choose(alloc: Global, prefix: PodPrefix, pods: &[PodId]) -> Result<PodId, Loo
 fn whole(prefix: PodPrefix) -> Option<PodId>
     ensures some { IsSome result ↔ (length prefix ≡ 36) }
     ensures bytes { IfSome result (λ pod. pod_text pod.bytes ≡ prefix) }
-    ensures is { result ≡ pod_of prefix }
+    ensures is { result ≡ pod_of_text prefix }
 {
     PodId::parse(prefix.as_str())
 }
@@ -75,7 +75,7 @@ pub fn resolve<D: Dir>(alloc: Global, dir: &mut D, prefix: PodPrefix) -> Result<
     ensures unseen { length prefix ≡ 36 → D.shown dir.new ≡ D.shown dir.old }
     ensures same { length prefix ≡ 36 → IfOk result (λ pod. pod_text pod.bytes ≡ prefix) }
     ensures meant { NamesMeant prefix result }
-    ensures chosen { (length prefix ≡ 36 → ⊥) → IsChoice result → D.observed ≡ true
+    ensures chosen { (length prefix ≡ 36 → ⊥) → IsLookupAnswer result → D.observed ≡ true
         → IsChosen prefix result (D.shown dir.old) (D.shown dir.new) }
     ensures existed { (length prefix ≡ 36 → ⊥) → IfOk result (λ pod. D.observed ≡ true
         → Existed pod (D.shown dir.old) (D.shown dir.new)) }
@@ -83,9 +83,9 @@ pub fn resolve<D: Dir>(alloc: Global, dir: &mut D, prefix: PodPrefix) -> Result<
         → IsNoneOf prefix (D.shown dir.old) (D.shown dir.new) }
     ensures several { IfAmbiguous result (λ a b. D.observed ≡ true
         → AreTheLeast prefix a b (D.shown dir.old) (D.shown dir.new)) }
-    ensures found { IsChoice result → D.observed ≡ true
+    ensures found { IsLookupAnswer result → D.observed ≡ true
         → FindsTheOne prefix result (D.shown dir.old) (D.shown dir.new) }
-    ensures quiet { IsChoice result → D.observed ≡ true
+    ensures quiet { IsLookupAnswer result → D.observed ≡ true
         → IsSequential prefix result (D.shown dir.old) (D.shown dir.new) }
 {
     match whole(prefix) {

@@ -6,7 +6,7 @@ ghost use Rattle.std.specs.List.{filter_map};
 ghost use Rattle.std.specs.List.Sorted.{IsStrictlySortedBy};
 ghost use Rattle.std.specs.BTreeSet.{IsOrdered};
 ghost use Rattle.dir_model.specs.Listings.{has_name};
-ghost use Rattle.dir_model.specs.Pods.{pod_of};
+ghost use Rattle.dir_model.specs.Pods.{pod_of_text};
 ghost use Rattle.pod_lookup.specs.Pods.{pods_named};
 
 use dir_trait::{Name, PodId};
@@ -44,7 +44,7 @@ fn sorted_names(alloc: Global, names: &[Name]) -> Result<Vec<Name>, LookError>
 
 // The pods of which these are the names.
 fn parsed(alloc: Global, names: &[Name]) -> Result<Vec<PodId>, LookError>
-    ensures pods { IfOk result (λ pods. pods.items ≡ filter_map pod_of names.now) }
+    ensures pods { IfOk result (λ pods. pods.items ≡ filter_map pod_of_text names.now) }
     ensures memory { IfErr result (λ e. e ≡ LookError.NoMemory) }
 {
     let mut pods = Vec::new(alloc);

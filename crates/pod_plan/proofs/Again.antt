@@ -13,11 +13,11 @@ use Rattle.image_reading.proofs.Widths.{file_after, file_before, told_before}
 use Rattle.image_reading.proofs.Images.{image_before}
 use Rattle.image_reading.specs.declared.file.KeptManifest.{KeptManifest}
 use Rattle.pod_plan.specs.declared.images.StoreImages.{StoreImages}
-use Rattle.pod_plan.specs.Readings.{HasManifest, HaveManifests, KnowsManifest, with_manifest, IsReadAgain, ReadsNext, AreReadAgain, ReadsImages}
+use Rattle.pod_plan.specs.Readings.{ReadsManifestBytes, HaveManifests, KnowsManifest, with_manifest, IsReadAgain, ReadsNextManifest, AreReadAgain, ReadsImages}
 use Rattle.pod_plan.proofs.Zips.{zip_more, zip_length, zip_weaker}
 
 -- the manifest that was read, with the bytes that were kept
-pub kept_manifest : (listed : Stored) (kept : KeptManifest) {old new : DirAt} → ReadsKept listed.key kept old new → HasManifest (with_manifest listed kept.manifest) kept.bytes.items old new
+pub kept_manifest : (listed : Stored) (kept : KeptManifest) {old new : DirAt} → ReadsKept listed.key kept old new → ReadsManifestBytes (with_manifest listed kept.manifest) kept.bytes.items old new
 kept_manifest listed kept r = record { bytes = r.bytes; few = r.few; read = r.read; holds = (sym r.holds.0, r.holds.1) }
 
 pub again_start : {observed : Bool} (listed : List Stored) (read : StoreImages) {d : DirAt} → listed ≡ [] → read.images.items ≡ [] → read.manifests.items ≡ [] → AreReadAgain observed listed read d d
@@ -36,7 +36,7 @@ module _ {observed : Bool} {a b c : DirAt} (ab : OnlyReadsImages observed a b) (
   manifest_later image bytes h = λ t. file_before t (h t) bc
 
   -- one image more
-  pub again_more : (listed more : List Stored) (image : Stored) (before after : StoreImages) → more ≡ listed ++ image ∷ [] → AreReadAgain observed listed before a b → ReadsNext observed image before after b c → AreReadAgain observed more after a c
+  pub again_more : (listed more : List Stored) (image : Stored) (before after : StoreImages) → more ≡ listed ++ image ∷ [] → AreReadAgain observed listed before a b → ReadsNextManifest observed image before after b c → AreReadAgain observed more after a c
   again_more listed more image before after grown known next =
       let fresh : Stored = with_manifest image next.manifest in
       record {
@@ -47,7 +47,7 @@ module _ {observed : Bool} {a b c : DirAt} (ab : OnlyReadsImages observed a b) (
 
 -- the manifests that were read before
 pub manifests_later : {observed : Bool} {a b c : DirAt} (t : observed ≡ true) {listed : List Stored} → OnlyReadsImages observed b c → (read : StoreImages) → AreReadAgain observed listed read a b → HaveManifests read.images.items read.manifests.items a c
-manifests_later {observed} {a} {b} {c} t bc read again = zip_weaker (KnowsManifest observed a b) (λ i m. HasManifest i m a c) (λ i m h. file_before t (h t) bc) read.images.items read.manifests.items again.manifests
+manifests_later {observed} {a} {b} {c} t bc read again = zip_weaker (KnowsManifest observed a b) (λ i m. ReadsManifestBytes i m a c) (λ i m h. file_before t (h t) bc) read.images.items read.manifests.items again.manifests
 
 same_keys : (listed images : List Stored) → AllZip IsReadAgain listed images → keys images ≡ keys listed
 same_keys [] [] same = refl
@@ -56,7 +56,7 @@ same_keys (l ∷ listed) [] same = absurd same
 same_keys (l ∷ listed) (i ∷ images) same =
     ap (λ (ks : List StoreKey). i.key ∷ ks) (same_keys listed images same.1) ∙ ap (λ (k : StoreKey). k ∷ keys listed) (ap (λ (s : Stored). s.key) same.0)
 
-image_again : {old new : DirAt} (listed image : Stored) (bytes : List ℕ) → ReadsImage listed old new → image ≡ with_manifest listed image.manifest → HasManifest image bytes old new → ReadsImage image old new
+image_again : {old new : DirAt} (listed image : Stored) (bytes : List ℕ) → ReadsImage listed old new → image ≡ with_manifest listed image.manifest → ReadsManifestBytes image bytes old new → ReadsImage image old new
 image_again {old} {new} listed image bytes read same m = record {
   manifest = record { bytes = m.bytes; few = m.few; read = m.read; holds = m.holds.1 };
   id = subst (λ (x : Stored). ReadsId x.key x.id old new) (sym same) read.id;
@@ -85,7 +85,7 @@ module _ {observed : Bool} {a b c : DirAt} (ab : OnlyReadsImages observed a b) (
         read = record {
           of_names = same_keys listed read.images.items again.same ∙ first.read.of_names;
           each = each_again a c listed read.images.items read.manifests.items (all_weaker (λ x. ReadsImage x a b) (λ x. ReadsImage x a c) (λ x h. image_before t h bc) listed first.read.each) again.same
-              (zip_weaker (KnowsManifest observed a c) (λ i m. HasManifest i m a c) (λ i m h. h t) read.images.items read.manifests.items manifests_since);
+              (zip_weaker (KnowsManifest observed a c) (λ i m. ReadsManifestBytes i m a c) (λ i m h. h t) read.images.items read.manifests.items manifests_since);
         };
       }
 
@@ -106,8 +106,8 @@ module _ {observed : Bool} {old new : DirAt} (read : StoreImages) (known : Reads
   as_many = zip_length (KnowsManifest observed old new) read.images.items read.manifests.items known.manifests
 
   pub have_manifests : observed ≡ true → HaveManifests read.images.items read.manifests.items old new
-  have_manifests t = zip_weaker (KnowsManifest observed old new) (λ i m. HasManifest i m old new) (λ i m h. h t) read.images.items read.manifests.items known.manifests
+  have_manifests t = zip_weaker (KnowsManifest observed old new) (λ i m. ReadsManifestBytes i m old new) (λ i m h. h t) read.images.items read.manifests.items known.manifests
 
 -- the manifests that were read before something else was
 pub manifests_before : {observed : Bool} (a : DirAt) {b c : DirAt} (t : observed ≡ true) (images : List Stored) (manifests : List (List ℕ)) → HaveManifests images manifests a b → OnlyReadsImages observed b c → HaveManifests images manifests a c
-manifests_before {observed} a {b} {c} t images manifests are bc = zip_weaker (λ i m. HasManifest i m a b) (λ i m. HasManifest i m a c) (λ i m h. file_before t h bc) images manifests are
+manifests_before {observed} a {b} {c} t images manifests are bc = zip_weaker (λ i m. ReadsManifestBytes i m a b) (λ i m. ReadsManifestBytes i m a c) (λ i m h. file_before t h bc) images manifests are

@@ -2,6 +2,7 @@
 use Rattle.std.proofs.Common.{◌≡◌, ◌<◌, ℕ, Bool, true, List, [], ◌∷◌, Option, Some, None, Ok, length, map, get_or, refl, sym, ap, subst, ◌∙◌}
 use Rattle.std.specs.List.{All, AllZip, AllByRecursion, slice_get, cons_option}
 use Rattle.std.proofs.lemmas.List.Elements.{All-nil, All-cons, All-head, All-tail, All-map}
+use Rattle.plain_laws.proofs.Lists.{head_of, tail_of}
 use Rattle.ac_types.specs.declared.image_ref.ImageRef.{ImageRef}
 use Rattle.path_map.specs.Entries.{Entries}
 use Rattle.tree_digest.specs.Listings.{entries_of, lines_of}
@@ -17,7 +18,7 @@ use Rattle.dep_match.specs.Dependencies.{dependency_tree}
 use Rattle.render.specs.Assembly.{own_whitelist, IsAssembly}
 use Rattle.dir_trait.specs.DirCalls.{DirAt}
 use Rattle.folder_building.specs.declared.plan.PlanEntry.{PlanEntry}
-use Rattle.image_reading.specs.Files.{IsManifestOf}
+use Rattle.image_reading.specs.Files.{IsImageManifestOf}
 use Rattle.image_reading.specs.Images.{ReadsImage}
 use Rattle.image_reading.specs.Store.{ReadsStore}
 use Rattle.pod_manifest.specs.Generation.{app_of, picked}
@@ -27,12 +28,12 @@ use Rattle.pod_manifest.proofs.Picks.{all_picked}
 use Rattle.pod_manifest.proofs.PodManifests.{pod_good}
 use Rattle.pod_plan.specs.Choices.{AreTrees}
 use Rattle.pod_plan.specs.Pods.{files_of, IsPod}
-use Rattle.pod_plan.specs.Readings.{HasManifest, HaveManifests}
+use Rattle.pod_plan.specs.Readings.{ReadsManifestBytes, HaveManifests}
 use Rattle.pod_plan.specs.declared.app_root.Root.{Root}
-use Rattle.pod_plan.specs.Roots.{IsRoot, AreRoots}
-use Rattle.pod_plan.specs.Plans.{app_with, apps_with, apps_of, PlansChoice}
+use Rattle.pod_plan.specs.Roots.{IsRootAsRead, AreImageRoots}
+use Rattle.pod_plan.specs.Plans.{app_with_root, apps_with, apps_of, PlansChoice}
 use Rattle.pod_plan.specs.FaithfulPods.{StoreRead, IsRootOf, IsAppOf, read_between, PlansFaithfully}
-use Rattle.pod_plan.proofs.Zips.{zip_at, found_at, head_of, tail_of}
+use Rattle.pod_plan.proofs.Zips.{zip_at, found_at}
 use Rattle.pod_plan.proofs.Keys.{one_with_id}
 use Rattle.pod_plan.proofs.Ready.{picks_within, no_fault, apps_are}
 
@@ -46,7 +47,7 @@ module _ {observed : Bool} (told : observed ≡ true) {old new : DirAt} (images 
   read = read_between images old new
 
   -- ---- an app's root
-  root_of : (place : ℕ) (t : DepTree) (root : Root) → dependency_tree images place ≡ Ok t.nodes → IsRoot observed images old new t root → IsRootOf read place (entries_of root.listing)
+  root_of : (place : ℕ) (t : DepTree) (root : Root) → dependency_tree images place ≡ Ok t.nodes → IsRootAsRead observed images old new t root → IsRootOf read place (entries_of root.listing)
   root_of place t root made is =
       let own = is.rendered.own in
       let whole : root.rendering.map ≡ entries_of root.listing = sym (ap entries_of is.listing ∙ entries_again root.rendering.map) in
@@ -60,20 +61,20 @@ module _ {observed : Bool} (told : observed ≡ true) {old new : DirAt} (images 
 
   -- ---- an app
   app_is : (options : Wishes) (place : ℕ) (image : Stored) (named : RuntimeApp) (t : DepTree) (root : Root) → slice_get images place ≡ Some image → runtime_app_data named ≡ app_of options image
-      → dependency_tree images place ≡ Ok t.nodes → IsRoot observed images old new t root → IsAppOf read (app_of options image) (files_of (app_with named (get_or manifests place []) root))
+      → dependency_tree images place ≡ Ok t.nodes → IsRootAsRead observed images old new t root → IsAppOf read (app_of options image) (files_of (app_with_root named (get_or manifests place []) root))
   app_is options place image named t root at same made is =
-      let m = zip_at (λ x b. HasManifest x b old new) images manifests place image [] bytes at in
+      let m = zip_at (λ x b. ReadsManifestBytes x b old new) images manifests place image [] bytes at in
       record {
         place = place;
         image = image;
         of_image = record { there = at; has_id = refl; only = one_with_id images listed place image at };
         name = ap (λ (d : RuntimeAppData). d.name) same;
         manifest = record { bytes = m.bytes; few = m.few; read = m.read; holds = m.holds.0 };
-        says = subst (λ (b : List ℕ). IsManifestOf image.manifest b) m.holds.0 m.holds.1;
+        says = subst (λ (b : List ℕ). IsImageManifestOf image.manifest b) m.holds.0 m.holds.1;
         root = root_of place t root made is;
       }
 
-  each_app : (options : Wishes) (picks : List ℕ) (ts : List DepTree) (named : List RuntimeApp) (roots : List Root) → All (λ i. i < length images) picks → AreTrees images picks ts → AreRoots observed images old new ts roots
+  each_app : (options : Wishes) (picks : List ℕ) (ts : List DepTree) (named : List RuntimeApp) (roots : List Root) → All (λ i. i < length images) picks → AreTrees images picks ts → AreImageRoots observed images old new ts roots
       → map runtime_app_data named ≡ map (app_of options) (picked images picks) → AllZip (IsAppOf read) (map (app_of options) (picked images picks)) (map files_of (apps_with manifests picks named roots))
   each_app options [] ts named roots within are rooted same = tt
   each_app options (p ∷ picks) [] named roots within are rooted same = let no : ⊥ = cc in absurd no
@@ -92,7 +93,7 @@ module _ {observed : Bool} (told : observed ≡ true) {old new : DirAt} (images 
 
       by : (o : Option Stored) → slice_get images p ≡ o → map runtime_app_data (a ∷ named) ≡ map (app_of options) (cons_option o (picked images picks))
           → (map runtime_app_data named ≡ map (app_of options) (picked images picks) → AllZip (IsAppOf read) (map (app_of options) (picked images picks)) (map files_of (apps_with manifests picks named roots)))
-          → AllZip (IsAppOf read) (map (app_of options) (cons_option o (picked images picks))) (files_of (app_with a (get_or manifests p []) root) ∷ map files_of (apps_with manifests picks named roots))
+          → AllZip (IsAppOf read) (map (app_of options) (cons_option o (picked images picks))) (files_of (app_with_root a (get_or manifests p []) root) ∷ map files_of (apps_with manifests picks named roots))
       by None is h rest = let found = (found_at images p here).1 in let no : ⊥ = cc in absurd no
       by (Some image) is h rest =
           let first = head_of (runtime_app_data a) (app_of options image) (map runtime_app_data named) (map (app_of options) (picked images picks)) h in
@@ -134,7 +135,7 @@ module _ {observed : Bool} (told : observed ≡ true) {old new : DirAt} (images 
       chosen = p.chosen;
       manifests = manifests;
       roots = p.roots;
-      rooted = subst (λ (b : Bool). AreRoots b images old new p.choice.trees p.roots) told p.rooted;
+      rooted = subst (λ (b : Bool). AreImageRoots b images old new p.choice.trees p.roots) told p.rooted;
       planned = p.planned;
       makes = λ entries made. record {
         kind = manifest_good;

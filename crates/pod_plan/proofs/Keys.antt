@@ -12,7 +12,7 @@ use Rattle.ac_types.proofs.IdTexts.{read_text}
 use Rattle.dep_match.specs.declared.stored.Stored.{Stored}
 use Rattle.dep_match.specs.Dependencies.{key_at}
 use Rattle.dir_trait.specs.DirCalls.{DirAt}
-use Rattle.image_reading.specs.Places.{some_key, key_of, keys_among}
+use Rattle.image_reading.specs.Places.{some_key, key_of_name, keys_among}
 use Rattle.image_reading.specs.Images.{ReadsImage}
 use Rattle.image_reading.specs.Store.{keys, ReadsStore}
 use Rattle.pod_plan.proofs.Zips.{each_at}
@@ -29,7 +29,7 @@ not_below_itself n m less same =
     cc
 
 -- a key's name is its text
-name_is : (n : List ℕ) (k : StoreKey) → key_of n ≡ Some k → n ≡ id_text k.bytes
+name_is : (n : List ℕ) (k : StoreKey) → key_of_name n ≡ Some k → n ≡ id_text k.bytes
 name_is n k is = by (id_read 32 n) refl is
   where
     by : (o : Option (List ℕ)) → id_read 32 n ≡ o → some_key o ≡ Some k → n ≡ id_text k.bytes
@@ -38,21 +38,21 @@ name_is n k is = by (id_read 32 n) refl is
         let same : (record { bytes = bytes }) ≡ k = cc in
         read_text 32 n bytes e ∙ ap (λ (q : StoreKey). id_text q.bytes) same
 
-module _ (n : List ℕ) (k : StoreKey) (is : key_of n ≡ Some k) where
+module _ (n : List ℕ) (k : StoreKey) (is : key_of_name n ≡ Some k) where
   others : (ns : List (List ℕ)) → AllByRecursion (λ m. slice_cmp nat_cmp n m ≡ Less) ns → AllByRecursion (λ other. other ≡ k → ⊥) (keys_among ns)
   others [] below = tt
-  others (m ∷ ns) below = by (key_of m) refl (others ns below.1)
+  others (m ∷ ns) below = by (key_of_name m) refl (others ns below.1)
     where
-      by : (o : Option StoreKey) → key_of m ≡ o → AllByRecursion (λ other. other ≡ k → ⊥) (keys_among ns) → AllByRecursion (λ other. other ≡ k → ⊥) (cons_option o (keys_among ns))
+      by : (o : Option StoreKey) → key_of_name m ≡ o → AllByRecursion (λ other. other ≡ k → ⊥) (keys_among ns) → AllByRecursion (λ other. other ≡ k → ⊥) (cons_option o (keys_among ns))
       by None e rest = rest
       by (Some j) e rest = (λ same. not_below_itself n m below.0 (name_is n k is ∙ (ap (λ (q : StoreKey). id_text q.bytes) (sym same) ∙ sym (name_is m j e))), rest)
 
 apart_among : (names : List (List ℕ)) → IsStrictlySortedBy (slice_cmp nat_cmp) names → AreApart (keys_among names)
 unfolding IsStrictlySortedBy
 apart_among [] sorted = tt
-apart_among (n ∷ ns) sorted = by (key_of n) refl sorted.0 (apart_among ns sorted.1)
+apart_among (n ∷ ns) sorted = by (key_of_name n) refl sorted.0 (apart_among ns sorted.1)
   where
-    by : (o : Option StoreKey) → key_of n ≡ o → AllByRecursion (λ m. slice_cmp nat_cmp n m ≡ Less) ns → AreApart (keys_among ns) → AreApart (cons_option o (keys_among ns))
+    by : (o : Option StoreKey) → key_of_name n ≡ o → AllByRecursion (λ m. slice_cmp nat_cmp n m ≡ Less) ns → AreApart (keys_among ns) → AreApart (cons_option o (keys_among ns))
     by None e above rest = rest
     by (Some k) e above rest = (others n k e ns above, rest)
 

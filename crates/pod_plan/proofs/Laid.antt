@@ -22,16 +22,16 @@ use Rattle.render.specs.PlanStates.{IsPlan, PlanStands, wanted_image}
 use Rattle.render.proofs.LayingOrder.{node_left}
 use Rattle.render.proofs.Stacks.{next_within}
 use Rattle.dir_trait.specs.DirCalls.{DirAt}
+use Rattle.dir_trait.specs.Effects.{OnlyAsksAndKeeps}
 use Rattle.dir_model.specs.declared.request.Request.{Request}
-use Rattle.image_reading.specs.Looks.{OnlyAsks}
 use Rattle.image_reading.specs.declared.error.StoreError.{StoreError}
 use Rattle.image_reading.specs.declared.error.StoreError.TheVariants as store
 use Rattle.render.specs.declared.render_error.RenderError.{RenderError as RenderFault}
 use Rattle.pod_plan.specs.declared.plan_error.PlanError.{PlanError}
 use Rattle.pod_plan.specs.declared.plan_error.PlanError.TheVariants.{Damaged, RenderError, DirFault, NoMemory}
 use Rattle.pod_plan.specs.Readings.{KnowsTree}
-use Rattle.pod_plan.specs.Roots.{times, ComesOnce, node_key, HasRead, entries_together, AreFew, LaysNext, IsRendered}
-use Rattle.pod_plan.specs.PlanRefusals.{IsLack, LacksTreeAt, store_refusal, render_refusal}
+use Rattle.pod_plan.specs.Roots.{count_in_list, ComesOnce, node_key, HasReadListings, entries_together, AreFewEntries, LaysNext, IsRendered}
+use Rattle.pod_plan.specs.PlanRefusals.{IsStoreLack, LacksTreeAt, plan_store_refusal, render_refusal}
 use Rattle.pod_plan.specs.RootRefusals.{IsLayRefusal, IsRenderingRefusal}
 use Rattle.pod_plan.proofs.Times.{times_both, times_here, by_number, with_own, own_here, own_other, sum_same, comes_first, push_other, push_apart}
 use Rattle.pod_plan.proofs.Keys.{key_read}
@@ -84,7 +84,7 @@ pub lay_fault : {observed : Bool} (key : StoreKey) (plan : Plan) (map : Entries)
 lay_fault key plan map r TooManyEntries is tells known = (map, known, tells.0 is)
 lay_fault key plan map r render.NoMemory is tells known = tt
 
-pub lay_lack : (observed : Bool) (key : StoreKey) (plan : Plan) (a b : DirAt) (e : StoreError) → IsLack observed (λ path. LacksTreeAt key path a b) e → IsLayRefusal observed key plan (store_refusal e) a b
+pub lay_lack : (observed : Bool) (key : StoreKey) (plan : Plan) (a b : DirAt) (e : StoreError) → IsStoreLack observed (λ path. LacksTreeAt key path a b) e → IsLayRefusal observed key plan (plan_store_refusal e) a b
 lay_lack observed key plan a b (store.Damaged path) lack = lack
 lay_lack observed key plan a b store.DirFault lack = tt
 lay_lack observed key plan a b store.NoMemory lack = tt
@@ -94,9 +94,9 @@ lay_lack observed key plan a b e lack = absurd lack
 pub record IsLaidTo (observed : Bool) (images : List Stored) (nodes : List DepNode) (plan : Plan) (old new : DirAt) : Type 0 where
   pub first : List ℕ
   pub own : ℕ → Entries
-  pub read : HasRead observed images nodes first (nodes_left plan) own old new
+  pub read : HasReadListings observed images nodes first (nodes_left plan) own old new
   pub room : plan.room + entries_together own first ≡ MAX_ENTRIES
-  pub stands : (other : ℕ → Entries) → ((n : ℕ) → 0 < times n first → other n ≡ own n) → PlanStands (own_whitelist nodes images) other plan
+  pub stands : (other : ℕ → Entries) → ((n : ℕ) → 0 < count_in_list n first → other n ≡ own n) → PlanStands (own_whitelist nodes images) other plan
 
 module _ {observed : Bool} (images : List Stored) (nodes : List DepNode) where
   -- nothing is laid
@@ -109,12 +109,12 @@ module _ {observed : Bool} (images : List Stored) (nodes : List DepNode) where
     stands = λ other agrees. stands other;
   }
 
-  module _ (once : ComesOnce nodes) (first others : List ℕ) (own : ℕ → Entries) (next : ℕ) (inside : next < length nodes) (map : Entries) {a b : DirAt} (before : HasRead observed images nodes first (next ∷ others) own a b) where
-    fresh : times next first ≡ 0
+  module _ (once : ComesOnce nodes) (first others : List ℕ) (own : ℕ → Entries) (next : ℕ) (inside : next < length nodes) (map : Entries) {a b : DirAt} (before : HasReadListings observed images nodes first (next ∷ others) own a b) where
+    fresh : count_in_list next first ≡ 0
     fresh = comes_first next (all_down nodes 0) first others (once next inside) before.order
 
     -- one listing more was read
-    pub read_more : KnowsTree observed (node_key images nodes next) map a b → HasRead observed images nodes (first ++ next ∷ []) others (with_own own next map) a b
+    pub read_more : KnowsTree observed (node_key images nodes next) map a b → HasReadListings observed images nodes (first ++ next ∷ []) others (with_own own next map) a b
     read_more known = record {
       order = before.order ∙ sym (append_assoc first (next ∷ []) others);
       read = λ n h. by_number (KnowsTree observed (node_key images nodes n) (with_own own next map n) a b) next n
@@ -138,19 +138,19 @@ module _ {observed : Bool} (images : List Stored) (nodes : List DepNode) where
         ∙ ap (λ (es : Entries). entries_together own first + length es) (own_here own next map)
 
     -- what agrees with it agrees with what was read before
-    pub agrees_before : (other : ℕ → Entries) → ((n : ℕ) → 0 < times n (first ++ next ∷ []) → other n ≡ with_own own next map n) → (n : ℕ) → 0 < times n first → other n ≡ own n
+    pub agrees_before : (other : ℕ → Entries) → ((n : ℕ) → 0 < count_in_list n (first ++ next ∷ []) → other n ≡ with_own own next map n) → (n : ℕ) → 0 < count_in_list n first → other n ≡ own n
     agrees_before other agrees n h =
         agrees n (omega (arith, times_both n first (next ∷ []), h)) ∙ own_other own next map n (push_apart next first fresh n h)
 
-    pub agrees_here : (other : ℕ → Entries) → ((n : ℕ) → 0 < times n (first ++ next ∷ []) → other n ≡ with_own own next map n) → other next ≡ map
+    pub agrees_here : (other : ℕ → Entries) → ((n : ℕ) → 0 < count_in_list n (first ++ next ∷ []) → other n ≡ with_own own next map n) → other next ≡ map
     agrees_here other agrees =
         agrees next (omega (arith, times_both next first (next ∷ []), times_here next [])) ∙ own_here own next map
 
-  module _ {asks : Request → Bool} {Keeps : DirAt → DirAt → Type 0} {a b c : DirAt} (bc : OnlyAsks observed asks Keeps b c) where
-    read_later : (first others : List ℕ) (own : ℕ → Entries) → HasRead observed images nodes first others own a b → HasRead observed images nodes first others own a c
+  module _ {asks : Request → Bool} {Keeps : DirAt → DirAt → Type 0} {a b c : DirAt} (bc : OnlyAsksAndKeeps observed asks Keeps b c) where
+    read_later : (first others : List ℕ) (own : ℕ → Entries) → HasReadListings observed images nodes first others own a b → HasReadListings observed images nodes first others own a c
     read_later first others own is = record { order = is.order; read = λ n h. tree_later (node_key images nodes n) (own n) (is.read n h) bc }
 
-    module _ {others_ask : Request → Bool} {Holds : DirAt → DirAt → Type 0} (ab : OnlyAsks observed others_ask Holds a b) (once : ComesOnce nodes) (plan : Plan) (sound : IsPlan plan) (same : plan.nodes ≡ nodes) (far : IsLaidTo observed images nodes plan a b)
+    module _ {others_ask : Request → Bool} {Holds : DirAt → DirAt → Type 0} (ab : OnlyAsksAndKeeps observed others_ask Holds a b) (once : ComesOnce nodes) (plan : Plan) (sound : IsPlan plan) (same : plan.nodes ≡ nodes) (far : IsLaidTo observed images nodes plan a b)
         (key : StoreKey) (key_is : key ≡ node_key images nodes plan.next) where
       inside : plan.next < length nodes
       inside = subst (λ (ns : List DepNode). plan.next < length ns) same (next_within plan sound)
@@ -158,8 +158,8 @@ module _ {observed : Bool} (images : List Stored) (nodes : List DepNode) where
       known_since : (map : Entries) → KnowsTree observed key map b c → KnowsTree observed (node_key images nodes plan.next) map a c
       known_since map known = tree_since (node_key images nodes plan.next) map ab (subst (λ (k : StoreKey). KnowsTree observed k map b c) key_is known)
 
-      before_next : (others : List ℕ) → nodes_left plan ≡ plan.next ∷ others → HasRead observed images nodes far.first (plan.next ∷ others) far.own a c
-      before_next others left = subst (λ (xs : List ℕ). HasRead observed images nodes far.first xs far.own a c) left (read_later far.first (nodes_left plan) far.own far.read)
+      before_next : (others : List ℕ) → nodes_left plan ≡ plan.next ∷ others → HasReadListings observed images nodes far.first (plan.next ∷ others) far.own a c
+      before_next others left = subst (λ (xs : List ℕ). HasReadListings observed images nodes far.first xs far.own a c) left (read_later far.first (nodes_left plan) far.own far.read)
 
       -- one map more was laid
       pub laid_more : (p : Plan) → LaysNext observed key plan p b c → IsLaidTo observed images nodes p a c
@@ -214,10 +214,10 @@ module _ {observed : Bool} (images : List Stored) (nodes : List DepNode) where
 
     all_read : (n : ℕ) → n < length nodes → KnowsTree observed (node_key images nodes n) (far.own n) a b
     all_read n inside =
-        far.read.read n (omega (arith, subst (λ (xs : List ℕ). times n xs ≡ 1) all (once n inside)))
+        far.read.read n (omega (arith, subst (λ (xs : List ℕ). count_in_list n xs ≡ 1) all (once n inside)))
 
-    all_few : AreFew far.own (all_down nodes 0)
-    all_few = subst (λ (xs : List ℕ). AreFew far.own xs) (sym all) (omega (arith, far.room))
+    all_few : AreFewEntries far.own (all_down nodes 0)
+    all_few = subst (λ (xs : List ℕ). AreFewEntries far.own xs) (sym all) (omega (arith, far.room))
 
     stands : PlanStands (own_whitelist nodes images) far.own plan
     stands = far.stands far.own (λ n h. refl)

@@ -4,7 +4,6 @@ pub mod ChosenPods
 mod AppFiles
 mod Loops
 mod Behind
-mod FileNames
 mod FolderPlans
 mod PodFolders
 mod Roots

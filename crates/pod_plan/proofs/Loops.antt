@@ -6,7 +6,7 @@ use Rattle.std.proofs.lemmas.Grind.{flat_map-append}
 use Rattle.dir_model.proofs.Lists.{all_push}
 use Rattle.folder_building.specs.declared.plan.PlanEntry.{PlanEntry}
 use Rattle.folder_building.specs.declared.plan.Content.TheVariants.{Directory}
-use Rattle.folder_building.specs.TreePlans.{entry_at}
+use Rattle.folder_building.specs.TreePlans.{plan_entry_at}
 use Rattle.pod_plan.specs.declared.pod_app.PodApp.{PodApp}
 use Rattle.pod_plan.specs.AppParts.{IsPlanned}
 use Rattle.pod_plan.specs.PodPlans.{app_entries}
@@ -31,4 +31,4 @@ one_more images apps i d before plan new inside done is known =
 -- the directories so far
 module _ {A : Type 0} (text : A → List ℕ) where
   abbrev pub directory_of : A → PlanEntry
-  directory_of path = entry_at (text path) Directory
+  directory_of path = plan_entry_at (text path) Directory

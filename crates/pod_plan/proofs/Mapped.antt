@@ -3,6 +3,7 @@ use Rattle.std.proofs.Common.{◌≡◌, ℕ, ◌+◌, ◌<◌, List, [], ◌∷
 use Rattle.std.specs.List.{All}
 use Rattle.std.proofs.lemmas.List.{take_more, drop_more, map-append, length-map, take-append-drop}
 use Rattle.std.proofs.lemmas.List.Elements.{All-cons, All-nil}
+use Rattle.plain_laws.proofs.Lists.{head_of, tail_of}
 
 -- one element more on both sides
 pub mapped_more : {A B C : Type 0} (f : A → C) (g : B → C) (xs : List A) (i : ℕ) (d x : A) (ys : List B) (y : B) → i < length xs → x ≡ get_or xs i d
@@ -23,12 +24,6 @@ split_at {A} xs i d x more is =
 -- both lists are equally long
 pub mapped_length : {A B C : Type 0} (f : A → C) (g : B → C) (xs : List A) (ys : List B) → map f xs ≡ map g ys → length ys ≡ length xs
 mapped_length {A} {B} {C} f g xs ys is = sym (length-map ys g) ∙ (ap (λ (zs : List C). length zs) (sym is) ∙ length-map xs f)
-
-head_of : {X : Type 0} (a b : X) (xs ys : List X) → a ∷ xs ≡ b ∷ ys → a ≡ b
-head_of a b xs ys is = cc
-
-tail_of : {X : Type 0} (a b : X) (xs ys : List X) → a ∷ xs ≡ b ∷ ys → xs ≡ ys
-tail_of a b xs ys is = cc
 
 -- each of them is there
 pub all_some : {A B : Type 0} (f : A → Option B) (xs : List A) (ys : List B) → map f xs ≡ map Some ys → All (λ x. IsSome (f x)) xs

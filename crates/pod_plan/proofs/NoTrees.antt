@@ -18,7 +18,7 @@ use Rattle.folder_building.specs.declared.plan.Content.{Content}
 use Rattle.folder_building.specs.declared.plan.Content.TheVariants.{Directory, Given, Copied}
 use Rattle.folder_building.specs.Sources.{in_image, in_images}
 use Rattle.folder_building.specs.Stored.{reads_stored, reads_content, reads_contents}
-use Rattle.folder_building.specs.TreePlans.{entry_at, tree_entry}
+use Rattle.folder_building.specs.TreePlans.{tree_entry}
 use Rattle.image_reading.specs.Places.{tree_name}
 use Rattle.image_reading.specs.Trees.{reads_trees_of}
 use Rattle.image_reading.proofs.Trees.{other_file}

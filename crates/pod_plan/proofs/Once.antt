@@ -15,14 +15,14 @@ use Rattle.dep_match.specs.TreeOrder.{node_at, IsOrderedTree}
 use Rattle.render.specs.Orders.{from_last, all_down}
 use Rattle.render.proofs.LayingOrder.{down_steps}
 use Rattle.pod_plan.specs.Choices.{AreTrees}
-use Rattle.pod_plan.specs.Roots.{times, ComesOnce}
+use Rattle.pod_plan.specs.Roots.{count_in_list, ComesOnce}
 use Rattle.pod_plan.proofs.Times.{times_here, times_other, times_both}
 
 -- ---- lists of numbers that have each of a block once, and no other
 record Fills (first len : ℕ) (xs : List ℕ) : Type 0 where
-  before : (n : ℕ) → n < first → times n xs ≡ 0
-  inside : (n : ℕ) → first ≤ n → n < first + len → times n xs ≡ 1
-  after : (n : ℕ) → first + len ≤ n → times n xs ≡ 0
+  before : (n : ℕ) → n < first → count_in_list n xs ≡ 0
+  inside : (n : ℕ) → first ≤ n → n < first + len → count_in_list n xs ≡ 1
+  after : (n : ℕ) → first + len ≤ n → count_in_list n xs ≡ 0
 
 fills_none : (first : ℕ) → Fills first 0 []
 fills_none first = record { before = λ n h. refl; inside = λ n h g. absurd (omega (arith, h, g)); after = λ n h. refl }
@@ -33,7 +33,7 @@ fills_top first len xs below = record {
   inside = λ n h g. ⊎_elim
       (λ (above : first < n). times_other first n xs (λ same. omega (arith, above, same)) ∙ below.inside n (omega (arith, above)) (omega (arith, g)))
       (λ (not : n ≤ first). let same : first ≡ n = omega (arith, h, not) in
-      subst (λ (m : ℕ). times n (m ∷ xs) ≡ 1) (sym same) (times_here n xs ∙ ap (λ (k : ℕ). 1 + k) (below.before n (omega (arith, not)))))
+      subst (λ (m : ℕ). count_in_list n (m ∷ xs) ≡ 1) (sym same) (times_here n xs ∙ ap (λ (k : ℕ). 1 + k) (below.before n (omega (arith, not)))))
       (cases_lt first n);
   after = λ n h. times_other first n xs (λ same. omega (arith, h, same)) ∙ below.after n (omega (arith, h));
 }

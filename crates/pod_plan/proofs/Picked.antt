@@ -4,7 +4,7 @@ use Rattle.std.proofs.lemmas.List.{drop_more}
 use Rattle.manifests.specs.declared.runtime_app.RuntimeApp.{RuntimeApp}
 use Rattle.pod_plan.specs.declared.app_root.Root.{Root}
 use Rattle.pod_plan.specs.declared.pod_app.PodApp.{PodApp}
-use Rattle.pod_plan.specs.Plans.{app_with, apps_with}
+use Rattle.pod_plan.specs.Plans.{app_with_root, apps_with}
 
 -- so many apps are made, and the others are to be made of the roots that are left
 pub record AreMadeTo (manifests : List (List ℕ)) (picks : List ℕ) (named : List RuntimeApp) (roots : List Root) (i : ℕ) (left : List Root) (apps : List PodApp) : Type 0 where
@@ -20,11 +20,11 @@ module _ (manifests : List (List ℕ)) (picks : List ℕ) (named : List RuntimeA
 
   -- one app more
   pub made_more : (i pick : ℕ) (app : RuntimeApp) (root : Root) (left rest : List Root) (apps more : List PodApp) → i < length picks → i < length named → pick ≡ get_or picks i 0 → app ≡ get_or named i app → left ≡ root ∷ rest
-      → more ≡ apps ++ app_with app (get_or manifests pick []) root ∷ [] → AreMadeTo manifests picks named roots i left apps → AreMadeTo manifests picks named roots (i + 1) rest more
+      → more ≡ apps ++ app_with_root app (get_or manifests pick []) root ∷ [] → AreMadeTo manifests picks named roots i left apps → AreMadeTo manifests picks named roots (i + 1) rest more
   made_more i pick app root left rest apps more within known at is next grown before =
       let ps = drop (i + 1) picks in
       let others = drop (i + 1) named in
-      let x = app_with app (get_or manifests pick []) root in
+      let x = app_with_root app (get_or manifests pick []) root in
       let picked : drop i picks ≡ pick ∷ ps = drop_more picks i 0 within ∙ ap (λ (p : ℕ). p ∷ ps) (sym at) in
       let called : drop i named ≡ app ∷ others = drop_more named i app known ∙ ap (λ (a : RuntimeApp). a ∷ others) (sym is) in
       let whole : apps_with manifests (drop i picks) (drop i named) left ≡ x ∷ apps_with manifests ps others rest =

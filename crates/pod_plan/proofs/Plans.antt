@@ -7,6 +7,7 @@ use Rattle.manifests.specs.ManifestRules.{IsPodManifest}
 use Rattle.manifest_writing.specs.PodObject.{pod_object}
 use Rattle.dep_match.specs.declared.stored.Stored.{Stored}
 use Rattle.dir_trait.specs.DirCalls.{DirAt}
+use Rattle.dir_trait.specs.Effects.{OnlyAsksAndKeeps}
 use Rattle.folder_building.specs.declared.plan.PlanEntry.{PlanEntry}
 use Rattle.image_reading.specs.declared.error.StoreError.{StoreError}
 use Rattle.image_reading.specs.declared.error.StoreError.TheVariants as store
@@ -21,12 +22,11 @@ use Rattle.pod_plan.specs.Pods.{files_of, MakesPod}
 use Rattle.pod_plan.specs.declared.plan_error.PlanError.{PlanError}
 use Rattle.pod_plan.specs.declared.plan_error.PlanError.TheVariants.{Damaged, NoMatch, DepError, GenError, RenderError, ListingError, DirFault, NoMemory}
 use Rattle.dir_model.specs.declared.request.Request.{Request}
-use Rattle.image_reading.specs.Looks.{OnlyAsks}
-use Rattle.pod_plan.specs.Choices.{IsChoice, IsRefused}
+use Rattle.pod_plan.specs.Choices.{IsChoice, IsChoiceRefused}
 use Rattle.pod_plan.specs.declared.app_root.Root.{Root}
-use Rattle.pod_plan.specs.PlanRefusals.{IsLack, LacksPart, store_refusal, choice_refusal}
+use Rattle.pod_plan.specs.PlanRefusals.{IsStoreLack, ReadsLackingPart, plan_store_refusal, choice_refusal}
 use Rattle.pod_plan.specs.RootRefusals.{IsRootsRefusal}
-use Rattle.pod_plan.specs.NoPlans.{LacksRoot, IsUnplanned, MakesNone, IsNoPlan}
+use Rattle.pod_plan.specs.NoPlans.{LacksImageRoot, IsUnplanned, HasNoPlan, IsNoPlan}
 use Rattle.pod_plan.specs.Plans.{folders, apps_of, IsPlanOf, PlansChoice}
 use Rattle.pod_plan.proofs.Rooted.{roots_since, refusals_since}
 
@@ -42,7 +42,7 @@ module _ (images : List Stored) (manifests : List (List ℕ)) (choice : Choice) 
     makes = subst (λ (x : List PodApp). MakesPod now token text (map files_of x) plan) a (subst (λ (x : List ℕ). MakesPod now token x (map files_of apps) plan) b makes);
   }
 
-module _ (observed : Bool) {asks : Request → Bool} {Keeps : DirAt → DirAt → Type 0} (a b c : DirAt) (ab : OnlyAsks observed asks Keeps a b) where
+module _ (observed : Bool) {asks : Request → Bool} {Keeps : DirAt → DirAt → Type 0} (a b c : DirAt) (ab : OnlyAsksAndKeeps observed asks Keeps a b) where
   -- the plan of what was read since
   pub choice_since : {images : List Stored} {manifests : List (List ℕ)} {refs : List ImageRef} {options : Wishes} {now : ℕ} {token : List ℕ} {plan : List PlanEntry}
       → PlansChoice observed images manifests refs options now token plan b c → PlansChoice observed images manifests refs options now token plan a c
@@ -55,7 +55,7 @@ module _ (observed : Bool) {asks : Request → Bool} {Keeps : DirAt → DirAt �
     planned = p.planned;
   }
 
-  root_lacks_since : (images : List Stored) (refs : List ImageRef) (options : Wishes) (e : PlanError) → LacksRoot observed images refs options e b c → LacksRoot observed images refs options e a c
+  root_lacks_since : (images : List Stored) (refs : List ImageRef) (options : Wishes) (e : PlanError) → LacksImageRoot observed images refs options e b c → LacksImageRoot observed images refs options e a c
   root_lacks_since images refs options e l = record { choice = l.choice; chosen = l.chosen; lacks = refusals_since observed images a b c ab l.choice.trees e l.lacks }
 
   unplanned_since : (images : List Stored) (refs : List ImageRef) (options : Wishes) (e : PlanError) → IsUnplanned observed images refs options e b c → IsUnplanned observed images refs options e a c
@@ -72,7 +72,7 @@ module _ (observed : Bool) {asks : Request → Bool} {Keeps : DirAt → DirAt �
   pub none_planned : (images : List Stored) → (observed ≡ true → ReadsStore images a c) → (refs : List ImageRef) (options : Wishes) (e : PlanError) → IsUnplanned observed images refs options e b c → IsNoPlan observed refs options a c e
   none_planned images listed refs options e u = by e (unplanned_since images refs options e u)
     where
-      none : (x : PlanError) → IsUnplanned observed images refs options x a c → MakesNone observed refs options x a c
+      none : (x : PlanError) → IsUnplanned observed images refs options x a c → HasNoPlan observed refs options x a c
       none x h = record { images = images; listed = listed; none = h }
 
       by : (x : PlanError) → IsUnplanned observed images refs options x a c → IsNoPlan observed refs options a c x
@@ -82,7 +82,7 @@ module _ (observed : Bool) {asks : Request → Bool} {Keeps : DirAt → DirAt �
       by x h = none x h
 
 -- they make no pod
-pub unchosen : (observed : Bool) (a b : DirAt) (images : List Stored) (refs : List ImageRef) (options : Wishes) (reason : ChoiceError) → IsRefused images refs options reason → IsUnplanned observed images refs options (choice_refusal reason) a b
+pub unchosen : (observed : Bool) (a b : DirAt) (images : List Stored) (refs : List ImageRef) (options : Wishes) (reason : ChoiceError) → IsChoiceRefused images refs options reason → IsUnplanned observed images refs options (choice_refusal reason) a b
 unchosen observed a b images refs options (choice.NoMatch place) h = record { reason = choice.NoMatch place; is = refl; refused = h }
 unchosen observed a b images refs options (choice.DepError fault) h = record { reason = choice.DepError fault; is = refl; refused = h }
 unchosen observed a b images refs options (choice.GenError refusal) h = record { reason = choice.GenError refusal; is = refl; refused = h }
@@ -100,7 +100,7 @@ unrooted observed a b images refs options c chosen (DepError fault) h = absurd h
 unrooted observed a b images refs options c chosen (GenError refusal) h = absurd h.faulty
 
 -- the images couldn't be read
-pub none_read : (observed : Bool) (refs : List ImageRef) (options : Wishes) (old new : DirAt) (e : StoreError) → IsLack observed (λ path. LacksPart path old new) e → IsNoPlan observed refs options old new (store_refusal e)
+pub none_read : (observed : Bool) (refs : List ImageRef) (options : Wishes) (old new : DirAt) (e : StoreError) → IsStoreLack observed (λ path. ReadsLackingPart path old new) e → IsNoPlan observed refs options old new (plan_store_refusal e)
 none_read observed refs options old new (store.Damaged path) lack = λ t. inl (lack t)
 none_read observed refs options old new store.DirFault lack = tt
 none_read observed refs options old new store.NoMemory lack = tt

@@ -1,11 +1,11 @@
 -- What a choice has: an image and a root for each app, and a name for each that no other has.
 use Rattle.std.proofs.Common.{◌≡◌, ◌<◌, ℕ, suc, Bool, true, false, List, [], ◌∷◌, Option, Some, None, Ok, length, map, refl, sym, ap, subst, ◌∙◌}
 use Rattle.std.specs.Prelude.{bytes_eq, nat_lt, if◌then◌else◌}
-use Rattle.std.specs.List.{All, IsDistinct, position, cons_option}
+use Rattle.std.specs.List.{All, IsDistinct, cons_option}
 use Rattle.std.specs.Option.{option_or}
 use Rattle.std.proofs.lemmas.List.{length-map}
 use Rattle.std.proofs.lemmas.List.Elements.{All-nil, All-cons, All-head, All-tail}
-use Rattle.std.proofs.lemmas.List.Quantifiers.{position-Some}
+use Rattle.plain_laws.proofs.Lists.{head_of, tail_of, position_within}
 use Rattle.ac_types.specs.declared.image_ref.ImageRef.{ImageRef}
 use Rattle.manifests.specs.declared.runtime_app.RuntimeApp.{RuntimeApp}
 use Rattle.manifests.specs.PodData.{PodData, RuntimeAppData, runtime_app_data}
@@ -18,18 +18,14 @@ use Rattle.pod_manifest.specs.Generation.{app_of, picked, name_of, first_fault, 
 use Rattle.pod_manifest.specs.Wishes.{Wishes}
 use Rattle.pod_manifest.proofs.AppsApart.{neither, names_apart}
 use Rattle.pod_plan.specs.declared.choice.Choice.{Choice}
-use Rattle.pod_plan.specs.Choices.{best_of, ArePicks, IsPod, IsChoice}
+use Rattle.pod_plan.specs.Choices.{best_of, ArePicks, IsChosenPod, IsChoice}
 use Rattle.pod_plan.proofs.Mapped.{mapped_length}
 use Rattle.pod_plan.specs.declared.pod_app.PodApp.{PodApp}
 use Rattle.dir_trait.specs.DirCalls.{DirAt}
 use Rattle.pod_plan.specs.declared.app_root.Root.{Root}
-use Rattle.pod_plan.specs.Roots.{IsRoot, AreRoots}
-use Rattle.pod_plan.specs.Plans.{apps_with, apps_of, IsReady}
-use Rattle.pod_plan.proofs.Zips.{zip_length, found_at, head_of, tail_of}
-
-position_within : {X : Type 0} (p : X → Bool) (xs : List X) (i : ℕ) → position p xs ≡ Some i → i < length xs
-position_within p [] i is = let no : ⊥ = cc in absurd no
-position_within p (x ∷ xs) i is = (position-Some p (x ∷ xs) i x is).0
+use Rattle.pod_plan.specs.Roots.{IsRootAsRead, AreImageRoots}
+use Rattle.pod_plan.specs.Plans.{apps_with, apps_of, IsChoiceReady}
+use Rattle.pod_plan.proofs.Zips.{zip_length, found_at}
 
 best_within : (list : List Stored) (wanted : ImageRef) (i : ℕ) → best_of list wanted ≡ Some i → i < length list
 best_within list wanted i is = position_within _ list i is
@@ -65,11 +61,11 @@ no_fault list picks options none = by (nat_lt MAX_APPS (length picks)) none
     by false is = (neither (first_fault [] (picked list picks)) (mount_fault options) is).0
 
 -- the apps of the manifest are those of the images that were picked
-pub apps_are : {list : List Stored} {options : Wishes} (choice : Choice) → IsPod list options choice → map runtime_app_data choice.manifest.apps ≡ map (app_of options) (picked list choice.picks)
+pub apps_are : {list : List Stored} {options : Wishes} (choice : Choice) → IsChosenPod list options choice → map runtime_app_data choice.manifest.apps ≡ map (app_of options) (picked list choice.picks)
 apps_are choice pod = ap (λ (p : PodData). p.apps) pod.manifest
 
 module _ {list : List Stored} (refs : List ImageRef) (options : Wishes) (choice : Choice) (chosen : IsChoice list refs options choice) (count : ℕ) (many : count ≡ length list) where
-  pub is_ready : (observed : Bool) (a b : DirAt) (roots : List Root) → AreRoots observed list a b choice.trees roots → IsReady count choice roots
+  pub is_ready : (observed : Bool) (a b : DirAt) (roots : List Root) → AreImageRoots observed list a b choice.trees roots → IsChoiceReady count choice roots
   is_ready observed a b roots rooted =
       let within = picks_within list refs choice.picks chosen.0 in
       let pod = chosen.1 in
@@ -77,7 +73,7 @@ module _ {list : List Stored} (refs : List ImageRef) (options : Wishes) (choice 
       record {
         within = subst (λ (n : ℕ). All (λ i. i < n) choice.picks) (sym many) within;
         named = sym (length-map choice.manifest.apps runtime_app_data) ∙ (ap (λ (xs : List RuntimeAppData). length xs) apps ∙ (length-map (picked list choice.picks) (app_of options) ∙ picked_length list choice.picks within));
-        rooted = zip_length (IsRoot observed list a b) choice.trees roots rooted ∙ mapped_length (dependency_tree list) (λ (t : DepTree). Ok t.nodes) choice.picks choice.trees pod.dependencies;
+        rooted = zip_length (IsRootAsRead observed list a b) choice.trees roots rooted ∙ mapped_length (dependency_tree list) (λ (t : DepTree). Ok t.nodes) choice.picks choice.trees pod.dependencies;
         names = subst (λ (ns : List (List ℕ)). IsDistinct bytes_eq ns) (sym (apps_have_names options choice.manifest.apps (picked list choice.picks) apps))
             (names_apart [] (picked list choice.picks) (no_fault list choice.picks options pod.accepted)).1;
       }
@@ -91,6 +87,6 @@ names_with manifests (p ∷ picks) [] roots n r = let no : ⊥ = cc in absurd no
 names_with manifests (p ∷ picks) (a ∷ named) [] n r = let no : ⊥ = cc in absurd no
 names_with manifests (p ∷ picks) (a ∷ named) (root ∷ roots) n r = ap (λ (ns : List (List ℕ)). a.name ∷ ns) (names_with manifests picks named roots (cc) (cc))
 
-pub names_differ : (manifests : List (List ℕ)) (count : ℕ) (choice : Choice) (roots : List Root) (apps : List PodApp) → apps ≡ apps_of manifests choice roots → IsReady count choice roots → IsDistinct bytes_eq (map (λ (app : PodApp). app.name) apps)
+pub names_differ : (manifests : List (List ℕ)) (count : ℕ) (choice : Choice) (roots : List Root) (apps : List PodApp) → apps ≡ apps_of manifests choice roots → IsChoiceReady count choice roots → IsDistinct bytes_eq (map (λ (app : PodApp). app.name) apps)
 names_differ manifests count choice roots apps are ready =
     subst (λ (ns : List (List ℕ)). IsDistinct bytes_eq ns) (sym (ap (map (λ (app : PodApp). app.name)) are ∙ names_with manifests choice.picks choice.manifest.apps roots ready.named ready.rooted)) ready.names

@@ -4,23 +4,7 @@ use Rattle.std.specs.Prelude.{IfOk, IfErr, IsErrAnd}
 use Rattle.image_reading.specs.declared.error.StoreError.{StoreError}
 use Rattle.image_reading.specs.declared.error.StoreError.TheVariants.{Damaged, DirFault, NoMemory}
 use Rattle.image_reading.specs.Refusals.{IsReadRefusal}
-use Rattle.pod_plan.specs.PlanRefusals.{IsAnyPath, IsLack}
-
-pub if_ok : {A E : Type 0} (P Q : A → Type 0) (r : Result A E) → ((a : A) → P a → Q a) → IfOk r P → IfOk r Q
-if_ok P Q (Ok a) f h = f a h
-if_ok P Q (Err e) f h = tt
-
-pub if_err : {A E : Type 0} (P Q : E → Type 0) (r : Result A E) → ((e : E) → P e → Q e) → IfErr r P → IfErr r Q
-if_err P Q (Ok a) f h = tt
-if_err P Q (Err e) f h = f e h
-
-pub ok_both : {A E : Type 0} (P Q R : A → Type 0) (r : Result A E) → ((a : A) → P a → Q a → R a) → IfOk r P → IfOk r Q → IfOk r R
-ok_both P Q R (Ok a) f p q = f a p q
-ok_both P Q R (Err e) f p q = tt
-
-pub ok_three : {A E : Type 0} (P Q R S : A → Type 0) (r : Result A E) → ((a : A) → P a → Q a → R a → S a) → IfOk r P → IfOk r Q → IfOk r R → IfOk r S
-ok_three P Q R S (Ok a) f p q h = f a p q h
-ok_three P Q R S (Err e) f p q h = tt
+use Rattle.pod_plan.specs.PlanRefusals.{IsAnyPath, IsStoreLack}
 
 -- an error that is known
 pub err_is : {A E : Type 0} (Q : E → Type 0) (r : Result A E) (x : E) → IsErrAnd r (λ e. e ≡ x) → Q x → IfErr r Q
@@ -32,24 +16,19 @@ pub ok_same : {A E F : Type 0} (P : A → Type 0) (r : Result A E) (other : Resu
 ok_same P r (Ok a) same h = subst (λ x. IfOk x P) (same a refl) h
 ok_same P r (Err e) same h = tt
 
--- the same error in another answer
-pub passed_on : {A B E : Type 0} (P Q : E → Type 0) (r : Result A E) (other : Result B E) → ((e : E) → other ≡ Err e → r ≡ Err e) → ((e : E) → P e → Q e) → IfErr r P → IfErr other Q
-passed_on P Q r (Ok b) same f h = tt
-passed_on P Q r (Err e) same f h = f e (subst (λ x. IfErr x P) (same e refl) h)
-
 module _ (observed : Bool) where
   -- the same lack for another reason
-  pub lack_wider : (P Q : List ℕ → Type 0) (e : StoreError) → (observed ≡ true → (path : List ℕ) → P path → Q path) → IsLack observed P e → IsLack observed Q e
+  pub lack_wider : (P Q : List ℕ → Type 0) (e : StoreError) → (observed ≡ true → (path : List ℕ) → P path → Q path) → IsStoreLack observed P e → IsStoreLack observed Q e
   lack_wider P Q (Damaged path) f is = λ t. f t path (is t)
   lack_wider P Q DirFault f is = tt
   lack_wider P Q NoMemory f is = tt
   lack_wider P Q e f is = absurd is
 
-  pub lack_refusal : (P : List ℕ → Type 0) (e : StoreError) → IsLack observed P e → IsReadRefusal IsAnyPath e
+  pub lack_refusal : (P : List ℕ → Type 0) (e : StoreError) → IsStoreLack observed P e → IsReadRefusal IsAnyPath e
   lack_refusal P (Damaged path) is = tt
   lack_refusal P DirFault is = tt
   lack_refusal P NoMemory is = tt
   lack_refusal P e is = absurd is
 
-  pub lack_memory : (P : List ℕ → Type 0) (e : StoreError) → e ≡ NoMemory → IsLack observed P e
-  lack_memory P e is = subst (λ (x : StoreError). IsLack observed P x) (sym is) tt
+  pub lack_memory : (P : List ℕ → Type 0) (e : StoreError) → e ≡ NoMemory → IsStoreLack observed P e
+  lack_memory P e is = subst (λ (x : StoreError). IsStoreLack observed P x) (sym is) tt

@@ -15,12 +15,12 @@ use Rattle.render.specs.Assembly.{own_whitelist}
 use Rattle.render.proofs.Assemblies.{own_or_made}
 use Rattle.dir_model.specs.declared.request.Request.{Request}
 use Rattle.dir_trait.specs.DirCalls.{DirAt}
-use Rattle.image_reading.specs.Looks.{OnlyAsks}
+use Rattle.dir_trait.specs.Effects.{OnlyAsksAndKeeps}
 use Rattle.pod_plan.proofs.Mapped.{split_at}
 use Rattle.pod_plan.specs.declared.plan_error.PlanError.{PlanError}
 use Rattle.pod_plan.specs.declared.plan_error.PlanError.TheVariants.{Damaged, NoMatch, DepError, GenError, RenderError, ListingError, DirFault, NoMemory}
 use Rattle.pod_plan.specs.declared.app_root.Root.{Root}
-use Rattle.pod_plan.specs.Roots.{node_key, HasRead, IsRendered, IsRoot, AreRoots}
+use Rattle.pod_plan.specs.Roots.{node_key, HasReadListings, IsRendered, IsRootAsRead, AreImageRoots}
 use Rattle.pod_plan.specs.RootRefusals.{IsRenderingRefusal, IsListingRefusal, IsRootRefusal, IsRootsRefusal}
 use Rattle.pod_plan.proofs.Lacks.{tree_since, tree_later, tree_lack_since}
 use Rattle.pod_plan.proofs.Zips.{zip_more, zip_weaker}
@@ -39,7 +39,7 @@ rendered_listable count images nodes r a b order is q entry at =
 
 -- ---- what was read is so still
 module _ (observed : Bool) (images : List Stored) {asks : Request → Bool} {Keeps : DirAt → DirAt → Type 0} (a b c : DirAt) where
-  root_later : OnlyAsks observed asks Keeps b c → (tree : DepTree) (root : Root) → IsRoot observed images a b tree root → IsRoot observed images a c tree root
+  root_later : OnlyAsksAndKeeps observed asks Keeps b c → (tree : DepTree) (root : Root) → IsRootAsRead observed images a b tree root → IsRootAsRead observed images a c tree root
   root_later bc tree root is = record {
     rendered = record {
       own = is.rendered.own;
@@ -53,10 +53,10 @@ module _ (observed : Bool) (images : List Stored) {asks : Request → Bool} {Kee
     kind = is.kind;
   }
 
-  pub roots_later : OnlyAsks observed asks Keeps b c → (trees : List DepTree) (roots : List Root) → AreRoots observed images a b trees roots → AreRoots observed images a c trees roots
-  roots_later bc trees roots are = zip_weaker (IsRoot observed images a b) (IsRoot observed images a c) (root_later bc) trees roots are
+  pub roots_later : OnlyAsksAndKeeps observed asks Keeps b c → (trees : List DepTree) (roots : List Root) → AreImageRoots observed images a b trees roots → AreImageRoots observed images a c trees roots
+  roots_later bc trees roots are = zip_weaker (IsRootAsRead observed images a b) (IsRootAsRead observed images a c) (root_later bc) trees roots are
 
-  rendered_since : OnlyAsks observed asks Keeps a b → (nodes : List DepNode) (r : Rendering) → IsRendered observed images nodes r b c → IsRendered observed images nodes r a c
+  rendered_since : OnlyAsksAndKeeps observed asks Keeps a b → (nodes : List DepNode) (r : Rendering) → IsRendered observed images nodes r b c → IsRendered observed images nodes r a c
   rendered_since ab nodes r is = record {
     own = is.own;
     read = λ n inside. tree_since (node_key images nodes n) (is.own n) ab (is.read n inside);
@@ -66,16 +66,16 @@ module _ (observed : Bool) (images : List Stored) {asks : Request → Bool} {Kee
     sources = is.sources;
   }
 
-  pub root_since : OnlyAsks observed asks Keeps a b → (tree : DepTree) (root : Root) → IsRoot observed images b c tree root → IsRoot observed images a c tree root
+  pub root_since : OnlyAsksAndKeeps observed asks Keeps a b → (tree : DepTree) (root : Root) → IsRootAsRead observed images b c tree root → IsRootAsRead observed images a c tree root
   root_since ab tree root is = record { rendered = rendered_since ab tree.nodes root.rendering is.rendered; listing = is.listing; kind = is.kind }
 
-  pub roots_since : OnlyAsks observed asks Keeps a b → (trees : List DepTree) (roots : List Root) → AreRoots observed images b c trees roots → AreRoots observed images a c trees roots
-  roots_since ab trees roots are = zip_weaker (IsRoot observed images b c) (IsRoot observed images a c) (root_since ab) trees roots are
+  pub roots_since : OnlyAsksAndKeeps observed asks Keeps a b → (trees : List DepTree) (roots : List Root) → AreImageRoots observed images b c trees roots → AreImageRoots observed images a c trees roots
+  roots_since ab trees roots are = zip_weaker (IsRootAsRead observed images b c) (IsRootAsRead observed images a c) (root_since ab) trees roots are
 
-  read_since : OnlyAsks observed asks Keeps a b → (nodes : List DepNode) (first others : List ℕ) (own : ℕ → Entries) → HasRead observed images nodes first others own b c → HasRead observed images nodes first others own a c
+  read_since : OnlyAsksAndKeeps observed asks Keeps a b → (nodes : List DepNode) (first others : List ℕ) (own : ℕ → Entries) → HasReadListings observed images nodes first others own b c → HasReadListings observed images nodes first others own a c
   read_since ab nodes first others own is = record { order = is.order; read = λ n h. tree_since (node_key images nodes n) (own n) ab (is.read n h) }
 
-  pub refusal_since : OnlyAsks observed asks Keeps a b → (nodes : List DepNode) (e : PlanError) → IsRootRefusal observed images nodes e b c → IsRootRefusal observed images nodes e a c
+  pub refusal_since : OnlyAsksAndKeeps observed asks Keeps a b → (nodes : List DepNode) (e : PlanError) → IsRootRefusal observed images nodes e b c → IsRootRefusal observed images nodes e a c
   refusal_since ab nodes (Damaged path) h = λ t.
       let l = h t in
       record {
@@ -104,7 +104,7 @@ module _ (observed : Bool) (images : List Stored) {asks : Request → Bool} {Kee
   refusal_since ab nodes DirFault h = tt
   refusal_since ab nodes NoMemory h = tt
 
-  pub refusals_since : OnlyAsks observed asks Keeps a b → (trees : List DepTree) (e : PlanError) → IsRootsRefusal observed images trees e b c → IsRootsRefusal observed images trees e a c
+  pub refusals_since : OnlyAsksAndKeeps observed asks Keeps a b → (trees : List DepTree) (e : PlanError) → IsRootsRefusal observed images trees e b c → IsRootsRefusal observed images trees e a c
   refusals_since ab trees DirFault h = tt
   refusals_since ab trees NoMemory h = tt
   refusals_since ab trees e h = record {
@@ -119,7 +119,7 @@ module _ (observed : Bool) (images : List Stored) {asks : Request → Bool} {Kee
 
 -- ---- one root
 pub root_made : (observed : Bool) (images : List Stored) (a b : DirAt) (tree : DepTree) (r : Rendering) (root : Root) → IsRendered observed images tree.nodes r a b → root.rendering ≡ r → root.listing ≡ lines_of r.map → IsListing root.listing
-    → IsRoot observed images a b tree root
+    → IsRootAsRead observed images a b tree root
 root_made observed images a b tree r root is same listing kind = record {
   rendered = subst (λ (x : Rendering). IsRendered observed images tree.nodes x a b) (sym same) is;
   listing = listing ∙ ap (λ (x : Rendering). lines_of x.map) (sym same);
@@ -137,20 +137,20 @@ module _ (observed : Bool) (images : List Stored) (nodes : List DepNode) (a b : 
   rendering_refused e h = h
 
 -- ---- several
-pub none_rooted : (observed : Bool) (images : List Stored) (a b : DirAt) (trees : List DepTree) (roots : List Root) → trees ≡ [] → roots ≡ [] → AreRoots observed images a b trees roots
-none_rooted observed images a b trees roots t r = subst (λ (ts : List DepTree). AreRoots observed images a b ts roots) (sym t) (subst (λ (rs : List Root). AreRoots observed images a b [] rs) (sym r) tt)
+pub none_rooted : (observed : Bool) (images : List Stored) (a b : DirAt) (trees : List DepTree) (roots : List Root) → trees ≡ [] → roots ≡ [] → AreImageRoots observed images a b trees roots
+none_rooted observed images a b trees roots t r = subst (λ (ts : List DepTree). AreImageRoots observed images a b ts roots) (sym t) (subst (λ (rs : List Root). AreImageRoots observed images a b [] rs) (sym r) tt)
 
-module _ (observed : Bool) (images : List Stored) {asks others : Request → Bool} {Keeps Holds : DirAt → DirAt → Type 0} (a b c : DirAt) (ab : OnlyAsks observed asks Keeps a b) (bc : OnlyAsks observed others Holds b c) where
+module _ (observed : Bool) (images : List Stored) {asks others : Request → Bool} {Keeps Holds : DirAt → DirAt → Type 0} (a b c : DirAt) (ab : OnlyAsksAndKeeps observed asks Keeps a b) (bc : OnlyAsksAndKeeps observed others Holds b c) where
   -- one root more
-  pub roots_more : (trees more : List DepTree) (roots rooted : List Root) (tree : DepTree) (root : Root) → more ≡ trees ++ tree ∷ [] → rooted ≡ roots ++ root ∷ [] → AreRoots observed images a b trees roots → IsRoot observed images b c tree root
-      → AreRoots observed images a c more rooted
+  pub roots_more : (trees more : List DepTree) (roots rooted : List Root) (tree : DepTree) (root : Root) → more ≡ trees ++ tree ∷ [] → rooted ≡ roots ++ root ∷ [] → AreImageRoots observed images a b trees roots → IsRootAsRead observed images b c tree root
+      → AreImageRoots observed images a c more rooted
   roots_more trees more roots rooted tree root grown pushed before here =
-      subst (λ (ts : List DepTree). AreRoots observed images a c ts rooted) (sym grown)
-      (subst (λ (rs : List Root). AreRoots observed images a c (trees ++ tree ∷ []) rs) (sym pushed)
-      (zip_more (IsRoot observed images a c) trees roots tree root (roots_later observed images a b c bc trees roots before) (root_since observed images a b c ab tree root here)))
+      subst (λ (ts : List DepTree). AreImageRoots observed images a c ts rooted) (sym grown)
+      (subst (λ (rs : List Root). AreImageRoots observed images a c (trees ++ tree ∷ []) rs) (sym pushed)
+      (zip_more (IsRootAsRead observed images a c) trees roots tree root (roots_later observed images a b c bc trees roots before) (root_since observed images a b c ab tree root here)))
 
   -- or the first without one
-  pub first_fault : (trees : List DepTree) (i : ℕ) (tree : DepTree) (roots : List Root) → i < length trees → tree ≡ get_or trees i tree → AreRoots observed images a b (take i trees) roots
+  pub first_fault : (trees : List DepTree) (i : ℕ) (tree : DepTree) (roots : List Root) → i < length trees → tree ≡ get_or trees i tree → AreImageRoots observed images a b (take i trees) roots
       → (e : PlanError) → IsRootRefusal observed images tree.nodes e b c → IsRootsRefusal observed images trees e a c
   first_fault trees i tree roots within is before DirFault h = tt
   first_fault trees i tree roots within is before NoMemory h = tt

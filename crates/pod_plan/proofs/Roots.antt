@@ -14,8 +14,8 @@ use Rattle.tree_digest.specs.declared.line.ListingLine.{ListingLine}
 use Rattle.folder_building.specs.declared.plan.PlanEntry.{PlanEntry}
 use Rattle.folder_building.specs.declared.plan.Content.{Content}
 use Rattle.folder_building.specs.declared.plan.Content.TheVariants.{Directory, Copied}
-use Rattle.folder_building.specs.Plans.{outline, outline_of, has_origin, follows, is_plan_after, AreMade}
-use Rattle.folder_building.specs.TreePlans.{entry_at, tree_entry, tree_entries, CarriesOn, MakesTree}
+use Rattle.folder_building.specs.Plans.{planned_entries, outline_of, has_origin, may_follow_entries, is_plan_after, AreMade}
+use Rattle.folder_building.specs.TreePlans.{plan_entry_at, tree_entry, tree_entries, CarriesOn, MakesTree}
 use Rattle.pod_plan.specs.declared.pod_app.PodApp.{PodApp}
 use Rattle.pod_plan.specs.PodPlans.{image_of, root_entries}
 use Rattle.pod_plan.specs.RootSteps.{from_image, for_file, taken, left}
@@ -99,36 +99,36 @@ module _ (images : List (List ℕ)) (app : PodApp) where
           ∙ ap (λ es. before ++ es) (sym (one_more (take i lines) line) ∙ ap placed (sym (take_more lines i d inside))))))
 
   -- they carry a plan on as the others do
-  follows_as : (before other : List PlanEntry) (path : List ℕ) (content like : Content) → outline before ≡ outline other → has_origin content ≡ has_origin like → follows before (entry_at path content) ≡ true → follows other (entry_at path like) ≡ true
-  follows_as before other path content like same origin h = subst (λ (es : List Entry). (is_path path && (is_new_path path es && has_origin like)) ≡ true) same (subst (λ o. (is_path path && (is_new_path path (outline before) && o)) ≡ true) origin h)
+  follows_as : (before other : List PlanEntry) (path : List ℕ) (content like : Content) → planned_entries before ≡ planned_entries other → has_origin content ≡ has_origin like → may_follow_entries before (plan_entry_at path content) ≡ true → may_follow_entries other (plan_entry_at path like) ≡ true
+  follows_as before other path content like same origin h = subst (λ (es : List Entry). (is_path path && (is_new_path path es && has_origin like)) ≡ true) same (subst (λ o. (is_path path && (is_new_path path (planned_entries before) && o)) ≡ true) origin h)
 
-  outline_more : (before other : List PlanEntry) (e f : PlanEntry) → outline before ≡ outline other → outline_of e ≡ outline_of f → outline (before ++ e ∷ []) ≡ outline (other ++ f ∷ [])
-  outline_more before other e f same is = map-append outline_of before (e ∷ []) ∙ (ap (λ es. es ++ outline_of e ∷ []) same ∙ (ap (λ x. outline other ++ x ∷ []) is ∙ sym (map-append outline_of other (f ∷ []))))
+  outline_more : (before other : List PlanEntry) (e f : PlanEntry) → planned_entries before ≡ planned_entries other → outline_of e ≡ outline_of f → planned_entries (before ++ e ∷ []) ≡ planned_entries (other ++ f ∷ [])
+  outline_more before other e f same is = map-append outline_of before (e ∷ []) ∙ (ap (λ es. es ++ outline_of e ∷ []) same ∙ (ap (λ x. planned_entries other ++ x ∷ []) is ∙ sym (map-append outline_of other (f ∷ []))))
 
-  plan_as : (before other : List PlanEntry) (lines : List ListingLine) → outline before ≡ outline other → is_plan_after before (unplaced lines) ≡ true → is_plan_after other (placed lines) ≡ true
+  plan_as : (before other : List PlanEntry) (lines : List ListingLine) → planned_entries before ≡ planned_entries other → is_plan_after before (unplaced lines) ≡ true → is_plan_after other (placed lines) ≡ true
   plan_as before other [] same h = refl
   plan_as before other (l ∷ lines) same h = by (λ b o s k. plan_as b o lines s k) l.entry h
     where
-      by : ((b o : List PlanEntry) → outline b ≡ outline o → is_plan_after b (unplaced lines) ≡ true → is_plan_after o (placed lines) ≡ true) → (entry : TreeEntry) → is_plan_after before (unplaced (at_entry l entry ∷ lines)) ≡ true → is_plan_after other (placed (at_entry l entry ∷ lines)) ≡ true
+      by : ((b o : List PlanEntry) → planned_entries b ≡ planned_entries o → is_plan_after b (unplaced lines) ≡ true → is_plan_after o (placed lines) ≡ true) → (entry : TreeEntry) → is_plan_after before (unplaced (at_entry l entry ∷ lines)) ≡ true → is_plan_after other (placed (at_entry l entry ∷ lines)) ≡ true
       by rest (Dir meta) h =
-          let e = entry_at (Root ++ l.path) Directory in
-          and_both (follows other e) (is_plan_after (other ++ e ∷ []) (placed lines)) (follows_as before other (Root ++ l.path) Directory Directory same refl (and_left (follows before e) (is_plan_after (before ++ e ∷ []) (unplaced lines)) h))
-          (rest (before ++ e ∷ []) (other ++ e ∷ []) (outline_more before other e e same refl) (and_right (follows before e) (is_plan_after (before ++ e ∷ []) (unplaced lines)) h))
+          let e = plan_entry_at (Root ++ l.path) Directory in
+          and_both (may_follow_entries other e) (is_plan_after (other ++ e ∷ []) (placed lines)) (follows_as before other (Root ++ l.path) Directory Directory same refl (and_left (may_follow_entries before e) (is_plan_after (before ++ e ∷ []) (unplaced lines)) h))
+          (rest (before ++ e ∷ []) (other ++ e ∷ []) (outline_more before other e e same refl) (and_right (may_follow_entries before e) (is_plan_after (before ++ e ∷ []) (unplaced lines)) h))
       by rest (File meta size sha) h =
           let content = Copied (record { folder = None; path = From ++ l.path }) size sha in
           let like = Copied (record { folder = image_of images app l.path; path = From ++ l.path }) size sha in
-          let e = entry_at (Root ++ l.path) content in
-          let f = entry_at (Root ++ l.path) like in
-          and_both (follows other f) (is_plan_after (other ++ f ∷ []) (placed lines)) (follows_as before other (Root ++ l.path) content like same refl (and_left (follows before e) (is_plan_after (before ++ e ∷ []) (unplaced lines)) h))
-          (rest (before ++ e ∷ []) (other ++ f ∷ []) (outline_more before other e f same refl) (and_right (follows before e) (is_plan_after (before ++ e ∷ []) (unplaced lines)) h))
+          let e = plan_entry_at (Root ++ l.path) content in
+          let f = plan_entry_at (Root ++ l.path) like in
+          and_both (may_follow_entries other f) (is_plan_after (other ++ f ∷ []) (placed lines)) (follows_as before other (Root ++ l.path) content like same refl (and_left (may_follow_entries before e) (is_plan_after (before ++ e ∷ []) (unplaced lines)) h))
+          (rest (before ++ e ∷ []) (other ++ f ∷ []) (outline_more before other e f same refl) (and_right (may_follow_entries before e) (is_plan_after (before ++ e ∷ []) (unplaced lines)) h))
       by rest (Link meta target) h = rest before other same h
 
   pub carries_on : (lines : List ListingLine) → CarriesOn Root From (unplaced lines) → CarriesOn Root From (placed lines)
   carries_on lines carries before root =
       let h = carries before root in
-      let e = entry_at Root Directory in
-      and_both (follows before e) (is_plan_after (before ++ e ∷ []) (placed lines)) (and_left (follows before e) (is_plan_after (before ++ e ∷ []) (unplaced lines)) h)
-      (plan_as (before ++ e ∷ []) (before ++ e ∷ []) lines refl (and_right (follows before e) (is_plan_after (before ++ e ∷ []) (unplaced lines)) h))
+      let e = plan_entry_at Root Directory in
+      and_both (may_follow_entries before e) (is_plan_after (before ++ e ∷ []) (placed lines)) (and_left (may_follow_entries before e) (is_plan_after (before ++ e ∷ []) (unplaced lines)) h)
+      (plan_as (before ++ e ∷ []) (before ++ e ∷ []) lines refl (and_right (may_follow_entries before e) (is_plan_after (before ++ e ∷ []) (unplaced lines)) h))
 
   -- and make what the others make
   made_as : (lines : List ListingLine) (entries : List Entry) → AreMade (placed lines) entries → AreMade (unplaced lines) entries

@@ -9,7 +9,7 @@ use Rattle.dir_rules.specs.Marks.{has_slash}
 use Rattle.path_map.specs.Paths.{lies_below as lies_below_path}
 use Rattle.path_map.proofs.Below.{below_rest}
 use Rattle.folder_building.proofs.FilePaths.{no_length}
-use Rattle.pod_plan.specs.PodFiles.{info_directory, manifest_file, stage_directory, tree_file}
+use Rattle.pod_plan.specs.PodFiles.{info_directory, app_manifest_path, stage_directory, tree_file}
 
 -- the path is the directory's, or goes on behind it after a slash
 abbrev pub is_under : List ℕ → List ℕ → Bool
@@ -119,7 +119,7 @@ same_app a b path p q h k = by (is_under (info_directory a) path) (is_under (inf
 pub info_belongs : (name : List ℕ) → belongs name (info_directory name) ≡ true
 info_belongs name = rw (under_itself name) refl
 
-pub manifest_belongs : (name : List ℕ) → belongs name (manifest_file name) ≡ true
+pub manifest_belongs : (name : List ℕ) → belongs name (app_manifest_path name) ≡ true
 manifest_belongs name = rw (under_slash name (codes "manifest")) refl
 
 pub stage_belongs : (name : List ℕ) → belongs name (stage_directory name) ≡ true

@@ -39,9 +39,3 @@ pub each_at : {X : Type 0} (P : X → Type 0) (xs : List X) (i : ℕ) (x : X) �
 each_at P [] i x all is = let no : ⊥ = cc in absurd no
 each_at {X} P (a ∷ xs) zero x all is = let same : a ≡ x = cc in subst P same all.0
 each_at P (a ∷ xs) (suc i) x all is = each_at P xs i x all.1 is
-
-pub head_of : {X : Type 0} (a b : X) (xs ys : List X) → a ∷ xs ≡ b ∷ ys → a ≡ b
-head_of a b xs ys is = cc
-
-pub tail_of : {X : Type 0} (a b : X) (xs ys : List X) → a ∷ xs ≡ b ∷ ys → xs ≡ ys
-tail_of a b xs ys is = cc

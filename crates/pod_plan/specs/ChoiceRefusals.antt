@@ -10,6 +10,6 @@ abbrev pub tree_refusal : DepError → ChoiceError
 tree_refusal dep.NoMemory = choice.NoMemory
 tree_refusal error = choice.DepError error
 
-abbrev pub manifest_refusal : GenError → ChoiceError
-manifest_refusal gen.NoMemory = choice.NoMemory
-manifest_refusal error = choice.GenError error
+abbrev pub choice_manifest_refusal : GenError → ChoiceError
+choice_manifest_refusal gen.NoMemory = choice.NoMemory
+choice_manifest_refusal error = choice.GenError error

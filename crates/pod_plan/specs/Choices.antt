@@ -58,13 +58,13 @@ IsNoTree list pick choice.NoMemory = Unit {0}
 IsNoTree list pick error = ⊥
 
 -- one of them has no tree, or memory ran out
-abbrev pub IsTreeRefusal : List Stored → List ℕ → ChoiceError → Type 0
-IsTreeRefusal list picks (choice.DepError fault) = IsTreeFault list picks fault
-IsTreeRefusal list picks choice.NoMemory = Unit {0}
-IsTreeRefusal list picks error = ⊥
+abbrev pub IsChoiceTreeRefusal : List Stored → List ℕ → ChoiceError → Type 0
+IsChoiceTreeRefusal list picks (choice.DepError fault) = IsTreeFault list picks fault
+IsChoiceTreeRefusal list picks choice.NoMemory = Unit {0}
+IsChoiceTreeRefusal list picks error = ⊥
 
 -- the pod of the images at its places: the tree of dependencies of each, and the manifest
-pub record IsPod (list : List Stored) (options : Wishes) (c : Choice) : Type 0 where
+pub record IsChosenPod (list : List Stored) (options : Wishes) (c : Choice) : Type 0 where
   pub accepted : first_refusal list c.picks options ≡ None
   pub manifest : pod_data c.manifest ≡ pod_of list c.picks options
   pub dependencies : AreTrees list c.picks c.trees
@@ -79,10 +79,10 @@ IsPodRefusal list options picks choice.NoMemory = Unit {0}
 
 -- the pod of the references' best images
 abbrev pub IsChoice : List Stored → List ImageRef → Wishes → Choice → Type 0
-IsChoice list refs options c = ArePicks list refs c.picks × IsPod list options c
+IsChoice list refs options c = ArePicks list refs c.picks × IsChosenPod list options c
 
 -- a reference has no image, or else those images make no pod; or memory ran out
-abbrev pub IsRefused : List Stored → List ImageRef → Wishes → ChoiceError → Type 0
-IsRefused list refs options (choice.NoMatch place) = IsUnmatched list refs place
-IsRefused list refs options choice.NoMemory = Unit {0}
-IsRefused list refs options error = (picks : List ℕ) × ArePicks list refs picks × IsPodRefusal list options picks error
+abbrev pub IsChoiceRefused : List Stored → List ImageRef → Wishes → ChoiceError → Type 0
+IsChoiceRefused list refs options (choice.NoMatch place) = IsUnmatched list refs place
+IsChoiceRefused list refs options choice.NoMemory = Unit {0}
+IsChoiceRefused list refs options error = (picks : List ℕ) × ArePicks list refs picks × IsPodRefusal list options picks error

@@ -19,14 +19,14 @@ use Rattle.dir_rules.specs.declared.seen.Entry.{Entry}
 use Rattle.dir_trait.specs.DirCalls.{DirAt}
 use Rattle.folder_building.specs.declared.plan.PlanEntry.{PlanEntry}
 use Rattle.folder_building.specs.Plans.{AreMade}
-use Rattle.image_reading.specs.Files.{ReadsTree, IsManifestOf, manifest_file}
+use Rattle.image_reading.specs.Files.{ReadsTree, IsImageManifestOf, ReadsManifestFile}
 use Rattle.image_reading.specs.Store.{ReadsStore}
 use Rattle.pod_manifest.specs.Wishes.{Wishes}
 use Rattle.pod_plan.specs.declared.choice.Choice.{Choice}
 use Rattle.pod_plan.specs.Choices.{IsChoice}
 use Rattle.pod_plan.specs.Pods.{AppFiles, IsPod}
 use Rattle.pod_plan.specs.declared.app_root.Root.{Root}
-use Rattle.pod_plan.specs.Roots.{AreRoots}
+use Rattle.pod_plan.specs.Roots.{AreImageRoots}
 use Rattle.pod_plan.specs.Plans.{IsPlanOf}
 
 -- what a maker read in the store: the images that it listed, and of which bytes a manifest is and which lines a listing,
@@ -61,7 +61,7 @@ pub record IsAppOf (read : StoreRead) (app : RuntimeAppData) (files : AppFiles) 
   pub of_image : IsImageOf read.images app place image
   pub name : files.name ≡ app.name
   pub manifest : read.manifest image.key files.manifest
-  pub says : IsManifestOf image.manifest files.manifest
+  pub says : IsImageManifestOf image.manifest files.manifest
   pub root : IsRootOf read place (entries_of files.listing)
 
 -- the entries are those of a pod of this manifest, moment and token, each of its apps made of what was read
@@ -78,7 +78,7 @@ IsFaithfulPod read now token entries = (manifest : PodData) × IsPodOf read mani
 abbrev pub read_between : List Stored → DirAt → DirAt → StoreRead
 read_between images old new = record {
   images = images;
-  manifest = λ key bytes. manifest_file key (λ read. read ≡ bytes) old new;
+  manifest = λ key bytes. ReadsManifestFile key (λ read. read ≡ bytes) old new;
   tree = λ key lines. ReadsTree key lines old new;
 }
 
@@ -91,6 +91,6 @@ pub record PlansFaithfully (refs : List ImageRef) (options : Wishes) (now : ℕ)
   pub chosen : IsChoice images refs options choice
   pub manifests : List (List ℕ)
   pub roots : List Root
-  pub rooted : AreRoots true images old new choice.trees roots
+  pub rooted : AreImageRoots true images old new choice.trees roots
   pub planned : IsPlanOf images manifests choice roots now token plan
   pub makes : (entries : List Entry) → AreMade plan entries → IsPodOf (read_between images old new) (pod_data choice.manifest) now token entries

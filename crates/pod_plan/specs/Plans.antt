@@ -18,35 +18,35 @@ use Rattle.pod_plan.specs.PodPlans.{pod_entries}
 use Rattle.pod_plan.specs.Pods.{files_of, MakesPod}
 use Rattle.dir_trait.specs.DirCalls.{DirAt}
 use Rattle.pod_plan.specs.declared.app_root.Root.{Root}
-use Rattle.pod_plan.specs.Roots.{AreRoots}
+use Rattle.pod_plan.specs.Roots.{AreImageRoots}
 
 -- the names of the images' folders
 abbrev pub folders : List Stored → List (List ℕ)
 folders images = map (λ (image : Stored). id_text image.key.bytes) images
 
 -- an app of the pod, with its image's manifest and its root
-abbrev pub app_with : RuntimeApp → List ℕ → Root → PodApp
-app_with named manifest root = record { name = named.name; manifest = manifest; rendering = root.rendering; listing = root.listing }
+abbrev pub app_with_root : RuntimeApp → List ℕ → Root → PodApp
+app_with_root named manifest root = record { name = named.name; manifest = manifest; rendering = root.rendering; listing = root.listing }
 
 -- the apps of the images that were picked
 abbrev pub apps_with : List (List ℕ) → List ℕ → List RuntimeApp → List Root → List PodApp
 apps_with manifests [] named roots = []
 apps_with manifests (pick ∷ picks) [] roots = []
 apps_with manifests (pick ∷ picks) (app ∷ named) [] = []
-apps_with manifests (pick ∷ picks) (app ∷ named) (root ∷ roots) = app_with app (slice_index_or manifests pick []) root ∷ apps_with manifests picks named roots
+apps_with manifests (pick ∷ picks) (app ∷ named) (root ∷ roots) = app_with_root app (slice_index_or manifests pick []) root ∷ apps_with manifests picks named roots
 
 abbrev pub apps_of : List (List ℕ) → Choice → List Root → List PodApp
 apps_of manifests choice roots = apps_with manifests choice.picks choice.manifest.apps roots
 
 -- each of its apps has a root and an image among so many, and no two have one name
-pub record IsReady (count : ℕ) (choice : Choice) (roots : List Root) : Type 0 where
+pub record IsChoiceReady (count : ℕ) (choice : Choice) (roots : List Root) : Type 0 where
   pub within : All (λ pick. pick < count) choice.picks
   pub named : length choice.manifest.apps ≡ length choice.picks
   pub rooted : length roots ≡ length choice.picks
   pub names : IsDistinct bytes_eq (map (λ (app : RuntimeApp). app.name) choice.manifest.apps)
 
 -- the text of its manifest, and its apps
-pub record ArePartsOf (manifests : List (List ℕ)) (choice : Choice) (roots : List Root) (text : List ℕ) (apps : List PodApp) : Type 0 where
+pub record ArePlanParts (manifests : List (List ℕ)) (choice : Choice) (roots : List Root) (text : List ℕ) (apps : List PodApp) : Type 0 where
   pub written : IsPodManifest (pod_data choice.manifest) → text ≡ compact_text (pod_object (pod_data choice.manifest))
   pub made : apps ≡ apps_of manifests choice roots
 
@@ -63,5 +63,5 @@ pub record PlansChoice (observed : Bool) (images : List Stored) (manifests : Lis
   pub wishes : AreWishes options
   pub chosen : IsChoice images refs options choice
   pub roots : List Root
-  pub rooted : AreRoots observed images old new choice.trees roots
+  pub rooted : AreImageRoots observed images old new choice.trees roots
   pub planned : IsPlanOf images manifests choice roots now token plan

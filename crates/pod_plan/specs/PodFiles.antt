@@ -14,8 +14,8 @@ token_text token = encode_lower token
 abbrev pub info_directory : List ℕ → List ℕ
 info_directory name = codes "appsinfo/" ++ name
 
-abbrev pub manifest_file : List ℕ → List ℕ
-manifest_file name = codes "appsinfo/" ++ (name ++ codes "/manifest")
+abbrev pub app_manifest_path : List ℕ → List ℕ
+app_manifest_path name = codes "appsinfo/" ++ (name ++ codes "/manifest")
 
 -- the directory of an app's root, with the root's listing
 abbrev pub stage_directory : List ℕ → List ℕ
@@ -30,20 +30,20 @@ shared_directories =
     codes "appsinfo" ∷ codes "stage1" ∷ codes "stage1/rootfs" ∷ codes "stage1/rootfs/opt" ∷ codes "stage1/rootfs/opt/stage2"
     ∷ codes "stage1/rootfs/rkt" ∷ status_directory ∷ []
 
-abbrev pub is_one_of : List (List ℕ) → List ℕ → Bool
-is_one_of paths path = list_any (bytes_eq path) paths
+abbrev pub is_path_among : List (List ℕ) → List ℕ → Bool
+is_path_among paths path = list_any (bytes_eq path) paths
 
 -- a directory, or else a file, that a pod has whatever its apps are
 abbrev pub is_shared_place : ℕ → Bool → List ℕ → Bool
 is_shared_place now directory path =
-    cond directory (is_one_of shared_directories path) (is_one_of (created_mark now ∷ codes "token" ∷ codes "pod" ∷ []) path)
+    cond directory (is_path_among shared_directories path) (is_path_among (created_mark now ∷ codes "token" ∷ codes "pod" ∷ []) path)
 
 -- a directory, or else a file, of an app: beside its root, the root, and anything below it
 abbrev pub is_app_place : List ℕ → Bool → List ℕ → Bool
 is_app_place name directory path =
-    cond directory (is_one_of (info_directory name ∷ stage_directory name ∷ app_root name ∷ []) path) (is_one_of (manifest_file name ∷ tree_file name ∷ []) path)
+    cond directory (is_path_among (info_directory name ∷ stage_directory name ∷ app_root name ∷ []) path) (is_path_among (app_manifest_path name ∷ tree_file name ∷ []) path)
     || lies_below path (app_root name)
 
 -- a directory, or else a file, of a pod with these apps
-abbrev pub is_pod_place : ℕ → List (List ℕ) → Bool → List ℕ → Bool
-is_pod_place now names directory path = is_shared_place now directory path || list_any (λ name. is_app_place name directory path) names
+abbrev pub is_pod_path : ℕ → List (List ℕ) → Bool → List ℕ → Bool
+is_pod_path now names directory path = is_shared_place now directory path || list_any (λ name. is_app_place name directory path) names

@@ -13,11 +13,11 @@ use Rattle.tree_digest.specs.Listings.{listing_text}
 use Rattle.folder_building.specs.declared.plan.PlanEntry.{PlanEntry}
 use Rattle.folder_building.specs.declared.plan.Content.TheVariants.{Directory}
 use Rattle.folder_building.specs.Plans.{AreMade, are_in_turn}
-use Rattle.folder_building.specs.TreePlans.{entry_at, tree_entry}
+use Rattle.folder_building.specs.TreePlans.{plan_entry_at, tree_entry}
 use Rattle.folder_building.specs.ImagePlans.{given_file}
 use Rattle.render.specs.Layers.{source_at}
 use Rattle.pod_plan.specs.declared.pod_app.PodApp.{PodApp}
-use Rattle.pod_plan.specs.PodFiles.{token_text, info_directory, manifest_file, stage_directory, tree_file, shared_directories}
+use Rattle.pod_plan.specs.PodFiles.{token_text, info_directory, app_manifest_path, stage_directory, tree_file, shared_directories}
 
 -- the folder of the image at a place in the list of images
 abbrev pub image_at : List (List ℕ) → Option ℕ → Option (List ℕ)
@@ -35,19 +35,19 @@ root_entries images app lines = filter_map (λ line. tree_entry (app_root app.na
 -- an app's files: its image's manifest, its listing, and its root
 abbrev pub app_entries : List (List ℕ) → PodApp → List PlanEntry
 app_entries images app =
-    entry_at (info_directory app.name) Directory ∷ given_file (manifest_file app.name) app.manifest
-    ∷ entry_at (stage_directory app.name) Directory ∷ given_file (tree_file app.name) (listing_text app.listing)
-    ∷ entry_at (app_root app.name) Directory ∷ root_entries images app app.listing
+    plan_entry_at (info_directory app.name) Directory ∷ given_file (app_manifest_path app.name) app.manifest
+    ∷ plan_entry_at (stage_directory app.name) Directory ∷ given_file (tree_file app.name) (listing_text app.listing)
+    ∷ plan_entry_at (app_root app.name) Directory ∷ root_entries images app app.listing
 
 -- the mark of the pod's creation, its token, and the directories that any pod has
-abbrev pub head_entries : ℕ → List ℕ → List PlanEntry
-head_entries now token =
-    given_file (created_mark now) [] ∷ given_file (codes "token") (token_text token) ∷ map (λ path. entry_at path Directory) shared_directories
+abbrev pub pod_head_entries : ℕ → List ℕ → List PlanEntry
+pod_head_entries now token =
+    given_file (created_mark now) [] ∷ given_file (codes "token") (token_text token) ∷ map (λ path. plan_entry_at path Directory) shared_directories
 
 -- then the files of each app, and the pod manifest last
 abbrev pub pod_entries : ℕ → List ℕ → List ℕ → List (List ℕ) → List PodApp → List PlanEntry
 pod_entries now token manifest images apps =
-    head_entries now token ++ (flat_map (app_entries images) apps ++ given_file (codes "pod") manifest ∷ [])
+    pod_head_entries now token ++ (flat_map (app_entries images) apps ++ given_file (codes "pod") manifest ∷ [])
 
 -- the plan comes in the order in which the rules let the maker of a pod fill it, where its moment is this
 abbrev pub ComesInTurn : ℕ → List PlanEntry → Type 0

@@ -8,13 +8,13 @@ use Rattle.tree_digest.specs.declared.line.ListingLine.{ListingLine}
 use Rattle.tree_digest.specs.Listings.{entries_of, AreListable}
 use Rattle.dep_match.specs.declared.stored.Stored.{Stored}
 use Rattle.dir_trait.specs.DirCalls.{DirAt}
-use Rattle.image_reading.specs.Files.{IsManifestOf, manifest_file, ReadsTree}
+use Rattle.image_reading.specs.Files.{IsImageManifestOf, ReadsManifestFile, ReadsTree}
 use Rattle.image_reading.specs.Store.{ReadsStore}
 use Rattle.pod_plan.specs.declared.images.StoreImages.{StoreImages}
 
 -- these bytes were read, and the image has the manifest that they are
-abbrev pub HasManifest : Stored → List ℕ → DirAt → DirAt → Type 0
-HasManifest image bytes old new = manifest_file image.key (λ read. (read ≡ bytes) × IsManifestOf image.manifest read) old new
+abbrev pub ReadsManifestBytes : Stored → List ℕ → DirAt → DirAt → Type 0
+ReadsManifestBytes image bytes old new = ReadsManifestFile image.key (λ read. (read ≡ bytes) × IsImageManifestOf image.manifest read) old new
 
 -- a listing of these entries was read
 abbrev pub HasTree : StoreKey → Entries → DirAt → DirAt → Type 0
@@ -22,11 +22,11 @@ HasTree key map old new = (lines : List ListingLine) × ReadsTree key lines old 
 
 -- the same of the manifest of each image of a list
 abbrev pub HaveManifests : List Stored → List (List ℕ) → DirAt → DirAt → Type 0
-HaveManifests images manifests old new = AllZip (λ image bytes. HasManifest image bytes old new) images manifests
+HaveManifests images manifests old new = AllZip (λ image bytes. ReadsManifestBytes image bytes old new) images manifests
 
 -- what is known of an image's manifest, where the directory is observed
 abbrev pub KnowsManifest : Bool → DirAt → DirAt → Stored → List ℕ → Type 0
-KnowsManifest observed old new image bytes = observed ≡ true → HasManifest image bytes old new
+KnowsManifest observed old new image bytes = observed ≡ true → ReadsManifestBytes image bytes old new
 
 -- and of a tree, which is a map whose entries may be listed
 pub record KnowsTree (observed : Bool) (key : StoreKey) (map : Entries) (old new : DirAt) : Type 0 where
@@ -42,16 +42,16 @@ abbrev pub IsReadAgain : Stored → Stored → Type 0
 IsReadAgain listed image = image ≡ with_manifest listed image.manifest
 
 -- an image was added, with the bytes of its manifest
-pub record Adds (image : Stored) (bytes : List ℕ) (before after : StoreImages) : Type 0 where
+pub record AddsReadImage (image : Stored) (bytes : List ℕ) (before after : StoreImages) : Type 0 where
   pub images : after.images.items ≡ before.images.items ++ image ∷ []
   pub manifests : after.manifests.items ≡ before.manifests.items ++ bytes ∷ []
 
 -- the same, as it was read
-pub record ReadsNext (observed : Bool) (listed : Stored) (before after : StoreImages) (old new : DirAt) : Type 0 where
+pub record ReadsNextManifest (observed : Bool) (listed : Stored) (before after : StoreImages) (old new : DirAt) : Type 0 where
   pub manifest : ImageManifest
   pub bytes : List ℕ
-  pub adds : Adds (with_manifest listed manifest) bytes before after
-  pub manifest_read : observed ≡ true → HasManifest (with_manifest listed manifest) bytes old new
+  pub adds : AddsReadImage (with_manifest listed manifest) bytes before after
+  pub manifest_read : observed ≡ true → ReadsManifestBytes (with_manifest listed manifest) bytes old new
 
 -- each image of a list was read once more
 pub record AreReadAgain (observed : Bool) (listed : List Stored) (read : StoreImages) (old new : DirAt) : Type 0 where

@@ -17,7 +17,7 @@ use Rattle.pod_plan.specs.declared.plan_error.PlanError.TheVariants.{Damaged, Re
 use Rattle.pod_plan.specs.declared.app_root.Root.{Root}
 use Rattle.pod_plan.specs.Readings.{KnowsTree}
 use Rattle.pod_plan.specs.PlanRefusals.{LacksTreeAt}
-use Rattle.pod_plan.specs.Roots.{node_key, HasRead, entries_together, AreFew, IsRendered, AreRoots}
+use Rattle.pod_plan.specs.Roots.{node_key, HasReadListings, entries_together, AreFewEntries, IsRendered, AreImageRoots}
 
 -- the listing isn't there or has no reading; or it has more entries than the plan has room for; or the directory failed,
 -- or memory ran out
@@ -35,8 +35,8 @@ pub record LacksNext (observed : Bool) (images : List Stored) (nodes : List DepN
   pub next : ℕ
   pub others : List ℕ
   pub own : ℕ → Entries
-  pub read : HasRead observed images nodes first (next ∷ others) own old new
-  pub few : AreFew own first
+  pub read : HasReadListings observed images nodes first (next ∷ others) own old new
+  pub few : AreFewEntries own first
   pub lacks : LacksTreeAt (node_key images nodes next) path old new
 
 -- listings of the first nodes were read, which have few enough entries together, and then that of the next, maybe the last
@@ -46,8 +46,8 @@ pub record HasTooMany (observed : Bool) (images : List Stored) (nodes : List Dep
   pub next : ℕ
   pub others : List ℕ
   pub own : ℕ → Entries
-  pub read : HasRead observed images nodes (first ++ next ∷ []) others own old new
-  pub few : AreFew own first
+  pub read : HasReadListings observed images nodes (first ++ next ∷ []) others own old new
+  pub few : AreFewEntries own first
   pub many : MAX_ENTRIES < entries_together own (first ++ next ∷ [])
 
 -- a tree has no rendering: a listing is lacking, or there are too many entries; or the directory failed, or memory ran out
@@ -83,7 +83,7 @@ pub record IsFirstRootFault (observed : Bool) (images : List Stored) (trees : Li
   pub is : trees ≡ before ++ tree ∷ after
   pub faulty : IsRootRefusal observed images tree.nodes error old new
   pub roots : List Root
-  pub earlier : AreRoots observed images old new before roots
+  pub earlier : AreImageRoots observed images old new before roots
 
 -- one of the trees gives no root; or the directory failed, or memory ran out
 abbrev pub IsRootsRefusal : Bool → List Stored → List DepTree → PlanError → DirAt → DirAt → Type 0

@@ -17,17 +17,17 @@ abbrev pub from_image : Option (List ℕ) → PlanEntry → PlanEntry
 from_image image e = record { path = e.path; content = content_from image e.content }
 
 -- the first of the entries, and those that are left. For a link none was made
-abbrev pub first_of : List PlanEntry → Option PlanEntry
-first_of [] = None
-first_of (e ∷ es) = Some e
+abbrev pub first_plan_entry : List PlanEntry → Option PlanEntry
+first_plan_entry [] = None
+first_plan_entry (e ∷ es) = Some e
 
 abbrev pub others_of : List PlanEntry → List PlanEntry
 others_of [] = []
 others_of (e ∷ es) = es
 
 abbrev pub taken : Entry → List PlanEntry → Option PlanEntry
-taken (Dir meta) es = first_of es
-taken (File meta size sha) es = first_of es
+taken (Dir meta) es = first_plan_entry es
+taken (File meta size sha) es = first_plan_entry es
 taken (Link meta target) es = None
 
 abbrev pub left : Entry → List PlanEntry → List PlanEntry

@@ -23,13 +23,13 @@ use Rattle.pod_plan.specs.declared.app_root.Root.{Root}
 use Rattle.pod_plan.specs.Readings.{KnowsTree}
 
 -- how often a number stands in a list
-abbrev pub times : ℕ → List ℕ → ℕ
-times n [] = 0
-times n (m ∷ ms) = (if m == n then 1 else 0) + times n ms
+abbrev pub count_in_list : ℕ → List ℕ → ℕ
+count_in_list n [] = 0
+count_in_list n (m ∷ ms) = (if m == n then 1 else 0) + count_in_list n ms
 
 -- in the order in which listings are wanted each node comes once
 abbrev pub ComesOnce : List DepNode → Type 0
-ComesOnce nodes = (n : ℕ) → n < length nodes → times n (all_down nodes 0) ≡ 1
+ComesOnce nodes = (n : ℕ) → n < length nodes → count_in_list n (all_down nodes 0) ≡ 1
 
 -- the key of a node's image
 abbrev pub node_key : List Stored → List DepNode → ℕ → StoreKey
@@ -37,17 +37,17 @@ node_key images nodes n = key_at images (node_at nodes n).image
 
 -- in the order in which listings are wanted some nodes come first, and then others; of the image of each of the first a
 -- listing was read, and these are its entries
-pub record HasRead (observed : Bool) (images : List Stored) (nodes : List DepNode) (first others : List ℕ) (own : ℕ → Entries) (old new : DirAt) : Type 0 where
+pub record HasReadListings (observed : Bool) (images : List Stored) (nodes : List DepNode) (first others : List ℕ) (own : ℕ → Entries) (old new : DirAt) : Type 0 where
   pub order : all_down nodes 0 ≡ first ++ others
-  pub read : (n : ℕ) → 0 < times n first → KnowsTree observed (node_key images nodes n) (own n) old new
+  pub read : (n : ℕ) → 0 < count_in_list n first → KnowsTree observed (node_key images nodes n) (own n) old new
 
 -- how many entries some nodes have together
 abbrev pub entries_together : (ℕ → Entries) → List ℕ → ℕ
 entries_together own nodes = sum_by (λ n. length (own n)) nodes
 
 -- they are few enough for one root
-abbrev pub AreFew : (ℕ → Entries) → List ℕ → Type 0
-AreFew own nodes = entries_together own nodes ≤ MAX_ENTRIES
+abbrev pub AreFewEntries : (ℕ → Entries) → List ℕ → Type 0
+AreFewEntries own nodes = entries_together own nodes ≤ MAX_ENTRIES
 
 -- a map was laid as the next of a plan
 pub record Lays (before : Plan) (map : Entries) (after : Plan) : Type 0 where
@@ -68,17 +68,17 @@ pub record LaysNext (observed : Bool) (key : StoreKey) (before after : Plan) (ol
 pub record IsRendered (observed : Bool) (images : List Stored) (nodes : List DepNode) (r : Rendering) (old new : DirAt) : Type 0 where
   pub own : ℕ → Entries
   pub read : (n : ℕ) → n < length nodes → KnowsTree observed (node_key images nodes n) (own n) old new
-  pub few : AreFew own (all_down nodes 0)
+  pub few : AreFewEntries own (all_down nodes 0)
   pub rendering : IsAssembly nodes (own_whitelist nodes images) own (length nodes) 0 r.map
   pub sourced : IsPut nodes (own_whitelist nodes images) own (length nodes) 0 r
   pub sources : HasNodeSources nodes own (entry_at r.map) (source_at r)
 
 -- the root of an image with this tree: that, and the listing of it, which isn't too large
-pub record IsRoot (observed : Bool) (images : List Stored) (old new : DirAt) (tree : DepTree) (root : Root) : Type 0 where
+pub record IsRootAsRead (observed : Bool) (images : List Stored) (old new : DirAt) (tree : DepTree) (root : Root) : Type 0 where
   pub rendered : IsRendered observed images tree.nodes root.rendering old new
   pub listing : root.listing ≡ lines_of root.rendering.map
   pub kind : IsListing root.listing
 
 -- the root of each image, in order
-abbrev pub AreRoots : Bool → List Stored → DirAt → DirAt → List DepTree → List Root → Type 0
-AreRoots observed images old new trees roots = AllZip (IsRoot observed images old new) trees roots
+abbrev pub AreImageRoots : Bool → List Stored → DirAt → DirAt → List DepTree → List Root → Type 0
+AreImageRoots observed images old new trees roots = AllZip (IsRootAsRead observed images old new) trees roots

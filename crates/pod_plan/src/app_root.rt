@@ -8,12 +8,12 @@ ghost use Rattle.dir_model.specs.Causes.{Rose};
 ghost use Rattle.dir_model.specs.Local.{IsActive};
 ghost use Rattle.image_reading.specs.Looks.{OnlyReadsImages};
 ghost use Rattle.image_reading.specs.Trees.{ReadsTreesOf};
-ghost use Rattle.pod_plan.specs.Roots.{ComesOnce, IsRoot, AreRoots};
+ghost use Rattle.pod_plan.specs.Roots.{ComesOnce, IsRootAsRead, AreImageRoots};
 ghost use Rattle.pod_plan.specs.PickedTrees.{node_keys, tree_keys};
 ghost use Rattle.pod_plan.specs.RootRefusals.{IsListingRefusal, IsRootRefusal, IsRootsRefusal};
 
-use crate::plan_error::{PlanError, listing_refusal};
 use crate::laying::read_rendering;
+use crate::plan_error::{PlanError, listing_refusal};
 use ac_types::Sequence;
 use dep_match::{DepTree, Stored};
 use dir_trait::Dir;
@@ -61,7 +61,7 @@ fn read_root<D: Dir>(
     ensures cause { IsErrOf result PlanError.DirFault → Rose (D.shown dir.old).faults (D.shown dir.new).faults }
     ensures only { OnlyReadsImages D.observed (D.shown dir.old) (D.shown dir.new) }
     ensures trees { ReadsTreesOf D.observed (node_keys images.now tree.now.nodes) (D.shown dir.old) (D.shown dir.new) }
-    ensures root { IfOk result (λ root. IsRoot D.observed images.now (D.shown dir.old) (D.shown dir.new) tree.now root) }
+    ensures root { IfOk result (λ root. IsRootAsRead D.observed images.now (D.shown dir.old) (D.shown dir.new) tree.now root) }
     ensures refused { IfErr result (λ e. IsRootRefusal D.observed images.now tree.now.nodes e (D.shown dir.old) (D.shown dir.new)) }
 {
     match read_rendering(alloc, dir, images, tree) {
@@ -83,7 +83,7 @@ pub(crate) fn read_roots<D: Dir>(
     ensures cause { IsErrOf result PlanError.DirFault → Rose (D.shown dir.old).faults (D.shown dir.new).faults }
     ensures only { OnlyReadsImages D.observed (D.shown dir.old) (D.shown dir.new) }
     ensures trees { ReadsTreesOf D.observed (tree_keys images.now trees.now) (D.shown dir.old) (D.shown dir.new) }
-    ensures roots { IfOk result (λ roots. AreRoots D.observed images.now (D.shown dir.old) (D.shown dir.new) trees.now roots) }
+    ensures roots { IfOk result (λ roots. AreImageRoots D.observed images.now (D.shown dir.old) (D.shown dir.new) trees.now roots) }
     ensures refused { IfErr result (λ e. IsRootsRefusal D.observed images.now trees.now e (D.shown dir.old) (D.shown dir.new)) }
 {
     let mut roots = Sequence::new(alloc);

@@ -1,13 +1,13 @@
 // The apps of a pod, with what their files are made from.
 ghost use Rattle.std.specs.Prelude.{◌≡◌, ◌<◌, ◌++◌, ◌∷◌, [], IfOk, length};
 ghost use Rattle.std.specs.List.{All};
-ghost use Rattle.pod_plan.specs.Plans.{app_with, apps_with};
+ghost use Rattle.pod_plan.specs.Plans.{app_with_root, apps_with};
 
+use crate::PodApp;
 use crate::app_root::Root;
 use ac_types::NoMemory;
 use dir_trait::Bytes;
 use manifests::RuntimeApp;
-use crate::PodApp;
 use std::alloc::Global;
 
 /// Adds an app, with its image's manifest and its root.
@@ -18,7 +18,7 @@ fn add_app(
     manifest: &Bytes,
     root: Root,
 ) -> Result<(), NoMemory>
-    ensures { IfOk result (λ done. apps.new.items ≡ apps.old.items ++ app_with named.now manifest.now root ∷ []) }
+    ensures { IfOk result (λ done. apps.new.items ≡ apps.old.items ++ app_with_root named.now manifest.now root ∷ []) }
 {
     let name = named.name.copy()?;
     let manifest = Bytes::from_vec(Vec::from_slice(alloc, manifest.as_slice())?);

@@ -2,7 +2,7 @@
 ghost use Rattle.std.specs.Prelude.{◌≡◌, ◌<◌, length, IfOk, IfErr};
 ghost use Rattle.std.specs.List.{All};
 ghost use Rattle.dep_match.specs.TreeOrder.{IsOrderedTree};
-ghost use Rattle.pod_plan.specs.Choices.{IsPod, IsPodRefusal, IsChoice, IsRefused};
+ghost use Rattle.pod_plan.specs.Choices.{IsChosenPod, IsPodRefusal, IsChoice, IsChoiceRefused};
 
 use crate::choice_error::{ChoiceError, manifest_refusal};
 use crate::picks::picks_of;
@@ -32,7 +32,7 @@ fn choose_picked(
 ) -> Result<Choice, ChoiceError>
     requires within { All (λ i. i < length list.now) picks }
     ensures picks { IfOk result (λ c. c.picks ≡ picks) }
-    ensures pod { IfOk result (IsPod list.now options.now) }
+    ensures pod { IfOk result (IsChosenPod list.now options.now) }
     ensures ordered { IfOk result (λ c. All (λ t. IsOrderedTree (length list.now) t.nodes) c.trees) }
     ensures refused { IfErr result (IsPodRefusal list.now options.now picks) }
 {
@@ -61,7 +61,7 @@ pub fn choose(
 ) -> Result<Choice, ChoiceError>
     ensures ok { IfOk result (IsChoice list.now refs.now options.now) }
     ensures ordered { IfOk result (λ c. All (λ t. IsOrderedTree (length list.now) t.nodes) c.trees) }
-    ensures refused { IfErr result (IsRefused list.now refs.now options.now) }
+    ensures refused { IfErr result (IsChoiceRefused list.now refs.now options.now) }
 {
     let picks = picks_of(alloc, list, refs)?;
     choose_picked(alloc, list, picks, options)

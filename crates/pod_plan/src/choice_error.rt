@@ -1,6 +1,6 @@
 // Why some references make no pod.
 ghost use Rattle.std.specs.Prelude.{◌≡◌};
-ghost use Rattle.pod_plan.specs.ChoiceRefusals.{tree_refusal, manifest_refusal};
+ghost use Rattle.pod_plan.specs.ChoiceRefusals.{tree_refusal, choice_manifest_refusal};
 
 use ac_types::NoMemory;
 use dep_match::DepError;
@@ -39,7 +39,7 @@ pub(crate) fn tree_refusal(error: DepError) -> ChoiceError
 }
 
 pub(crate) fn manifest_refusal(error: GenError) -> ChoiceError
-    ensures { result ≡ manifest_refusal error }
+    ensures { result ≡ choice_manifest_refusal error }
 {
     match error {
         GenError::NoMemory => ChoiceError::NoMemory,

@@ -1,7 +1,7 @@
 // The entries of a plan, by their paths.
 ghost use Rattle.std.specs.Prelude.{◌≡◌, ◌++◌, IfOk};
 ghost use Rattle.folder_building.specs.declared.plan.Content.TheVariants.{Directory};
-ghost use Rattle.folder_building.specs.TreePlans.{entry_at};
+ghost use Rattle.folder_building.specs.TreePlans.{plan_entry_at};
 ghost use Rattle.folder_building.specs.ImagePlans.{given_file};
 
 use ac_types::{NoMemory, Text};
@@ -30,7 +30,7 @@ pub(crate) fn around(alloc: Global, front: &str, name: &str, end: &str) -> Resul
 
 /// A directory.
 pub(crate) fn directory(path: Text) -> PlanEntry
-    ensures { result ≡ entry_at path Directory }
+    ensures { result ≡ plan_entry_at path Directory }
 {
     let content = Content::Directory;
     PlanEntry { path, content }

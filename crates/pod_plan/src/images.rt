@@ -4,8 +4,8 @@ ghost use Rattle.dir_model.specs.Causes.{Rose};
 ghost use Rattle.dir_model.specs.Local.{IsActive};
 ghost use Rattle.image_reading.specs.Looks.{OnlyReadsImages, HoldsImages, KnowsStillNamed};
 ghost use Rattle.image_reading.specs.Trees.{ReadsNoTrees};
-ghost use Rattle.pod_plan.specs.Readings.{with_manifest, Adds, ReadsNext, AreReadAgain, ReadsImages};
-ghost use Rattle.pod_plan.specs.PlanRefusals.{IsLack, LacksManifestAt, LacksAmong, LacksPart};
+ghost use Rattle.pod_plan.specs.Readings.{with_manifest, AddsReadImage, ReadsNextManifest, AreReadAgain, ReadsImages};
+ghost use Rattle.pod_plan.specs.PlanRefusals.{IsStoreLack, LacksManifestAt, LacksAmong, ReadsLackingPart};
 
 use crate::plan_error::out_of_memory;
 use ac_types::NoMemory;
@@ -34,7 +34,7 @@ impl StoreImages {
 
     /// Adds an image that was listed, with its manifest as it was read once more.
     fn add(&mut self, listed: &Stored, kept: KeptManifest) -> Result<(), NoMemory>
-        ensures { IfOk result (λ done. Adds (with_manifest listed.now kept.manifest) kept.bytes.items self.old self.new) }
+        ensures { IfOk result (λ done. AddsReadImage (with_manifest listed.now kept.manifest) kept.bytes.items self.old self.new) }
     {
         self.images.push(Stored {
             key: listed.key,
@@ -59,8 +59,8 @@ fn read_next<D: Dir>(
     ensures cause { IsErrOf result StoreError.DirFault → Rose (D.shown dir.old).faults (D.shown dir.new).faults }
     ensures only { OnlyReadsImages D.observed (D.shown dir.old) (D.shown dir.new) }
     ensures trees { ReadsNoTrees D.observed (D.shown dir.old) (D.shown dir.new) }
-    ensures read { IfOk result (λ done. ReadsNext D.observed listed.now read.old read.new (D.shown dir.old) (D.shown dir.new)) }
-    ensures lacks { IfErr result (IsLack D.observed (λ path. LacksManifestAt listed.now.key path (D.shown dir.old) (D.shown dir.new))) }
+    ensures read { IfOk result (λ done. ReadsNextManifest D.observed listed.now read.old read.new (D.shown dir.old) (D.shown dir.new)) }
+    ensures lacks { IfErr result (IsStoreLack D.observed (λ path. LacksManifestAt listed.now.key path (D.shown dir.old) (D.shown dir.new))) }
 {
     match read_manifest(alloc, dir, listed.key) {
         Ok(kept) => read.add(listed, kept).map_err(out_of_memory),
@@ -79,7 +79,7 @@ fn read_each<D: Dir>(
     ensures only { OnlyReadsImages D.observed (D.shown dir.old) (D.shown dir.new) }
     ensures trees { ReadsNoTrees D.observed (D.shown dir.old) (D.shown dir.new) }
     ensures read { IfOk result (λ read. AreReadAgain D.observed listed.now read (D.shown dir.old) (D.shown dir.new)) }
-    ensures lacks { IfErr result (IsLack D.observed (λ path. LacksAmong listed.now path (D.shown dir.old) (D.shown dir.new))) }
+    ensures lacks { IfErr result (IsStoreLack D.observed (λ path. LacksAmong listed.now path (D.shown dir.old) (D.shown dir.new))) }
 {
     let mut read = StoreImages::new(alloc);
     'images: for image in listed {
@@ -104,7 +104,7 @@ pub(crate) fn read_images<D: Dir>(
     ensures trees { ReadsNoTrees D.observed (D.shown dir.old) (D.shown dir.new) }
     ensures known { D.observed ≡ true → KnowsStillNamed (D.shown dir.old) (D.shown dir.new) }
     ensures read { IfOk result (λ read. ReadsImages D.observed read (D.shown dir.old) (D.shown dir.new)) }
-    ensures lacks { IfErr result (IsLack D.observed (λ path. LacksPart path (D.shown dir.old) (D.shown dir.new))) }
+    ensures lacks { IfErr result (IsStoreLack D.observed (λ path. ReadsLackingPart path (D.shown dir.old) (D.shown dir.new))) }
 {
     match stored(alloc, dir, gate) {
         Ok(listed) => read_each(alloc, dir, listed.as_slice()),

@@ -11,7 +11,7 @@ ghost use Rattle.image_reading.specs.Trees.{ReadsTreesOf};
 ghost use Rattle.pod_plan.specs.Readings.{KnowsTree};
 ghost use Rattle.pod_plan.specs.Roots.{ComesOnce, LaysNext, IsRendered};
 ghost use Rattle.pod_plan.specs.PickedTrees.{node_keys};
-ghost use Rattle.pod_plan.specs.PlanRefusals.{IsLack, LacksTreeAt};
+ghost use Rattle.pod_plan.specs.PlanRefusals.{IsStoreLack, LacksTreeAt};
 ghost use Rattle.pod_plan.specs.RootRefusals.{IsLayRefusal, IsRenderingRefusal};
 
 use crate::plan_error::{PlanError, out_of_memory, store_refusal};
@@ -42,7 +42,7 @@ fn read_map<D: Dir>(alloc: Global, dir: &mut D, key: StoreKey) -> Result<PathMap
     ensures cause { IsErrOf result StoreError.DirFault → Rose (D.shown dir.old).faults (D.shown dir.new).faults }
     ensures only { OnlyReadsImage D.observed key (D.shown dir.old) (D.shown dir.new) }
     ensures known { IfOk result (λ map. KnowsTree D.observed key map (D.shown dir.old) (D.shown dir.new)) }
-    ensures lacks { IfErr result (IsLack D.observed (λ path. LacksTreeAt key path (D.shown dir.old) (D.shown dir.new))) }
+    ensures lacks { IfErr result (IsStoreLack D.observed (λ path. LacksTreeAt key path (D.shown dir.old) (D.shown dir.new))) }
 {
     match read_listing(alloc, dir, key) {
         Ok(listing) => map_of(alloc, &listing).map_err(out_of_memory),

@@ -7,20 +7,19 @@ ghost use Rattle.manifests.specs.ManifestRules.{IsPodManifest};
 ghost use Rattle.manifest_writing.specs.PodObject.{pod_object};
 ghost use Rattle.folder_building.specs.Plans.{is_plan};
 ghost use Rattle.pod_plan.specs.PodPlans.{ComesInTurn, MakesWhole};
-ghost use Rattle.pod_plan.specs.Plans.{apps_of, folders, IsReady, ArePartsOf, IsPlanOf};
+ghost use Rattle.pod_plan.specs.Plans.{apps_of, folders, IsChoiceReady, ArePlanParts, IsPlanOf};
 
-use crate::apps::apps_with;
-use crate::plan_error::short_of_memory;
-use crate::images::StoreImages;
 use crate::app_root::Root;
+use crate::apps::apps_with;
+use crate::images::StoreImages;
+use crate::plan_error::short_of_memory;
+use crate::{Choice, PodApp, pod_plan};
 use ac_types::{NoMemory, Sequence, StoreKey};
 use dep_match::Stored;
 use dir_trait::{Bytes, Name};
 use folder_building::PlanEntry;
 use image_reading::spot_of;
 use manifest_writing::pod_bytes;
-use crate::Choice;
-use crate::{PodApp, pod_plan};
 use std::alloc::Global;
 
 /// The name of an image's folder.
@@ -58,8 +57,8 @@ fn parts_of(
     choice: Choice,
     roots: Sequence<Root>,
 ) -> Result<PodParts, NoMemory>
-    requires ready { IsReady (length manifests.now) choice roots }
-    ensures { IfOk result (λ parts. ArePartsOf manifests.now choice roots parts.text.items parts.apps.items) }
+    requires ready { IsChoiceReady (length manifests.now) choice roots }
+    ensures { IfOk result (λ parts. ArePlanParts manifests.now choice roots parts.text.items parts.apps.items) }
 {
     let text = pod_bytes(alloc, &choice.manifest)?;
     let Choice {
@@ -83,7 +82,7 @@ pub(crate) fn plan_of(
     now: u64,
     token: &[u8; 16],
 ) -> Result<Vec<PlanEntry>, NoMemory>
-    requires ready { IsReady (length read.now.manifests.items) choice roots }
+    requires ready { IsChoiceReady (length read.now.manifests.items) choice roots }
     ensures made { IfOk result (λ plan. IsPlanOf read.now.images.items read.now.manifests.items choice roots now token.now plan.items) }
     ensures plan { IfOk result (λ plan. is_plan plan.items ≡ true) }
     ensures turn { IfOk result (λ plan. ComesInTurn now plan.items) }

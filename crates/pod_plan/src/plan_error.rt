@@ -1,12 +1,12 @@
 // Why some references make no pod of the images of the store.
 ghost use Rattle.std.specs.Prelude.{◌≡◌};
 ghost use Rattle.image_reading.specs.Refusals.{IsReadRefusal};
-ghost use Rattle.pod_plan.specs.PlanRefusals.{IsAnyPath, store_refusal, choice_refusal, listing_refusal};
+ghost use Rattle.pod_plan.specs.PlanRefusals.{IsAnyPath, plan_store_refusal, choice_refusal, plan_listing_refusal};
 
+use crate::ChoiceError;
 use ac_types::{NoMemory, Text};
 use dep_match::DepError;
 use image_reading::StoreError;
-use crate::ChoiceError;
 use pod_manifest::GenError;
 use render::RenderError;
 use tree_digest::ListingError;
@@ -74,7 +74,7 @@ pub(crate) fn short_of_memory(_error: StoreError) -> NoMemory {
 /// The refusal of a read of the store.
 pub(crate) fn store_refusal(error: StoreError) -> PlanError
     requires { IsReadRefusal IsAnyPath error }
-    ensures { result ≡ store_refusal error }
+    ensures { result ≡ plan_store_refusal error }
 {
     match error {
         StoreError::Damaged(path) => PlanError::Damaged(path),
@@ -98,7 +98,7 @@ pub(crate) fn choice_refusal(error: ChoiceError) -> PlanError
 
 /// The refusal of a listing.
 pub(crate) fn listing_refusal(error: ListingError) -> PlanError
-    ensures { result ≡ listing_refusal error }
+    ensures { result ≡ plan_listing_refusal error }
 {
     match error {
         ListingError::NoMemory => PlanError::NoMemory,

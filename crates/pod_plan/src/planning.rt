@@ -17,14 +17,14 @@ ghost use Rattle.pod_plan.specs.PickedTrees.{tree_keys, copies_no_tree, ReadsAtM
 ghost use Rattle.pod_plan.specs.RootRefusals.{IsRootsRefusal};
 ghost use Rattle.pod_plan.specs.NoPlans.{IsNoPlan, IsUnplanned};
 
-use crate::plan_error::{PlanError, choice_refusal, no_memory, store_refusal};
+use crate::app_root::read_roots;
 use crate::images::{StoreImages, read_images};
 use crate::plan::plan_of;
-use crate::app_root::read_roots;
+use crate::plan_error::{PlanError, choice_refusal, no_memory, store_refusal};
+use crate::{Choice, choose};
 use ac_types::ImageRef;
 use dir_trait::{Dir, Handle};
 use folder_building::PlanEntry;
-use crate::{Choice, choose};
 use pod_manifest::Options;
 use std::alloc::Global;
 

@@ -3,11 +3,11 @@ ghost use Rattle.std.specs.Prelude.{◌≡◌, ◌++◌, ◌∷◌, [], true, If
 ghost use Rattle.std.specs.List.{flat_map, AllByRecursion, IsDistinct};
 ghost use Rattle.folder_building.specs.declared.plan.Content.TheVariants.{Directory};
 ghost use Rattle.folder_building.specs.Plans.{is_plan};
-ghost use Rattle.folder_building.specs.TreePlans.{entry_at};
+ghost use Rattle.folder_building.specs.TreePlans.{plan_entry_at};
 ghost use Rattle.folder_building.specs.ImagePlans.{given_file};
 ghost use Rattle.pod_plan.specs.AppParts.{IsPlanned};
 ghost use Rattle.pod_plan.specs.PodFiles.{shared_directories};
-ghost use Rattle.pod_plan.specs.PodPlans.{app_entries, head_entries, pod_entries, ComesInTurn, MakesWhole};
+ghost use Rattle.pod_plan.specs.PodPlans.{app_entries, pod_head_entries, pod_entries, ComesInTurn, MakesWhole};
 ghost use Rattle.pod_plan.specs.Pods.{files_of, MakesPod};
 
 use crate::app_folder::app_plan;
@@ -17,7 +17,7 @@ use crate::token::token_text;
 use ac_types::{NoMemory, Text};
 use dir_trait::Name;
 use folder_building::PlanEntry;
-use folder_building::mark_text;
+use marks::mark_text;
 use std::alloc::Global;
 
 // The directories that a pod has whatever its apps are.
@@ -37,7 +37,7 @@ fn shared_directories() -> [&'static str; 7]
 
 // The plan, and after it those directories.
 fn add_directories(alloc: Global, plan: Vec<PlanEntry>) -> Result<Vec<PlanEntry>, NoMemory>
-    ensures { IfOk result (λ new. new.items ≡ plan.items ++ map (λ path. entry_at path Directory) shared_directories) }
+    ensures { IfOk result (λ new. new.items ≡ plan.items ++ map (λ path. plan_entry_at path Directory) shared_directories) }
 {
     let mut plan = plan;
     for path in shared_directories() {
@@ -48,7 +48,7 @@ fn add_directories(alloc: Global, plan: Vec<PlanEntry>) -> Result<Vec<PlanEntry>
 
 // The mark of the pod's creation, its token, and those directories.
 fn head_plan(alloc: Global, now: u64, token: &[u8; 16]) -> Result<Vec<PlanEntry>, NoMemory>
-    ensures { IfOk result (λ plan. plan.items ≡ head_entries now token.now) }
+    ensures { IfOk result (λ plan. plan.items ≡ pod_head_entries now token.now) }
 {
     let mut plan = Vec::new(alloc);
     let created = mark_text(alloc, "created-", now)?;

@@ -12,8 +12,7 @@ ghost use Rattle.pod_plan.specs.RootSteps.{from_image, for_file, path_before, ta
 use crate::pod_app::PodApp;
 use ac_types::NoMemory;
 use dir_trait::Name;
-use folder_building::{Content, Origin, PlanEntry};
-use folder_building::tree_plan;
+use folder_building::{Content, Origin, PlanEntry, tree_plan};
 use path_map::{AbsPath, Entry};
 use render::Rendering;
 use std::alloc::Global;

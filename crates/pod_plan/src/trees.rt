@@ -3,7 +3,7 @@ ghost use Rattle.std.specs.Prelude.{◌≡◌, ◌<◌, length, Ok, IfOk, IfErr}
 ghost use Rattle.std.specs.List.{All};
 ghost use Rattle.dep_match.specs.Dependencies.{dependency_tree};
 ghost use Rattle.dep_match.specs.TreeOrder.{IsOrderedTree};
-ghost use Rattle.pod_plan.specs.Choices.{AreTrees, IsNoTree, IsTreeRefusal};
+ghost use Rattle.pod_plan.specs.Choices.{AreTrees, IsNoTree, IsChoiceTreeRefusal};
 
 use crate::choice_error::{ChoiceError, tree_refusal};
 use ac_types::Sequence;
@@ -31,7 +31,7 @@ pub(crate) fn trees_of(
     requires within { All (λ i. i < length list.now) picks.now }
     ensures trees { IfOk result (λ trees. AreTrees list.now picks.now trees) }
     ensures ordered { IfOk result (λ trees. All (λ t. IsOrderedTree (length list.now) t.nodes) trees) }
-    ensures refused { IfErr result (IsTreeRefusal list.now picks.now) }
+    ensures refused { IfErr result (IsChoiceTreeRefusal list.now picks.now) }
 {
     let mut trees = Sequence::new(alloc);
     'picks: for pick in picks {

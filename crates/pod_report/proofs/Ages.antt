@@ -1,3 +1,3 @@
 -- A pod's age along a trace.
 use Rattle.std.proofs.Common.{◌≡◌, ◌≤◌, ◌++◌}
-use Rattle.lifecycle.specs.PodMachine.{age}
+use Rattle.lifecycle.specs.PodMachine.{pod_progress}

@@ -17,14 +17,15 @@ use Rattle.lifecycle.specs.Ownership.{place_in}
 use Rattle.lifecycle.specs.Readings.{WasPhase}
 use Rattle.lifecycle.proofs.Phases.{stands_exists}
 use Rattle.phase_read.specs.Read.{stages}
-use Rattle.pod_lookup.specs.Pods.{pod_names, is_pod_name, pods_standing, KeepsFolders}
+use Rattle.pod_lookup.specs.Pods.{pod_names, is_pod_name, pods_standing, NoFolderMoves}
 use Rattle.pod_lookup.proofs.InOrder.{Rising, one_order}
 use Rattle.pod_lookup.proofs.Names.{named_are}
 use Rattle.pod_lookup.proofs.Shown.{conforms}
 use Rattle.pod_report.specs.declared.line.PodLine.{PodLine}
-use Rattle.pod_report.specs.Snapshot.{lined, IsPartOf, TellsPods, LinesStanding}
-use Rattle.pod_report.proofs.Telling.{never_both, part_sorted}
+use Rattle.pod_report.specs.Snapshot.{lined, IsSublist, TellsPods, LinesStanding}
+use Rattle.pod_report.proofs.Telling.{part_sorted}
 use Rattle.pod_lookup.proofs.Still.{stand_in}
+use Rattle.pod_lookup.proofs.Existed.{has_phase}
 
 pub any_with : {X : Type 0} (P : X → Type 0) (t : X → Bool) (xs : List X) → AllByRecursion P xs → list_any t xs ≡ true → (x : X) × P x × (t x ≡ true)
 any_with P t [] all h = cc
@@ -37,7 +38,7 @@ any_with {X} P t (x ∷ xs) all h = by (t x) refl (λ k. any_with P t xs all.1 k
 pub all_stages : AllByRecursion (λ a. is_stage a ≡ true) stages
 all_stages = (refl, (refl, (refl, (refl, (refl, (refl, tt))))))
 
-pub in_part : (xs ys : List (List ℕ)) (name : List ℕ) → IsPartOf xs ys → has_name xs name ≡ true → has_name ys name ≡ true
+pub in_part : (xs ys : List (List ℕ)) (name : List ℕ) → IsSublist xs ys → has_name xs name ≡ true → has_name ys name ≡ true
 in_part xs [] name p h = ap (λ l. has_name l name) (sym p) ∙ h
 in_part xs (y ∷ ys) name (inl p) h = later (bytes_eq y name) (in_part xs ys name p h)
   where
@@ -57,7 +58,7 @@ standing_there n name h =
     sym (stand_in n name stages) ∙ and_left (has_name names name) (is_pod_name name) (sym (named_are names name) ∙ h)
 
 -- a pod that stood before exists at each own step
-stands_on : (me : ℕ) (old mid new first : List Event) (name : List ℕ) → mid ≡ old ++ first → IsConforming new → KeepsFolders old new → list_any (λ area. stands (state_after old).namespace (place_in name area)) stages ≡ true → WasPhase me mid new name None → ⊥
+stands_on : (me : ℕ) (old mid new first : List Event) (name : List ℕ) → mid ≡ old ++ first → IsConforming new → NoFolderMoves old new → list_any (λ area. stands (state_after old).namespace (place_in name area)) stages ≡ true → WasPhase me mid new name None → ⊥
 stands_on me old mid new first name begins conforming keeps there w =
     let X : List Event = w.before ++ w.step ∷ [] in
     let a = any_with (λ a. is_stage a ≡ true) (λ area. stands (state_after old).namespace (place_in name area)) stages all_stages there in
@@ -66,14 +67,14 @@ stands_on me old mid new first name begins conforming keeps there w =
     let same = keeps later w.rest (w.ends ∙ ap (λ h. h ++ w.rest) is) (place_in name a.0) in
     let here : stands (state_after X).namespace (place_in name a.0) ≡ true = ap (λ h. stands (state_after h).namespace (place_in name a.0)) is ∙ (same ∙ a.2) in
     let x = stands_exists name X (place_in name a.0) (conforms X new w.rest w.ends conforming) (and_both (is_stage a.0) (bytes_eq name name) a.1 ((bytes_eq-Decides name name).1 refl)) here in
-    never_both (pod_state name X) x.0 w.is
+    has_phase (pod_state name X) x.0 w.is
 
-pub lines_standing : (pods : List PodId) (lines : List PodLine) (old mid new : DirAt) (first last : List Event) → mid.trace ≡ old.trace ++ first → new.trace ≡ mid.trace ++ last → IsConforming new.trace → Rising (pod_names pods) → (KeepsFolders old.trace mid.trace → pods ≡ pods_standing (state_after old.trace).namespace) → TellsPods pods lines mid new → LinesStanding old new lines
+pub lines_standing : (pods : List PodId) (lines : List PodLine) (old mid new : DirAt) (first last : List Event) → mid.trace ≡ old.trace ++ first → new.trace ≡ mid.trace ++ last → IsConforming new.trace → Rising (pod_names pods) → (NoFolderMoves old.trace mid.trace → pods ≡ pods_standing (state_after old.trace).namespace) → TellsPods pods lines mid new → LinesStanding old new lines
 lines_standing pods lines old mid new first last begins ends conforming rise standing tells keeps =
     one_order (lined lines) (pod_names pods) (part_sorted (lined lines) (pod_names pods) tells.part rise) rise (λ name. by name (has_name (lined lines) name) refl (has_name (pod_names pods) name) refl)
     ∙ ap pod_names are
   where
-    before : KeepsFolders old.trace mid.trace
+    before : NoFolderMoves old.trace mid.trace
     before later rest is = keeps later (rest ++ last) (ends ∙ (ap (λ h. h ++ last) is ∙ append_assoc (old.trace ++ later) rest last))
 
     are : pods ≡ pods_standing (state_after old.trace).namespace

@@ -11,22 +11,22 @@ use Rattle.dir_model.specs.declared.request.DirError.{DirError}
 use Rattle.dir_model.specs.declared.request.Request.{Request}
 use Rattle.dir_model.specs.declared.request.Request.TheVariants.{ListIn}
 use Rattle.dir_model.specs.Areas.{rank, is_stage}
-use Rattle.dir_model.specs.Local.{Local, local_replied}
 use Rattle.dir_model.specs.Pods.{pod_text}
 use Rattle.dir_model.specs.Replies.{items_reply}
 use Rattle.dir_model.proofs.Chains.{extends_wider, nothing_yet, and_more}
 use Rattle.dir_model.proofs.Lists.{and_both}
 use Rattle.dir_rules.specs.declared.standing.Standing.{Standing}
 use Rattle.dir_rules.specs.declared.seen.Seen.{Seen}
-use Rattle.dir_rules.specs.Rules.{may_look}
 use Rattle.dir_rules.specs.Conforms.{seen_listed}
+use Rattle.dir_rules.proofs.Looks.{looks_there}
 use Rattle.dir_trait.specs.DirCalls.{DirAt, ExtendsBy, ListCall}
 use Rattle.dir_trait.specs.Knowledge.{Knows, OnlyLooks}
+use Rattle.dir_trait.proofs.ListCalls.{list_extends, local_items}
 use Rattle.dir_files.specs.Reads.{inner_at, OnlyReads, may_read, reads_at}
-use Rattle.folder_removal.proofs.Calls.{list_extends, knows_list}
+use Rattle.folder_removal.proofs.Calls.{knows_list}
 use Rattle.phase_read.specs.Read.{pod_spot}
+use Rattle.phase_read.proofs.Exact.{stage_of}
 use Rattle.pod_lookup.specs.Looks.{OnlyLooksFor}
-use Rattle.pod_lookup.proofs.OneByOne.{stage_of}
 use Rattle.pod_report.specs.Requests.{KeepsHandles, OnlyAsksFor, visits, lists_in, inspects}
 
 reads_there : (s : Standing) (place : Area) → is_stage place ≡ true → may_read place s ≡ true
@@ -93,15 +93,6 @@ looks_places asked same faults local extends looks = record {
       };
 }
 
--- a listing in a folder of a pod leaves what a process knows of what it has open
-looks_there : (s : Seen) (place : Area) → is_stage place ≡ true → may_look s place ≡ true
-looks_there s area.Images is = cc
-looks_there s _ is = refl
-
-list_local : (m : Local) (inner : Inner) (r : Result (List Item) DirError) → local_replied m (ListIn inner) (items_reply r) ≡ m
-list_local m inner (Ok items) = refl
-list_local m inner (Err e) = refl
-
 list_known : {new : DirAt} (s : Seen) (inner : Inner) (r : Result (List Item) DirError) → is_stage inner.spot.area ≡ true → Knows new (seen_listed s (ListIn inner) (items_reply r)) → KeepsHandles s new
 list_known s inner (Ok items) stage k = record { known = _; intent = refl; holdings = refl; kept = ap (λ b. b && (b && s.kept)) (looks_there s inner.spot.area stage); knows = k }
 list_known s inner (Err e) stage k = record { known = _; intent = refl; holdings = refl; kept = ap (λ b. b && (b && s.kept)) (looks_there s inner.spot.area stage); knows = k }
@@ -110,7 +101,7 @@ looks_list : {observed : Bool} {asks : Request → Bool} {old new : DirAt} (inne
 looks_list {observed} {asks} {old} {new} inner r stage asked x = record {
   same = x.same;
   faults = x.faults;
-  local = x.local ∙ list_local old.local inner r;
+  local = x.local ∙ local_items old.local inner r;
   extends = λ t. list_extends (asked t) (x.step t);
   known = λ t s k. list_known s inner r (stage t) (knows_list inner r t k x);
 }

@@ -1,5 +1,6 @@
 -- Rounds and visits, one after the other.
-use Rattle.std.proofs.Common.{arith, ◌≡◌, ◌||◌, ℕ, Bool, true, false, ◌&&◌, bytes_eq, Option, Some, None, [], ◌++◌, refl, sym, subst, append-nil}
+use Rattle.std.proofs.Common.{arith, ◌≡◌, ℕ, Bool, true, ◌&&◌, bytes_eq, Option, Some, None, [], ◌++◌, refl, sym, subst, append-nil}
+use Rattle.plain_laws.proofs.Booleans.{or_nothing}
 use Rattle.dir_model.specs.declared.pod.PodId.{PodId}
 use Rattle.dir_model.specs.declared.request.Request.{Request}
 use Rattle.dir_model.specs.declared.request.Request.TheVariants.{Open, TryLock, Close, ListArea, ReadIn}
@@ -47,13 +48,8 @@ module _ {observed : Bool} {asks : Request → Bool} (pod : PodId) (old mid new 
       let v = subst (λ (me : ℕ). IsVisit pod visit me mid.trace new.trace) ab.same at in
       record { phase = event_within (ab.extends t).more [] (ab.extends t).grown same_end v.phase; manifest = told_after visit.manifest v.manifest }
 
--- a visit is a part of a survey
-or_none : (b : Bool) → (b || false) ≡ true → b ≡ true
-or_none true h = refl
-or_none false h = cc
-
 pub visits_survey : (pod : PodId) (r : Request) → visits pod r ≡ true → surveys r ≡ true
-visits_survey pod (Open spot which) is = and_left (is_stage spot.area) (bytes_eq spot.name (pod_text pod.bytes)) (or_none (is_stage spot.area && bytes_eq spot.name (pod_text pod.bytes)) is)
+visits_survey pod (Open spot which) is = and_left (is_stage spot.area) (bytes_eq spot.name (pod_text pod.bytes)) (or_nothing (is_stage spot.area && bytes_eq spot.name (pod_text pod.bytes)) is)
 visits_survey pod (TryLock handle Shared) is = refl
 visits_survey pod (TryLock handle Exclusive) is = is
 visits_survey pod (Close handle) is = refl

@@ -1,15 +1,14 @@
 -- The greatest moment of created- marks.
 use Rattle.std.proofs.Common.{arith, ◌≡◌, ◌≤◌, ◌&&◌, ◌||◌, ◌==◌, ℕ, Bool, true, false, cond, nat_le, bytes_eq, Option, Some, None, IsSomeAnd, List, [], ◌∷◌, ◌++◌, drop, refl, sym, ap, subst, ◌∙◌}
 use Rattle.std.specs.List.{list_any}
-use Rattle.std.proofs.lemmas.Bool.Decides.{nat_tests}
+use Rattle.plain_laws.proofs.Texts.{same_bytes, same_text}
+use Rattle.plain_laws.proofs.Numbers.{at_most_back, not_at_most}
 use Rattle.dir_model.specs.declared.item.Item.{Item}
 use Rattle.dir_model.specs.Listings.{is_named, is_item, has_item, kind_number}
 use Rattle.dir_model.proofs.Lists.{and_both, or_last, any_last, any_push, any_last_not, same_self}
 use Rattle.dir_rules.specs.Marks.{created_mark, created_moment, number_of}
 use Rattle.dir_rules.specs.Seen.{later, created_among}
-use Rattle.dir_rules.proofs.Looks.{same_bytes}
-use Rattle.lifecycle.proofs.Places.{name_same}
-use Rattle.pod_report.specs.Created.{IsGreatest}
+use Rattle.pod_report.specs.Created.{IsLatestCreation}
 
 -- the name and the moment of a mark
 pub record MarkTells (name : List ℕ) (moment : ℕ) : Type 0 where
@@ -25,20 +24,11 @@ mark_tells name moment is = by (bytes_eq name (created_mark n)) refl (nat_le n 1
     by : (b : Bool) → bytes_eq name (created_mark n) ≡ b → (c : Bool) → nat_le n 18446744073709551615 ≡ c → cond (b && c) (Some n) None ≡ Some moment → MarkTells name moment
     by true e true l is =
         let same : n ≡ moment = cc in
-        record { is = name_same name (created_mark n) e ∙ ap created_mark same; small = ap (λ (m : ℕ). nat_le m 18446744073709551615) (sym same) ∙ l }
+        record { is = same_text name (created_mark n) e ∙ ap created_mark same; small = ap (λ (m : ℕ). nat_le m 18446744073709551615) (sym same) ∙ l }
     by true e false l is = cc
     by false e c l is = cc
 
--- and a moment of that size passes for 64 bits
-pub moment_small : (name : List ℕ) (moment : ℕ) → created_moment name ≡ Some moment → cond (nat_le moment 18446744073709551615) (Some moment) None ≡ created_moment name
-moment_small name moment is = ap (λ (b : Bool). cond b (Some moment) None) (mark_tells name moment is).small ∙ sym is
-
 -- one item more
-not_after : (a b : ℕ) → nat_le a b ≡ false → b ≤ a
-not_after a b l = grind (arith, nat_tests)
-
-not_before : (a b : ℕ) → nat_le a b ≡ true → a ≤ b
-not_before a b l = grind (arith, nat_tests)
 
 abbrev IsSince : ℕ → Option ℕ → Type 0
 IsSince m o = IsSomeAnd o (λ c. m ≤ c)
@@ -49,7 +39,7 @@ since_left m (Some a) None s = s
 since_left m (Some a) (Some b) s = by (nat_le a b) refl
   where
     by : (x : Bool) → nat_le a b ≡ x → IsSince m (cond x (Some b) (Some a))
-    by true e = let l = not_before a b e in omega (arith, l, s)
+    by true e = let l = at_most_back a b e in omega (arith, l, s)
     by false e = s
 
 since_right : (m : ℕ) (a b : Option ℕ) → IsSince m b → IsSince m (later a b)
@@ -59,7 +49,7 @@ since_right m (Some a) (Some b) s = by (nat_le a b) refl
   where
     by : (x : Bool) → nat_le a b ≡ x → IsSince m (cond x (Some b) (Some a))
     by true e = s
-    by false e = let l = not_after a b e in omega (arith, l, s)
+    by false e = let l = not_at_most a b e in omega (arith, l, s)
 
 -- it is one of the two
 later_is : (P : Type 0) (m : ℕ) (a b : Option ℕ) → (a ≡ Some m → P) → (b ≡ Some m → P) → later a b ≡ Some m → P
@@ -78,15 +68,15 @@ any_parts {X} t xs y P f g h = by (t y) refl
     by true e = g e
     by false e = f (sym (any_last_not t xs y e) ∙ h)
 
-pub greatest_none : IsGreatest [] None
+pub greatest_none : IsLatestCreation [] None
 greatest_none = record { shown = λ m is. cc; most = λ name m h is. cc }
 
-pub greatest_more : (items : List Item) (item : Item) (found : Option ℕ) → IsGreatest items found → IsGreatest (items ++ item ∷ []) (later found (created_moment item.name))
+pub greatest_more : (items : List Item) (item : Item) (found : Option ℕ) → IsLatestCreation items found → IsLatestCreation (items ++ item ∷ []) (later found (created_moment item.name))
 greatest_more items item found g = record {
   shown = λ m is. later_is ((x : Item) × (has_item (items ++ item ∷ []) x ≡ true) × (created_moment x.name ≡ Some m)) m found (created_moment item.name) (λ a. let x = g.shown m a in (x.0, any_push (is_item x.0) items item x.1, x.2)) (λ b. (item, any_last (is_item item) items item (and_both (bytes_eq item.name item.name) (kind_number item.kind == kind_number item.kind) (same_bytes item.name) (same_self (kind_number item.kind))), b)) is;
   most = λ name m h is. any_parts (is_named name) items item (IsSince m (later found (created_moment item.name)))
       (λ a. since_left m found (created_moment item.name) (g.most name m a is))
-      (λ b. since_right m found (created_moment item.name) (subst (λ (o : Option ℕ). IsSince m o) (sym (ap created_moment (name_same item.name name b) ∙ is)) (omega arith))) h;
+      (λ b. since_right m found (created_moment item.name) (subst (λ (o : Option ℕ). IsSince m o) (sym (ap created_moment (same_text item.name name b) ∙ is)) (omega arith))) h;
 }
 
 -- the greatest of all items
@@ -97,10 +87,10 @@ since_more : (x : Item) (xs : List Item) (name : List ℕ) (m : ℕ) → (list_a
 since_more x xs name m rest h is = by (bytes_eq x.name name) refl h
   where
     by : (b : Bool) → bytes_eq x.name name ≡ b → (b || list_any (is_named name) xs) ≡ true → IsSince m (later (created_moment x.name) (created_among xs))
-    by true same h = since_left m (created_moment x.name) (created_among xs) (subst (λ (o : Option ℕ). IsSince m o) (sym (ap created_moment (name_same x.name name same) ∙ is)) (omega arith))
+    by true same h = since_left m (created_moment x.name) (created_among xs) (subst (λ (o : Option ℕ). IsSince m o) (sym (ap created_moment (same_text x.name name same) ∙ is)) (omega arith))
     by false apart h = since_right m (created_moment x.name) (created_among xs) (rest h is)
 
-pub among_greatest : (items : List Item) → IsGreatest items (created_among items)
+pub among_greatest : (items : List Item) → IsLatestCreation items (created_among items)
 among_greatest [] = greatest_none
 among_greatest (x ∷ xs) =
     let rest = among_greatest xs in

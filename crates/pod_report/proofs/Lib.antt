@@ -9,7 +9,7 @@ pub mod Going
 mod Alone
 pub mod QuietSurvey
 mod OnePlace
-mod QuietLines
+pub mod QuietLines
 mod Listing
 mod StatusTexts
 mod StatusFiles

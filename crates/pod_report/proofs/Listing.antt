@@ -9,7 +9,7 @@ use Rattle.lifecycle.specs.Executions.{IsConforming}
 use Rattle.pod_lookup.specs.Pods.{pod_names, FindsStanding, MissesGone}
 use Rattle.pod_lookup.proofs.InOrder.{Rising}
 use Rattle.pod_report.specs.declared.line.PodLine.{PodLine}
-use Rattle.pod_report.specs.Before.{ListsQuietly}
+use Rattle.pod_report.specs.Before.{ListsPodsQuietly}
 use Rattle.pod_report.specs.Requests.{OnlyAsksFor, surveys}
 use Rattle.pod_report.specs.Snapshot.{TellsPods, IsSnapshotBetween, LinesStanding}
 use Rattle.pod_report.proofs.Alone.{lines_standing, standing_there}
@@ -22,7 +22,7 @@ use Rattle.pod_report.proofs.Telling.{snapshot}
 pub record ListTells (old new : DirAt) (lines : List PodLine) : Type 0 where
   pub snapshot : IsSnapshotBetween old new lines
   pub standing : LinesStanding old new lines
-  pub quiet : ListsQuietly old new lines
+  pub quiet : ListsPodsQuietly old new lines
 
 pub list_tells : {observed : Bool} (pods shown : List PodId) (lines : List PodLine) (old mid new : DirAt) → observed ≡ true → OnlyAsksFor observed surveys old mid → OnlyAsksFor observed surveys mid new → IsConforming new.trace → Rising (pod_names pods) → (IsConforming mid.trace → MissesGone old mid pods) → FindsStanding old mid pods → shown ≡ pods → TellsPods shown lines mid new → ListTells old new lines
 list_tells pods shown lines old mid new t first last conforming rise gone still same tells =

@@ -15,7 +15,7 @@ use Rattle.dir_model.specs.Calls.{AtOwnStep}
 use Rattle.dir_model.proofs.Lists.{and_both}
 use Rattle.dir_model.proofs.Moments.{at_within, at_weaker, at_grown, some_number}
 use Rattle.dir_trait.specs.DirCalls.{DirAt}
-use Rattle.lifecycle.specs.PodMachine.{pod_state, is_place, age, age_in}
+use Rattle.lifecycle.specs.PodMachine.{pod_state, is_area_of_state, pod_progress, age_in}
 use Rattle.lifecycle.specs.Executions.{IsConforming}
 use Rattle.lifecycle.proofs.Forward.{age_out, out_age}
 use Rattle.lifecycle.proofs.Invariant.{placed_age}
@@ -23,16 +23,15 @@ use Rattle.lifecycle.proofs.Phases.{stands_exists}
 use Rattle.lifecycle.proofs.Stays.{stays_between}
 use Rattle.phase_read.specs.Read.{pod_spot}
 use Rattle.phase_read.specs.Exact.{AtOwnEvent, IsInPhase, IsNowhere}
-use Rattle.phase_read.proofs.Exact.{event_within}
+use Rattle.phase_read.proofs.Exact.{event_within, stage_of}
 use Rattle.lifecycle.proofs.Looking.{past, off_place, ended_at, gone_phase}
-use Rattle.pod_lookup.proofs.OneByOne.{stage_of}
 use Rattle.pod_lookup.proofs.Shown.{conforms, ages_on}
 use Rattle.pod_report.specs.declared.sight.Sight.{Sight}
 use Rattle.pod_report.specs.declared.sight.Sight.TheVariants.{Moved, Lacking, Manifest}
 use Rattle.pod_report.specs.declared.attempt.Round.TheVariants.{Missed}
-use Rattle.pod_report.specs.Manifests.{HasManifest, HasManifestIn, HasUnreadable, HasNoFile, LacksManifest}
+use Rattle.pod_report.specs.Manifests.{PodHasManifest, HasManifestIn, HasUnreadable, HasNoFile, PodLacksManifest}
 use Rattle.pod_report.specs.Sights.{Sees, WasMissingThere}
-use Rattle.pod_report.specs.Rounds.{age_past, moved_from, round_of, RoundTells}
+use Rattle.pod_report.specs.Rounds.{age_past, moved_from, report_round_of, RoundTells}
 use Rattle.pod_report.specs.Visits.{IsPhase}
 use Rattle.pod_report.proofs.Leaving.{left_more}
 
@@ -90,27 +89,27 @@ module _ (pod : PodId) (phase : Phase) (area : Area) (within : rank area ≤ 5) 
     abbrev Y : List Event
     Y = y.before ++ y.step ∷ []
 
-    here : is_place area (pod_state u X) ≡ true
+    here : is_area_of_state area (pod_state u X) ≡ true
     here = (stands_exists u X (pod_spot pod area)
         (conforms X new (found.rest ++ (at_grown y).0) ((at_grown y).1 ∙ (ap (λ h. h ++ (at_grown y).0) found.ends ∙ append_assoc X found.rest (at_grown y).0)) conforming)
         (and_both (is_stage area) (bytes_eq u u) (stage_of area within) ((bytes_eq-Decides u u).1 refl)) found.holds.there).1
 
-    off : is_place area (pod_state u Y) ≡ false
+    off : is_area_of_state area (pod_state u Y) ≡ false
     off = off_place u area Y (stage_of area within) (conforms Y new y.rest y.ends conforming) y.holds
 
-    older : age (pod_state u X) ≤ age (pod_state u Y)
+    older : pod_progress (pod_state u X) ≤ pod_progress (pod_state u Y)
     older = ages_on u X Y (found.rest ++ (y.later ++ y.step ∷ [])) (after_met y)
 
-    pub beyond : age_out area < age (pod_state u Y)
+    pub beyond : age_out area < pod_progress (pod_state u Y)
     beyond =
-        let low : age_in area ≤ age (pod_state u X) = placed_age area (pod_state u X) here in
+        let low : age_in area ≤ pod_progress (pod_state u X) = placed_age area (pod_state u X) here in
         let up = older in
         past area (pod_state u Y) (stage_of area within) (omega (arith, low, up)) off
 
     pub gone_met : age_out area ≡ 8 → AtOwnEvent me old new (IsNowhere pod)
     gone_met last =
         let far = beyond in
-        let more : 8 < age (pod_state u Y) = omega (arith, far, last) in
+        let more : 8 < pod_progress (pod_state u Y) = omega (arith, far, last) in
         let g = grown_met in
         record {
           before = y.before;
@@ -123,10 +122,10 @@ module _ (pod : PodId) (phase : Phase) (area : Area) (within : rank area ≤ 5) 
           holds = gone_phase (pod_state u Y) (ended_at (pod_state u Y) more);
         }
 
-    pub missed_met : (n : ℕ) → moved_from area ≡ Missed → age_past n ≤ age (pod_state u old) → (age_past (suc n) ≤ age (pod_state u new)) × (suc n ≤ 5)
+    pub missed_met : (n : ℕ) → moved_from area ≡ Missed → age_past n ≤ pod_progress (pod_state u old) → (age_past (suc n) ≤ pod_progress (pod_state u new)) × (suc n ≤ 5)
     missed_met n missed so_far =
         let up = ages_on u old X (found.later ++ found.step ∷ []) (ap (λ h. h ++ found.step ∷ []) found.begins ∙ append_assoc old found.later (found.step ∷ [])) in
-        let most : age (pod_state u X) ≤ age_out area = out_age area (pod_state u X) here in
+        let most : pod_progress (pod_state u X) ≤ age_out area = out_age area (pod_state u X) here in
         let l = left_more n area (stage_of area within) missed (omega (arith, so_far, up, most)) in
         let far = beyond in
         let on = ages_on u Y new y.rest y.ends in
@@ -146,25 +145,25 @@ module _ (pod : PodId) (phase : Phase) (old mid new : DirAt) (same : mid.process
   met_moved area.Trees within found y = absurd (omega (arith, within))
   met_moved area.Removed within found y = absurd (omega (arith, within))
 
-  pub round_tells : (area : Area) (sight : Sight) → rank area ≤ 5 → AtOwnEvent old.process old.trace mid.trace (IsInPhase pod phase area) → Sees pod area sight mid new → RoundTells pod (round_of phase area sight) old new
+  pub round_tells : (area : Area) (sight : Sight) → rank area ≤ 5 → AtOwnEvent old.process old.trace mid.trace (IsInPhase pod phase area) → Sees pod area sight mid new → RoundTells pod (report_round_of phase area sight) old new
   round_tells area (Manifest m) within found sees =
       let g = event_grown found in
       let seen : AtOwnStep old.process mid.trace new.trace (HasManifestIn pod area (pod_data m)) = subst (λ (me : ℕ). AtOwnStep me mid.trace new.trace (HasManifestIn pod area (pod_data m))) same sees in
       record {
         phase = phase_met pod phase area within found rest grown;
-        manifest = at_within g.0 [] g.1 (sym (append-nil new.trace)) (at_weaker (HasManifest pod (pod_data m)) (λ s h. (area, stage_of area within, h)) seen);
+        manifest = at_within g.0 [] g.1 (sym (append-nil new.trace)) (at_weaker (PodHasManifest pod (pod_data m)) (λ s h. (area, stage_of area within, h)) seen);
       }
   round_tells area Lacking within found (inl sees) =
       let g = event_grown found in
       let seen : AtOwnStep old.process mid.trace new.trace (HasUnreadable pod area) = subst (λ (me : ℕ). AtOwnStep me mid.trace new.trace (HasUnreadable pod area)) same sees in
       record {
         phase = phase_met pod phase area within found rest grown;
-        manifest = at_within g.0 [] g.1 (sym (append-nil new.trace)) (at_weaker (LacksManifest pod) (λ s h. (area, stage_of area within, inl h)) seen);
+        manifest = at_within g.0 [] g.1 (sym (append-nil new.trace)) (at_weaker (PodLacksManifest pod) (λ s h. (area, stage_of area within, inl h)) seen);
       }
   round_tells area Lacking within found (inr sees) =
       let seen : WasMissingThere pod area old.process mid.trace new.trace = subst (λ (me : ℕ). WasMissingThere pod area me mid.trace new.trace) same sees in
       record {
         phase = phase_met pod phase area within found rest grown;
-        manifest = at_weaker (LacksManifest pod) (λ s h. (area, stage_of area within, inr h)) (no_file_met pod phase area within found conforming seen);
+        manifest = at_weaker (PodLacksManifest pod) (λ s h. (area, stage_of area within, inr h)) (no_file_met pod phase area within found conforming seen);
       }
   round_tells area Moved within found sees = met_moved area within found (subst (λ (me : ℕ). AtOwnStep me mid.trace new.trace (λ s. stands s.namespace (pod_spot pod area) ≡ false)) same sees)

@@ -1,69 +1,35 @@
 -- Where a listing tells that no directory was at the path, none was in the folder that stood there when it began.
-use Rattle.std.proofs.Common.{arith, ◌≡◌, ◌⊎◌, inl, inr, ℕ, Bool, true, false, not, ◌&&◌, ◌||◌, ◌==◌, cond, Some, List, [], ◌∷◌, ◌++◌, find, append-nil, append_assoc, refl, sym, ap, subst, ◌∙◌}
-use Rattle.std.specs.List.{list_any, AllByRecursion}
-use Rattle.std.proofs.lemmas.Bool.Decides.{nat_tests}
+use Rattle.std.proofs.Common.{◌≡◌, inl, inr, ℕ, Bool, true, false, ◌==◌, cond, Some, List, [], ◌∷◌, ◌++◌, find, append-nil, append_assoc, refl, sym, ap, subst, ◌∙◌}
+use Rattle.std.specs.List.{AllByRecursion}
 use Rattle.dir_model.specs.declared.event.Event.{Event}
 use Rattle.dir_model.specs.declared.item.Inner.{Inner}
 use Rattle.dir_model.specs.declared.tree.Listed.TheVariants as listed
 use Rattle.dir_model.specs.declared.tree.TreeEntry.{TreeEntry}
 use Rattle.dir_model.specs.declared.request.DirError.TheVariants.{Missing}
-use Rattle.dir_model.specs.declared.request.Request.{Request}
-use Rattle.dir_model.specs.declared.request.Request.TheVariants.{ListIn, Kill}
+use Rattle.dir_model.specs.declared.request.Request.TheVariants.{ListIn}
 use Rattle.dir_model.specs.declared.request.Reply.{Reply}
-use Rattle.dir_model.specs.declared.request.Reply.TheVariants.{Done, Begun, Refused}
-use Rattle.dir_model.specs.Calls.{TookPlace, LeftNothing, Listing, ListStep, AtOwnStep, is_run_from, IsRun, is_allowed, is_kill, is_foreign, event}
-use Rattle.dir_model.specs.Listings.{is_of, is_listing, listing_of, shows_missing}
+use Rattle.dir_model.specs.declared.request.Reply.TheVariants.{Begun, Refused}
+use Rattle.dir_model.specs.Calls.{TookPlace, Listing, ListStep, AtOwnStep, IsRun, event}
+use Rattle.dir_model.specs.Listings.{is_listing_of, is_listing, listing_of, shows_missing}
 use Rattle.dir_model.specs.Paths.{is_well_formed}
-use Rattle.dir_model.specs.Replies.{is_own_of, is_any_reply, is_late_reply, is_reply, is_state_reply}
-use Rattle.dir_model.specs.State.{DirState, empty_state, folder_at, lives, has_begun}
+use Rattle.dir_model.specs.Replies.{is_apps_inner, is_any_reply, is_reply, is_state_reply}
+use Rattle.dir_model.specs.State.{DirState, empty_state, folder_at, lives}
 use Rattle.dir_model.specs.Trace.{state_next, states_next, state_after}
 use Rattle.dir_model.specs.Trees.{has_dir, items_in}
 use Rattle.dir_model.proofs.Allowed.{allowed_step, allowed_reply}
 use Rattle.dir_model.proofs.Chains.{states_next-append, state_after-push, run-left, run_from-right}
-use Rattle.dir_model.proofs.Lists.{and_right, and_false, not_true, any_last, same_self}
-use Rattle.dir_rules.proofs.Tied.{lived_before}
+use Rattle.dir_model.proofs.Lists.{and_right, not_true, same_self}
 use Rattle.dir_laws.proofs.Directories.{item_name, inside_now, inside_begins}
 use Rattle.dir_laws.proofs.Open.{open_along}
+use Rattle.dir_laws.proofs.Living.{apart}
 use Rattle.dir_trait.specs.DirCalls.{DirAt, ListCall, HeldBetween}
-
-same_process : (p me : ℕ) → (p == me) ≡ true → p ≡ me
-same_process p me h = grind (arith, nat_tests)
-
--- a kill that comes ends its process
-killed : (s : DirState) (me : ℕ) (request : Request) (reply : Reply) → is_kill request ≡ true → is_reply s me request reply ≡ true → lives (state_next s (event me request reply)).namespace me ≡ true → ⊥
-killed s me Kill Done kill r alive =
-    let ended : list_any (λ p. p == me) (s.namespace.ended ++ me ∷ []) ≡ true = any_last (λ p. p == me) s.namespace.ended me (same_self me) in
-    let e : true ≡ false = sym ended ∙ not_true (list_any (λ p. p == me) (s.namespace.ended ++ me ∷ [])) (and_right (has_begun s.namespace me) (not (list_any (λ p. p == me) (s.namespace.ended ++ me ∷ []))) alive) in
-    cc
-killed s me Kill (Refused error left) kill r alive = let e : true ≡ false = sym r ∙ and_false (left == 0) in cc
-killed s me Kill reply kill r alive = cc
-killed s me request reply kill r alive = cc
-
--- who lives at the end wasn't killed meanwhile
-apart : (me : ℕ) (s : DirState) (es : List Event) → is_run_from s es ≡ true → AllByRecursion (λ e. is_foreign me e ≡ true) es → lives (states_next s es).namespace me ≡ true → AllByRecursion (λ e. (e.process == me) ≡ false) es
-apart me s [] run f alive = tt
-apart me s (e ∷ es) run f alive = (by (e.process == me) refl f.0 (lived_before me (state_next s e) es f.1 alive), apart me (state_next s e) es (and_right (is_allowed s e) (is_run_from (state_next s e) es) run) f.1 alive)
-  where
-    by : (b : Bool) → (e.process == me) ≡ b → (not b || is_kill e.request) ≡ true → lives (state_next s e).namespace me ≡ true → (e.process == me) ≡ false
-    by false is h here = is
-    by true is h here =
-        let p : e.process ≡ me = same_process e.process me is in
-        let allowed = first (is_allowed s e) (is_run_from (state_next s e) es) run in
-        absurd (killed s me e.request e.reply h (allowed_reply s me e.request e.reply (subst (λ (q : ℕ). is_allowed s (event q e.request e.reply) ≡ true) p allowed)) (subst (λ (q : ℕ). lives (state_next s (event q e.request e.reply)).namespace me ≡ true) p here))
-      where
-        first : (a b : Bool) → (a && b) ≡ true → a ≡ true
-        first true b h = refl
-        first false b h = cc
-
-took : {me : ℕ} {before new : List Event} {request : Request} {reply : Reply} → is_late_reply request reply ≡ false → TookPlace before me request reply new ⊎ LeftNothing before me request reply new → TookPlace before me request reply new
-took timely (inl t) = t
-took timely (inr left) = let e : true ≡ false = sym left.late ∙ timely in cc
+use Rattle.dir_trait.proofs.Calls.{took}
 
 -- the folder there, if one stands there, has no directory at the path
 abbrev pub LacksDirectory : Inner → DirState → Type 0
 LacksDirectory inner s = (folder : ℕ) → folder_at s.namespace inner.spot ≡ Some folder → has_dir s.entries folder inner.path ≡ false
 
-module _ {me : ℕ} {old new : List Event} (inner : Inner) (own : (h : List Event) → is_own_of (state_after h) (Some inner) ≡ false) (l : Listing me old (ListIn inner) (Refused Missing 0) new) where
+module _ {me : ℕ} {old new : List Event} (inner : Inner) (own : (h : List Event) → is_apps_inner (state_after h) (Some inner) ≡ false) (l : Listing me old (ListIn inner) (Refused Missing 0) new) where
   abbrev Before : DirState
   Before = state_after l.begins.before
 
@@ -81,7 +47,7 @@ module _ {me : ℕ} {old new : List Event} (inner : Inner) (own : (h : List Even
 
   -- the replies are the state's
   by_state : (h : List Event) (r : Reply) → is_reply (state_after h) me (ListIn inner) r ≡ true → is_state_reply (state_after h) me (ListIn inner) r ≡ true
-  by_state h r allowed = by (is_own_of (state_after h) (Some inner)) (own h) allowed
+  by_state h r allowed = by (is_apps_inner (state_after h) (Some inner)) (own h) allowed
     where
       by : (b : Bool) → b ≡ false → cond b (is_any_reply (state_after h) me (ListIn inner) r) (is_state_reply (state_after h) me (ListIn inner) r) ≡ true → is_state_reply (state_after h) me (ListIn inner) r ≡ true
       by true off a = cc
@@ -111,7 +77,7 @@ module _ {me : ℕ} {old new : List Event} (inner : Inner) (own : (h : List Even
   lacked : (folder : ℕ) → folder_at Before.namespace inner.spot ≡ Some folder → (b : Bool) → has_dir Before.entries folder inner.path ≡ b → b ≡ false
   lacked folder at false is = refl
   lacked folder at true is =
-      let open_now = ap (λ (s : DirState). find (is_of me) s.listings) now_is ∙ inside_begins Before me folder inner none_listing at is in
+      let open_now = ap (λ (s : DirState). find (is_listing_of me) s.listings) now_is ∙ inside_begins Before me folder inner none_listing at is in
       let inside = open_along item_name (inside_now folder inner.path) (λ through ever. listed.Inside inner folder through ever) (λ s through ever. refl) Now Meanwhile me me (items_in folder inner.path Before.entries, []) of_others open_now in
       let e : false ≡ true = sym (ap (shows_missing inner) inside) ∙ says in
       cc
@@ -131,7 +97,7 @@ module _ {me : ℕ} {old new : List Event} (inner : Inner) (own : (h : List Even
     holds = subst (LacksDirectory inner) (sym (state_after-push l.begins.before (event me (ListIn inner) Begun))) lacked_now;
   }
 
-pub tells_lacking : {observed : Bool} {old new : DirAt} (inner : Inner) → ((h : List Event) → is_own_of (state_after h) (Some inner) ≡ false) → observed ≡ true → ListCall observed old (ListIn inner) (Refused Missing 0) new → HeldBetween old new (LacksDirectory inner)
+pub tells_lacking : {observed : Bool} {old new : DirAt} (inner : Inner) → ((h : List Event) → is_apps_inner (state_after h) (Some inner) ≡ false) → observed ≡ true → ListCall observed old (ListIn inner) (Refused Missing 0) new → HeldBetween old new (LacksDirectory inner)
 tells_lacking {observed} {old} {new} inner own t c = by (c.step t)
   where
     by : ListStep old.process old.trace (ListIn inner) (Refused Missing 0) new.trace → HeldBetween old new (LacksDirectory inner)

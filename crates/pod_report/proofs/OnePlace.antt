@@ -10,7 +10,7 @@ use Rattle.dir_model.specs.Pods.{pod_text}
 use Rattle.dir_model.specs.State.{stands}
 use Rattle.dir_model.specs.Trace.{state_after}
 use Rattle.dir_model.proofs.Lists.{and_both}
-use Rattle.dir_rules.specs.Standing.{is_of}
+use Rattle.dir_rules.specs.Standing.{is_spot_of_pod}
 use Rattle.lifecycle.specs.Executions.{IsConforming}
 use Rattle.lifecycle.specs.PodMachine.{pod_state}
 use Rattle.lifecycle.proofs.Moves.{place_once}
@@ -38,7 +38,7 @@ stage_back area.Images is = cc
 stage_back area.Trees is = cc
 stage_back area.Removed is = cc
 
-pub place_of : (pod : PodId) (a : Area) → is_stage a ≡ true → is_of (pod_text pod.bytes) (pod_spot pod a) ≡ true
+pub place_of : (pod : PodId) (a : Area) → is_stage a ≡ true → is_spot_of_pod (pod_text pod.bytes) (pod_spot pod a) ≡ true
 place_of pod a is = and_both (is_stage a) (bytes_eq (pod_text pod.bytes) (pod_text pod.bytes)) is ((bytes_eq-Decides (pod_text pod.bytes) (pod_text pod.bytes)).1 refl)
 
 pub one_area : (pod : PodId) (h : List Event) → IsConforming h → (a b : Area) → is_stage a ≡ true → is_stage b ≡ true → stands (state_after h).namespace (pod_spot pod a) ≡ true → stands (state_after h).namespace (pod_spot pod b) ≡ true → b ≡ a

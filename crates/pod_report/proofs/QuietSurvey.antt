@@ -18,7 +18,7 @@ use Rattle.dir_model.specs.Trace.{state_after, state_next, states_next, namespac
 use Rattle.dir_model.proofs.Chains.{states_next-append}
 use Rattle.dir_model.proofs.Lists.{all_left, same_rest, same_self, or_last}
 use Rattle.dir_model.proofs.Quiet.{is_harmless, look_is_harmless, listing_is_harmless, harmless_all}
-use Rattle.pod_lookup.specs.Pods.{KeepsFolders}
+use Rattle.pod_lookup.specs.Pods.{NoFolderMoves}
 use Rattle.pod_report.specs.Requests.{inspects, surveys}
 
 -- requests that change nothing
@@ -133,5 +133,5 @@ module _ {me : ℕ} {old new : List Event} (ext : Extends is_calm me old new) (q
       let asked = all_left _ later rest (subst (λ (l : List Event). AllByRecursion (λ e. (is_foreign me e || is_calm e.request) ≡ true) l) (same_rest old ext.more (later ++ rest) (sym ext.grown ∙ whole)) ext.asked) in
       subst (λ (t : DirState). SameWorld me (state_after old) t) (sym (states_next-append empty_state old later)) (all_same me (state_after old) later own asked idle)
 
-  pub survey_keeps : KeepsFolders old new
+  pub survey_keeps : NoFolderMoves old new
   survey_keeps later rest is spot = ap (λ (folders : List (Option Spot)). is_some (position (is_at spot) folders)) (same_world later rest is).names.folders

@@ -1,8 +1,8 @@
 -- What a file that was read by one call tells of a manifest.
-use Rattle.std.proofs.Common.{arith, ◌≡◌, ◌⊎◌, inl, inr, ◌≤◌, ◌<◌, ℕ, zero, suc, nat_le, Bool, true, false, ◌||◌, ◌==◌, bytes_eq, Option, Some, None, IsSomeAnd, MatchOption, Result, Ok, Err, IfOk, Vec, Global, List, [], ◌∷◌, ◌++◌, length, take, drop, codes, refl, sym, ap, subst, ◌∙◌}
+use Rattle.std.proofs.Common.{arith, ◌≡◌, ◌⊎◌, inl, inr, ◌≤◌, ◌<◌, ℕ, nat_le, Bool, true, false, ◌==◌, bytes_eq, Option, Some, None, IsSomeAnd, MatchOption, Result, Ok, Err, IfOk, Vec, Global, List, [], ◌∷◌, ◌++◌, length, take, drop, codes, refl, sym, ap, subst, ◌∙◌}
 use Rattle.std.proofs.lemmas.Grind.{common_steps}
 use Rattle.std.proofs.lemmas.Bool.Decides.{nat_tests}
-use Rattle.std.proofs.lemmas.Bool.{eqb-true}
+use Rattle.std.proofs.lemmas.Bool.{eqb-true, or_left}
 use Rattle.ac_types.specs.Outcomes.{fails, ◌>>=◌, ◌>>◌}
 use Rattle.ac_types.specs.FieldForms.{an_object}
 use Rattle.ac_types.specs.declared.fault.FaultKind.TheVariants.{TooLong}
@@ -16,9 +16,7 @@ use Rattle.dir_model.specs.declared.pod.PodId.{PodId}
 use Rattle.dir_model.specs.declared.request.Request.{Request}
 use Rattle.dir_model.specs.declared.request.Request.TheVariants.{ReadIn}
 use Rattle.dir_model.specs.Areas.{rank, is_stage}
-use Rattle.std.specs.Str.{IsAscii}
-use Rattle.std.proofs.lemmas.Str.{IsUtf8-from_ascii, is_utf8-from_IsUtf8}
-use Rattle.dir_model.specs.Paths.{is_path}
+use Rattle.plain_laws.proofs.Fronts.{taken_past}
 use Rattle.dir_model.specs.Pods.{pod_text}
 use Rattle.dir_model.specs.State.{DirState, stands, spot_eq}
 use Rattle.dir_model.specs.Calls.{AtOwnStep}
@@ -32,31 +30,24 @@ use Rattle.phase_read.proofs.Stages.{pod_spot_only}
 use Rattle.dir_files.specs.Reads.{inner_at, file_at, TellsFile, IsPiece, WasMissing, OnlyReads, reads_at}
 use Rattle.dir_files.proofs.Reading.{missing_more}
 use Rattle.phase_read.specs.Read.{pod_spot, is_pod_spot}
+use Rattle.phase_read.proofs.Exact.{stage_of}
 use Rattle.lifecycle.proofs.Looking.{at_most}
-use Rattle.pod_lookup.proofs.OneByOne.{stage_of}
 use Rattle.pod_report.proofs.Asking.{looks_read, looks_places}
 use Rattle.pod_report.specs.Requests.{OnlyAsksFor, visits, reads_in}
 use Rattle.pod_report.specs.declared.sight.Sight.{Sight}
 use Rattle.pod_report.specs.declared.sight.Sight.TheVariants.{Moved, Lacking, Manifest}
-use Rattle.pod_report.specs.Manifests.{IsManifestOf, IsNoManifest, HasManifestIn, HasUnreadable, manifest_file}
+use Rattle.pod_report.specs.Manifests.{IsManifestOf, IsNoManifest, HasManifestIn, HasUnreadable, manifest_in_area}
 use Rattle.pod_report.specs.Sights.{IsSightOf, Sees, SeesNoFile}
-use Rattle.gate_reading.specs.Files.{is_plain}
+use Rattle.gate_reading.specs.Files.{is_outside_stage1}
 use Rattle.gate_reading.proofs.PlainPaths.{plain_own}
 
-or_first : (b c : Bool) → b ≡ true → (b || c) ≡ true
-or_first true c h = refl
-or_first false c h = cc
-
 -- at a step the file was so, since its path is no app's own
-pub plain_step : {me : ℕ} {old new : List Event} (inner : Inner) (P : Option (List ℕ) → Type 0) → is_plain inner.path ≡ true → AtOwnStep me old new (TellsFile inner P) → AtOwnStep me old new (λ s. P (file_at s inner))
+pub plain_step : {me : ℕ} {old new : List Event} (inner : Inner) (P : Option (List ℕ) → Type 0) → is_outside_stage1 inner.path ≡ true → AtOwnStep me old new (TellsFile inner P) → AtOwnStep me old new (λ s. P (file_at s inner))
 plain_step inner P plain at = record { before = at.before; step = at.step; later = at.later; rest = at.rest; begins = at.begins; ends = at.ends; own = at.own; holds = at.holds (plain_own (at.before ++ at.step ∷ []) inner plain) }
 
 pub some_and : (o : Option (List ℕ)) (P : List ℕ → Type 0) → IsSomeAnd o P → (f : List ℕ) × (o ≡ Some f) × P f
 some_and (Some f) P h = (f, refl, h)
 some_and None P h = absurd h
-
-taken_past : (n : ℕ) (xs : List ℕ) → length xs ≤ n → take n xs ≡ xs
-taken_past n xs within = grind (arith, common_steps)
 
 taken_length : (n : ℕ) (xs : List ℕ) → n < length xs → length (take n xs) ≡ n
 taken_length n xs long = grind (arith, common_steps)
@@ -81,7 +72,7 @@ same_reading file = by (at_most (length file) 1048577)
 
 module _ (pod : PodId) (area : Area) where
   abbrev file : Inner
-  file = manifest_file pod area
+  file = manifest_in_area pod area
 
   abbrev Told : List ℕ → DirAt → DirAt → Type 0
   Told bytes old new = AtOwnStep old.process old.trace new.trace (TellsFile file (IsPiece 0 1048577 bytes))
@@ -125,7 +116,7 @@ module _ (pod : PodId) (area : Area) where
   looks_file path within o = looks_read (inner_at (pod_spot pod area) path) (λ t. stage_of area (within t)) (λ t. file_asked path (within t)) o
 
   look_asked : rank area ≤ 5 → (r : Request) → is_look_at (spot_eq (pod_spot pod area)) r ≡ true → visits pod r ≡ true
-  look_asked within r h = or_first (is_look_at (is_pod_spot pod) r) (reads_in pod r) (look_wider (spot_eq (pod_spot pod area)) (is_pod_spot pod) (λ here is. pod_spot_only pod (pod_spot pod area) here within refl is) r h)
+  look_asked within r h = or_left (is_look_at (is_pod_spot pod) r) (reads_in pod r) (look_wider (spot_eq (pod_spot pod area)) (is_pod_spot pod) (λ here is. pod_spot_only pod (pod_spot pod area) here within refl is) r h)
 
   -- a look at the place
   pub looks_place : {observed : Bool} {old new : DirAt} → (observed ≡ true → rank area ≤ 5) → new.process ≡ old.process → old.faults ≤ new.faults → new.local ≡ old.local → (observed ≡ true → ExtendsBy (is_look_at (spot_eq (pod_spot pod area))) old new) → (observed ≡ true → OnlyLooks old new) → OnlyAsksFor observed (visits pod) old new
@@ -133,16 +124,7 @@ module _ (pod : PodId) (area : Area) where
 
 -- a read of the pod's phase
 pub looks_phase : (pod : PodId) {observed : Bool} {old new : DirAt} → new.process ≡ old.process → old.faults ≤ new.faults → new.local ≡ old.local → (observed ≡ true → ExtendsBy (is_look_at (is_pod_spot pod)) old new) → (observed ≡ true → OnlyLooks old new) → OnlyAsksFor observed (visits pod) old new
-looks_phase pod same faults local extends looks = looks_places (λ t r h. or_first (is_look_at (is_pod_spot pod) r) (reads_in pod r) h) same faults local extends looks
-
-pod_ascii : IsAscii (codes "pod")
-pod_ascii zero = omega arith
-pod_ascii (suc zero) = omega arith
-pod_ascii (suc (suc zero)) = omega arith
-pod_ascii (suc (suc (suc i))) = omega arith
-
-pub pod_path : is_path (codes "pod") ≡ true
-pod_path = is_utf8-from_IsUtf8 (codes "pod") (IsUtf8-from_ascii (codes "pod") pod_ascii)
+looks_phase pod same faults local extends looks = looks_places (λ t r h. or_left (is_look_at (is_pod_spot pod) r) (reads_in pod r) h) same faults local extends looks
 
 -- the bytes that were kept are those that were read
 pub kept_told : {observed : Bool} {E : Type 0} (inner : Inner) (room : ℕ) (bytes : List ℕ) {slice : List ℕ} (old new : DirAt) (r : Result (Option (Vec ℕ Global)) E) → slice ≡ bytes → (observed ≡ true → HeldBetween old new (TellsFile inner (IsPiece 0 room bytes))) → IfOk r (λ found. IsSomeAnd found (λ kept. kept.items ≡ slice)) → IfOk r (λ found. observed ≡ true → MatchOption found (WasMissing inner old new) (λ b. HeldBetween old new (TellsFile inner (IsPiece 0 room b.items))))

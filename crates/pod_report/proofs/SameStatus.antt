@@ -24,20 +24,20 @@ use Rattle.pod_report.proofs.QuietLines.{same_folder, same_file}
 use Rattle.pod_report.proofs.QuietSurvey.{SameWorld}
 
 module _ {me : ℕ} {s t : DirState} (w : SameWorld me s t) where
-  same_stands : (spot : Spot) → stands t.namespace spot ≡ stands s.namespace spot
+  pub same_stands : (spot : Spot) → stands t.namespace spot ≡ stands s.namespace spot
   same_stands spot = ap (λ (o : Option ℕ). is_some o) (same_folder w spot)
 
   owned_in : (folder : Option ℕ) → is_owned_in t.namespace folder ≡ is_owned_in s.namespace folder
   owned_in None = refl
   owned_in (Some k) = w.names.owned k
 
-  same_owned : (spot : Spot) → is_owned_at t.namespace spot ≡ is_owned_at s.namespace spot
+  pub same_owned : (spot : Spot) → is_owned_at t.namespace spot ≡ is_owned_at s.namespace spot
   same_owned spot = owned_in (folder_at t.namespace spot) ∙ ap (λ (o : Option ℕ). is_owned_in s.namespace o) (same_folder w spot)
 
   or_same : (pod : PodId) (a : Area) (here later : Found) → here ≡ later → or_in t pod a here ≡ or_in s pod a later
   or_same pod a here later is = rw (same_stands (pod_spot pod a), same_owned (pod_spot pod a), is) refl
 
-  same_read : (pod : PodId) → sequential_read t pod ≡ sequential_read s pod
+  pub same_read : (pod : PodId) → sequential_read t pod ≡ sequential_read s pod
   same_read pod =
       or_same pod area.Embryo _ _ (or_same pod area.Prepare _ _ (or_same pod area.Prepared _ _ (or_same pod area.Run _ _ (or_same pod area.ExitedGarbage _ _ (or_same pod area.Garbage _ _ refl)))))
 

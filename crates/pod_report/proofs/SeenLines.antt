@@ -2,6 +2,7 @@
 use Rattle.std.proofs.Common.{◌≡◌, inl, inr, ◌<◌, ◌+◌, ℕ, Bool, true, bytes_eq, Option, Some, None, List, [], ◌∷◌, ◌++◌, take, length, get_or, refl, sym, ap, subst, ◌∙◌, append_assoc, append-nil}
 use Rattle.std.specs.List.{AllByRecursion}
 use Rattle.std.proofs.lemmas.List.{map-append, take_more}
+use Rattle.plain_laws.proofs.Texts.{same_bytes}
 use Rattle.manifests.specs.declared.pod_manifest.PodManifest.{PodManifest}
 use Rattle.dir_model.specs.declared.area.Area.{Area}
 use Rattle.dir_model.specs.declared.area.Area.TheVariants as area
@@ -13,7 +14,6 @@ use Rattle.dir_model.specs.Listings.{has_name}
 use Rattle.dir_model.specs.Pods.{pod_text}
 use Rattle.dir_model.proofs.Lists.{all_weaker, all_push, any_push, any_last}
 use Rattle.dir_model.proofs.Moments.{at_within}
-use Rattle.dir_rules.proofs.Looks.{same_bytes}
 use Rattle.dir_trait.specs.DirCalls.{DirAt}
 use Rattle.phase_read.specs.Read.{stages}
 use Rattle.phase_read.proofs.InTurn.{left_out_before}
@@ -24,7 +24,7 @@ use Rattle.pod_report.specs.OwnReadings.{FindsPod, IsMissed}
 use Rattle.pod_report.specs.SeenManifests.{SeesManifest, IsVisited}
 use Rattle.pod_report.specs.SeenLines.{IsLineSeen, LineSees, AddsSeen, IsLinedOrMissed, LinesSeen}
 use Rattle.pod_report.specs.Requests.{OnlyAsksFor}
-use Rattle.pod_report.specs.Snapshot.{IsPartOf, lined, names_told}
+use Rattle.pod_report.specs.Snapshot.{IsSublist, lined, names_told}
 use Rattle.pod_report.proofs.OwnReadings.{visited_after, missed_after}
 use Rattle.pod_report.proofs.Telling.{part_skip, part_keep}
 
@@ -102,16 +102,16 @@ module _ {observed : Bool} {asks asks' : Request → Bool} (old mid new : DirAt)
 
     pub seen_more : AddsSeen pod lines after mid new → LinesSeen (pods ++ pod ∷ []) after me old.trace new.trace
     seen_more (inl (is, missed)) = subst (λ (l : List PodLine). LinesSeen (pods ++ pod ∷ []) l me old.trace new.trace) (sym is) (record {
-      part = subst (λ (l : List (List ℕ)). IsPartOf (lined lines) l) (sym pods_push) (part_skip (lined lines) (pod_names pods) (pod_text pod.bytes) so_far.part);
+      part = subst (λ (l : List (List ℕ)). IsSublist (lined lines) l) (sym pods_push) (part_skip (lined lines) (pod_names pods) (pod_text pod.bytes) so_far.part);
       each = earlier;
       rest = all_push (IsLinedOrMissed me old.trace new.trace lines) pods pod
           (all_weaker (IsLinedOrMissed me old.trace mid.trace lines) (IsLinedOrMissed me old.trace new.trace lines) still pods so_far.rest)
           (inr (missed_after pod old mid new t ab missed));
     })
     seen_more (inr (line, is, of, seen)) = subst (λ (l : List PodLine). LinesSeen (pods ++ pod ∷ []) l me old.trace new.trace) (sym is) (record {
-      part = subst (λ (x : List (List ℕ)). IsPartOf x (pod_names (pods ++ pod ∷ [])))
+      part = subst (λ (x : List (List ℕ)). IsSublist x (pod_names (pods ++ pod ∷ [])))
           (sym (map-append (λ (l : PodLine). pod_text l.pod.bytes) lines (line ∷ []) ∙ ap (λ (p : PodId). lined lines ++ pod_text p.bytes ∷ []) of))
-          (subst (λ (x : List (List ℕ)). IsPartOf (lined lines ++ pod_text pod.bytes ∷ []) x) (sym pods_push) (part_keep (lined lines) (pod_names pods) (pod_text pod.bytes) so_far.part));
+          (subst (λ (x : List (List ℕ)). IsSublist (lined lines ++ pod_text pod.bytes ∷ []) x) (sym pods_push) (part_keep (lined lines) (pod_names pods) (pod_text pod.bytes) so_far.part));
       each = all_push (IsLineSeen me old.trace new.trace) lines line earlier (line_after line seen);
       rest = all_push (IsLinedOrMissed me old.trace new.trace (lines ++ line ∷ [])) pods pod
           (all_weaker (IsLinedOrMissed me old.trace mid.trace lines) (IsLinedOrMissed me old.trace new.trace (lines ++ line ∷ [])) (also line) pods so_far.rest)

@@ -1,6 +1,9 @@
 -- A status that is so of a state is the one that the state gives.
-use Rattle.std.proofs.Common.{◌≡◌, ℕ, Bool, true, false, ◌&&◌, ◌≤◌, bytes_eq, is_some, Option, Some, None, IsSomeAnd, List, [], Result, Ok, Err, refl, sym, ap, subst, ◌∙◌}
+use Rattle.std.proofs.Common.{◌≡◌, ℕ, true, false, ◌&&◌, ◌≤◌, bytes_eq, is_some, Option, Some, None, IsSomeAnd, List, [], Result, Ok, Err, refl, sym, ap, subst, ◌∙◌}
 use Rattle.std.specs.List.{AllByRecursion, list_any}
+use Rattle.plain_laws.proofs.Texts.{same_text}
+use Rattle.plain_laws.proofs.Numbers.{one_of_two}
+use Rattle.plain_laws.proofs.Booleans.{same_test}
 use Rattle.dir_model.specs.declared.area.Area.{Area}
 use Rattle.dir_model.specs.declared.event.Event.{Event}
 use Rattle.dir_model.specs.declared.item.Item.{Item}
@@ -17,13 +20,12 @@ use Rattle.dir_rules.specs.Seen.{created_among}
 use Rattle.lifecycle.specs.Executions.{IsConforming}
 use Rattle.phase_read.specs.declared.found.Found.{Found}
 use Rattle.phase_read.specs.Read.{pod_spot}
-use Rattle.pod_lookup.proofs.InOrder.{same_name}
 use Rattle.pod_report.specs.declared.ends.AppEndText.{AppEndText}
 use Rattle.pod_report.specs.declared.error.ReportError.{ReportError}
 use Rattle.pod_report.specs.declared.error.ReportError.TheVariants.{NoPod}
 use Rattle.pod_report.specs.declared.status.PodStatus.{PodStatus}
 use Rattle.pod_report.specs.Created.{HasCreatedMark}
-use Rattle.pod_report.specs.Ends.{status_file, HasEndedIn, HasEnded, ended_apps}
+use Rattle.pod_report.specs.Ends.{status_file, HasEndedIn, HasEndedAnywhere, ended_apps}
 use Rattle.pod_report.specs.Sequential.{items_of, created_in, end_in, ends_in, status_found, sequential_status}
 use Rattle.pod_report.proofs.Alone.{any_with}
 use Rattle.pod_report.proofs.Greatest.{among_greatest, one_greatest}
@@ -32,12 +34,7 @@ use Rattle.pod_report.proofs.QuietLines.{file_stands}
 use Rattle.pod_report.proofs.QuietStatus.{IsStatusOf}
 use Rattle.pod_report.proofs.SequentialEnds.{ends_are, end_is, end_told, names, name_shown, name_plain}
 use Rattle.pod_report.proofs.SequentialReads.{gone_is, there_is}
-use Rattle.pod_report.proofs.StatusMeeting.{same_number, item_named}
-
-pub same_test : (a b : Bool) → (a ≡ true → b ≡ true) → (b ≡ true → a ≡ true) → a ≡ b
-same_test true b f g = sym (f refl)
-same_test false true f g = g refl
-same_test false false f g = refl
+use Rattle.pod_report.proofs.StatusMeeting.{item_named}
 
 some_end : (o : Option AppEndText) → is_some o ≡ true → (e : AppEndText) × (o ≡ Some e)
 some_end (Some e) h = (e, refl)
@@ -47,7 +44,7 @@ some_end None h = cc
 end_of : (P : AppEndText → Type 0) (ends : List AppEndText) (name : List ℕ) → AllByRecursion P ends → has_name (ended_apps ends) name ≡ true → (e : AppEndText) × P e × (e.app ≡ name)
 end_of P ends name all h =
     let x = any_with P (λ (e : AppEndText). bytes_eq e.app name) ends all (sym (any_of_map (λ (e : AppEndText). e.app) (λ (n : List ℕ). bytes_eq n name) ends) ∙ h) in
-    (x.0, x.1, same_name x.0.app name x.2)
+    (x.0, x.1, same_text x.0.app name x.2)
 
 status_parts : (status : PodStatus) (created : Option ℕ) (ends : List AppEndText) → status.created ≡ created → status.ends ≡ ends → status ≡ record { phase = status.phase; created = created; ends = ends }
 status_parts status created ends c e =
@@ -71,21 +68,21 @@ module _ (h : List Event) (conforming : IsConforming h) (pod : PodId) (status : 
   only_here b stage there = one_area pod h conforming area b x.stage stage x.there there
 
   -- the ends
-  ended_here : (app : List ℕ) (n : ℕ) → HasEnded pod app n s → HasEndedIn pod area app n s
+  ended_here : (app : List ℕ) (n : ℕ) → HasEndedAnywhere pod app n s → HasEndedIn pod area app n s
   ended_here app n (b, stage, has) = subst (λ (c : Area). HasEndedIn pod c app n s) (only_here b stage (file_stands s (status_file pod b app) has.bytes has.file)) has
 
   own : (name : List ℕ) (e : AppEndText) → end_in s pod area name ≡ Some e → e.app ≡ name
   own name e is = (end_told s pod area name e is).same
 
   each_told : AllByRecursion (λ (e : AppEndText). end_in s pod area e.app ≡ Some e) status.ends
-  each_told = all_weaker (λ (e : AppEndText). HasEnded pod e.app e.status s) (λ (e : AppEndText). end_in s pod area e.app ≡ Some e) (λ e has. end_is s pod area e.app e.status (ended_here e.app e.status has)) status.ends x.ends
+  each_told = all_weaker (λ (e : AppEndText). HasEndedAnywhere pod e.app e.status s) (λ (e : AppEndText). end_in s pod area e.app ≡ Some e) (λ e has. end_is s pod area e.app e.status (ended_here e.app e.status has)) status.ends x.ends
 
   listed : (name : List ℕ) → has_name (ended_apps status.ends) name ≡ true → (has_name (names s pod area) name && is_some (end_in s pod area name)) ≡ true
   listed name there =
-      let e = end_of (λ (e : AppEndText). HasEnded pod e.app e.status s) status.ends name x.ends there in
+      let e = end_of (λ (e : AppEndText). HasEndedAnywhere pod e.app e.status s) status.ends name x.ends there in
       let n = end_of (λ (e : AppEndText). is_file_name e.app ≡ true) status.ends name x.named there in
       let plain : is_file_name name ≡ true = subst (λ (m : List ℕ). is_file_name m ≡ true) n.2 n.1 in
-      let has = ended_here name e.0.status (subst (λ (m : List ℕ). HasEnded pod m e.0.status s) e.2 e.1) in
+      let has = ended_here name e.0.status (subst (λ (m : List ℕ). HasEndedAnywhere pod m e.0.status s) e.2 e.1) in
       and_both (has_name (names s pod area) name) (is_some (end_in s pod area name)) (name_shown s pod area K k.1 name e.0.status plain has) (ap (λ (o : Option AppEndText). is_some o) (end_is s pod area name e.0.status has))
 
   ended : (name : List ℕ) → (has_name (names s pod area) name && is_some (end_in s pod area name)) ≡ true → has_name (ended_apps status.ends) name ≡ true
@@ -109,7 +106,7 @@ module _ (h : List Event) (conforming : IsConforming h) (pod : PodId) (status : 
   none_later : (m : ℕ) → HasCreatedMark pod m s → IsSomeAnd (created_among marks) (λ c. m ≤ c)
   none_later m (name, is, w) =
       let place : w.area ≡ area = only_here w.area w.stage (ap (λ (o : Option ℕ). is_some o) w.there) in
-      let folder : w.folder ≡ K = same_number (folder_at s.namespace (pod_spot pod area)) w.folder K (subst (λ (b : Area). folder_at s.namespace (pod_spot pod b) ≡ Some w.folder) place w.there) k.1 in
+      let folder : w.folder ≡ K = one_of_two (folder_at s.namespace (pod_spot pod area)) w.folder K (subst (λ (b : Area). folder_at s.namespace (pod_spot pod b) ≡ Some w.folder) place w.there) k.1 in
       (among_greatest marks).most name m (subst (λ (n : ℕ). list_any (is_named name) (items_in n [] s.entries) ≡ true) folder w.named) is
 
   same_created : status.created ≡ created_in s pod area

@@ -1,10 +1,8 @@
 -- Status files: they are no started app's own, and the directory of statuses shows them.
-use Rattle.std.proofs.Common.{arith, ◌≡◌, ◌≤◌, ◌<◌, ℕ, zero, suc, nat_lt, Bool, true, false, not, ◌&&◌, ◌||◌, ◌==◌, cond, bytes_eq, nat_eq, Option, Some, None, List, [], ◌∷◌, ◌++◌, length, codes, refl, sym, ap, subst, ◌∙◌}
+use Rattle.std.proofs.Common.{◌≡◌, ℕ, Bool, true, false, not, ◌&&◌, ◌||◌, ◌==◌, cond, bytes_eq, nat_eq, Option, Some, None, List, [], ◌∷◌, ◌++◌, codes, refl, sym, ap, subst, ◌∙◌}
 use Rattle.std.specs.List.{list_any, list_all, cons_option, starts_with}
-use Rattle.std.specs.Str.{is_utf8, IsAscii}
-use Rattle.std.proofs.lemmas.Bool.Decides.{nat_tests}
-use Rattle.std.proofs.lemmas.List.Sums.{AllPass-from_list_all}
-use Rattle.std.proofs.lemmas.Str.{IsUtf8-from_ascii}
+use Rattle.std.specs.Str.{is_utf8}
+use Rattle.plain_laws.proofs.Texts.{same_bytes, same_text}
 use Rattle.dir_model.specs.declared.event.Event.{Event}
 use Rattle.dir_model.specs.declared.item.Inner.{Inner}
 use Rattle.dir_model.specs.declared.item.Item.{Item}
@@ -12,19 +10,18 @@ use Rattle.dir_model.specs.declared.tree.TreeEntry.{TreeEntry}
 use Rattle.dir_model.specs.Listings.{is_named}
 use Rattle.dir_model.specs.Names.{is_file_byte, IsFileName}
 use Rattle.dir_model.specs.Paths.{is_slash, is_empty, is_file_name, is_path, lies_below, is_directly_in, behind}
-use Rattle.dir_model.specs.Replies.{is_own_of}
+use Rattle.dir_model.specs.Replies.{is_apps_inner}
 use Rattle.dir_model.specs.Trace.{state_after}
 use Rattle.dir_model.specs.Trees.{is_dir, is_entry, is_file_entry, has_file, is_child, item_in, items_in, kind_of}
 use Rattle.dir_model.proofs.Lists.{and_left, and_right, and_both, or_last}
 use Rattle.dir_rules.specs.Marks.{status_directory}
-use Rattle.dir_rules.proofs.Looks.{same_bytes}
 use Rattle.folder_removal.proofs.Paths.{path_of}
-use Rattle.lifecycle.proofs.Places.{name_same}
 use Rattle.dir_laws.proofs.Apps.{not_apps_own}
+use Rattle.dir_laws.proofs.Names.{status_path}
 use Rattle.gate_reading.proofs.DirectItems.{no_slash}
 
 -- the statuses are at and below their directory
-pub status_own : (h : List Event) (inner : Inner) (rest : List ℕ) → inner.path ≡ status_directory ++ rest → is_own_of (state_after h) (Some inner) ≡ false
+pub status_own : (h : List Event) (inner : Inner) (rest : List ℕ) → inner.path ≡ status_directory ++ rest → is_apps_inner (state_after h) (Some inner) ≡ false
 status_own h inner rest is =
     not_apps_own (codes "stage1/rootfs/opt/") (λ app rest. refl) h inner (subst (λ (p : List ℕ). starts_with nat_eq p (codes "stage1/rootfs/opt/") ≡ false) (sym is) refl)
 
@@ -41,7 +38,7 @@ directly app name =
 shown_one : (k : ℕ) (app : List ℕ) (e : TreeEntry) → is_file_name app ≡ true → is_file_entry k (status_directory ++ 47 ∷ app) e ≡ true → item_in k status_directory e ≡ Some (record { name = app; kind = kind_of e.node })
 shown_one k app e name is =
     let here = and_left (is_entry k (status_directory ++ 47 ∷ app) e) (not (is_dir e.node)) is in
-    let path : e.path ≡ status_directory ++ 47 ∷ app = name_same e.path (status_directory ++ 47 ∷ app) (and_right (e.folder == k) _ here) in
+    let path : e.path ≡ status_directory ++ 47 ∷ app = same_text e.path (status_directory ++ 47 ∷ app) (and_right (e.folder == k) _ here) in
     ap (λ (p : List ℕ). cond (((e.folder == k) && is_directly_in status_directory p) && is_file_name (behind status_directory p)) (some (behind status_directory p)) None) path
     ∙ (ap (λ (b : Bool). cond ((b && is_directly_in status_directory (status_directory ++ 47 ∷ app)) && is_file_name app) (some app) None) (and_left (e.folder == k) _ here)
     ∙ (ap (λ (b : Bool). cond (b && is_file_name app) (some app) None) (directly app name)
@@ -70,7 +67,7 @@ listed_name k path [] name h = cc
 listed_name k path (e ∷ es) name h = by (is_child k path e) (is_file_name (behind path e.path)) refl h (λ rest. listed_name k path es name rest)
   where
     one : (b : Bool) → bytes_eq (behind path e.path) name ≡ b → is_file_name (behind path e.path) ≡ true → (b || list_any (is_named name) (items_in k path es)) ≡ true → (list_any (is_named name) (items_in k path es) ≡ true → is_file_name name ≡ true) → is_file_name name ≡ true
-    one true same is h go = subst (λ (n : List ℕ). is_file_name n ≡ true) (name_same (behind path e.path) name same) is
+    one true same is h go = subst (λ (n : List ℕ). is_file_name n ≡ true) (same_text (behind path e.path) name same) is
     one false apart is h go = go h
 
     by : (c b : Bool) → is_file_name (behind path e.path) ≡ b → list_any (is_named name) (cons_option (cond (c && b) (Some (record { name = behind path e.path; kind = kind_of e.node })) None) (items_in k path es)) ≡ true → (list_any (is_named name) (items_in k path es) ≡ true → is_file_name name ≡ true) → is_file_name name ≡ true
@@ -78,23 +75,5 @@ listed_name k path (e ∷ es) name h = by (is_child k path e) (is_file_name (beh
     by true false is h go = go h
     by false b is h go = go h
 
--- their directory has a path, and each file in it has one
-small_bytes : (bs : List ℕ) → list_all (λ b. nat_lt b 128) bs ≡ true → IsAscii bs
-small_bytes [] h i = omega arith
-small_bytes (b ∷ bs) h zero = below b (and_left (nat_lt b 128) (list_all (λ b. nat_lt b 128) bs) h)
-  where
-    below : (b : ℕ) → nat_lt b 128 ≡ true → b < 128
-    below b h = grind (arith, nat_tests)
-small_bytes (b ∷ bs) h (suc i) = small_bytes bs (and_right (nat_lt b 128) (list_all (λ b. nat_lt b 128) bs) h) i
-
-plain_name : (bs : List ℕ) → 1 ≤ length bs → length bs ≤ 255 → list_all is_file_byte bs ≡ true → list_all (λ b. nat_lt b 128) bs ≡ true → IsFileName bs
-plain_name bs some few plain small = (some, few, AllPass-from_list_all is_file_byte bs plain, IsUtf8-from_ascii bs (small_bytes bs small))
-
-pub directory_path : is_path status_directory ≡ true
-directory_path =
-    path_of (codes "stage1/rootfs/rkt") (codes "status")
-    (path_of (codes "stage1/rootfs") (codes "rkt") (path_of (codes "stage1") (codes "rootfs") (path_of [] (codes "stage1") refl (plain_name (codes "stage1") (omega arith) (omega arith) refl refl)) (plain_name (codes "rootfs") (omega arith) (omega arith) refl refl)) (plain_name (codes "rkt") (omega arith) (omega arith) refl refl))
-    (plain_name (codes "status") (omega arith) (omega arith) refl refl)
-
 pub file_path : (app : List ℕ) → IsFileName app → is_path (status_directory ++ 47 ∷ app) ≡ true
-file_path app name = path_of status_directory app directory_path name
+file_path app name = path_of status_directory app status_path name

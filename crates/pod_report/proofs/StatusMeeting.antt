@@ -4,6 +4,8 @@ use Rattle.std.specs.List.{list_any, AllByRecursion}
 use Rattle.std.specs.List.Sorted.{IsStrictlySortedBy}
 use Rattle.std.specs.Ordering.{nat_cmp}
 use Rattle.std.specs.Cmp.Lexicographic.{slice_cmp}
+use Rattle.plain_laws.proofs.Booleans.{clash}
+use Rattle.plain_laws.proofs.Numbers.{one_of_two}
 use Rattle.dir_model.specs.declared.area.Area.{Area}
 use Rattle.dir_model.specs.declared.area.Phase.{Phase}
 use Rattle.dir_model.specs.declared.event.Event.{Event}
@@ -17,7 +19,7 @@ use Rattle.dir_model.specs.Areas.{rank, is_stage}
 use Rattle.dir_model.specs.Calls.{AtOwnStep, event}
 use Rattle.dir_model.specs.Listings.{has_name, item_names, is_named, is_item, has_item}
 use Rattle.dir_model.specs.Paths.{is_file_name}
-use Rattle.dir_model.specs.Replies.{is_own_of}
+use Rattle.dir_model.specs.Replies.{is_apps_inner}
 use Rattle.dir_model.specs.State.{DirState, empty_state, stands, folder_at}
 use Rattle.dir_model.specs.Trace.{states_next, state_after}
 use Rattle.dir_model.specs.Trees.{has_dir, has_file, items_in, content}
@@ -31,20 +33,18 @@ use Rattle.dir_files.specs.Reads.{inner_at, bytes_in, file_at}
 use Rattle.dir_files.proofs.Folders.{not_own}
 use Rattle.gate_reading.proofs.Listed.{throughout, sometime}
 use Rattle.lifecycle.specs.Executions.{IsConforming}
-use Rattle.lifecycle.proofs.Handles.{clash}
 use Rattle.lifecycle.proofs.Stays.{stays_between}
 use Rattle.phase_read.specs.Read.{pod_spot}
 use Rattle.phase_read.specs.Exact.{AtOwnEvent, IsInPhase}
-use Rattle.phase_read.proofs.Exact.{event_within}
-use Rattle.pod_lookup.proofs.OneByOne.{stage_of}
+use Rattle.phase_read.proofs.Exact.{event_within, stage_of}
 use Rattle.pod_lookup.proofs.Shown.{conforms}
 use Rattle.pod_report.specs.declared.ends.AppEndText.{AppEndText}
 use Rattle.pod_report.specs.declared.status.PodStatus.{PodStatus}
 use Rattle.pod_report.specs.Created.{HasCreatedMark}
-use Rattle.pod_report.specs.Ends.{status_path, status_file, HasEndedIn, HasEnded, ended_apps}
+use Rattle.pod_report.specs.Ends.{status_path, status_file, HasEndedIn, HasEndedAnywhere, ended_apps}
 use Rattle.pod_report.specs.Inspections.{TellsMarks, TellsEnds, SeesStatus}
-use Rattle.pod_report.specs.Moments.{IsMoment, AtSomeMoment, AtEachMoment}
-use Rattle.pod_report.specs.Status.{IsStatus}
+use Rattle.pod_report.specs.Moments.{IsMoment, AtSomeState, AtEachState}
+use Rattle.pod_report.specs.Status.{IsPodStatus}
 use Rattle.pod_report.proofs.Greatest.{mark_tells, first_item}
 use Rattle.pod_report.proofs.OnePlace.{one_area}
 use Rattle.pod_report.proofs.QuietLines.{file_stands}
@@ -81,9 +81,6 @@ to_step {me} {a} {b} {P} x = by_more (x.later ++ x.step ∷ []) (ap (λ h. h ++ 
 
 from_step : {me : ℕ} {a b : List Event} {P : DirState → Type 0} (x : AtOwnStep me a b P) → Grows (At x) b
 from_step x = by_more x.rest x.ends
-
-pub same_number : (o : Option ℕ) (k l : ℕ) → o ≡ Some k → o ≡ Some l → k ≡ l
-same_number o k l p q = let e : Some k ≡ Some l = sym p ∙ q in cc
 
 pub item_named : (xs : List Item) (item : Item) → has_item xs item ≡ true → list_any (is_named item.name) xs ≡ true
 item_named [] item h = cc
@@ -173,7 +170,7 @@ module _ (pod : PodId) (area : Area) (within : rank area ≤ 5) (phase : Phase) 
   here h x z b is at = one_area pod h (good_at h z) area b stage is (there_at h x z) at
 
   -- a listing meanwhile is one of that folder
-  module _ {a b : List Event} (from : Grows X a) (to : Grows b Z) (path : List ℕ) (items : List Item) (d : ShowsDirectory me a b (inner_at spot path) items) (own : (h : List Event) → is_own_of (state_after h) (Some (inner_at spot path)) ≡ false) where
+  module _ {a b : List Event} (from : Grows X a) (to : Grows b Z) (path : List ℕ) (items : List Item) (d : ShowsDirectory me a b (inner_at spot path) items) (own : (h : List Event) → is_apps_inner (state_after h) (Some (inner_at spot path)) ≡ false) where
     abbrev begun : List Event
     begun = d.stretch.begun
 
@@ -196,7 +193,7 @@ module _ (pod : PodId) (area : Area) (within : rank area ≤ 5) (phase : Phase) 
     at_Z u v split = and_on (by_more (v ++ last ∷ []) (d.stretch.ends ∙ (ap (λ l. (begun ++ l) ++ last ∷ []) split ∙ simp append_assoc))) to
 
     same_folder : i.folder ≡ K
-    same_folder = same_number (folder_at (state_after begun).namespace spot) i.folder K i.here (stayed begun X_begun (and_on (by_more (others ++ last ∷ []) (d.stretch.ends ∙ append_assoc begun others (last ∷ []))) to))
+    same_folder = one_of_two (folder_at (state_after begun).namespace spot) i.folder K i.here (stayed begun X_begun (and_on (by_more (others ++ last ∷ []) (d.stretch.ends ∙ append_assoc begun others (last ∷ []))) to))
 
     state_is : (u : List Event) → states_next (state_after begun) u ≡ state_after (begun ++ u)
     state_is u = sym (states_next-append empty_state begun u)
@@ -222,7 +219,7 @@ module _ (pod : PodId) (area : Area) (within : rank area ≤ 5) (phase : Phase) 
         (subst (λ (n : ℕ). list_any (is_named name) (items_in n path (state_after (begun ++ u)).entries) ≡ true) (sym same_folder) (each (begun ++ u) (X_at u) (at_Z u v split)))))
 
   -- the marks
-  root_own : (h : List Event) → is_own_of (state_after h) (Some (inner_at spot [])) ≡ false
+  root_own : (h : List Event) → is_apps_inner (state_after h) (Some (inner_at spot [])) ≡ false
   root_own h = not_own spot h
 
   never_gone : {P : Type 0} {a b : List Event} → Grows X a → Grows b Z → AtOwnStep me a b (λ s. folder_at s.namespace spot ≡ None) → P
@@ -235,18 +232,18 @@ module _ (pod : PodId) (area : Area) (within : rank area ≤ 5) (phase : Phase) 
   mark_here h m x z has =
       let w = has.2 in
       let place : w.area ≡ area = here h x z w.area w.stage (ap (λ (o : Option ℕ). is_some o) w.there) in
-      let folder : w.folder ≡ K = same_number (folder_at (state_after h).namespace spot) w.folder K (subst (λ (b : Area). folder_at (state_after h).namespace (pod_spot pod b) ≡ Some w.folder) place w.there) (stayed h x z) in
+      let folder : w.folder ≡ K = one_of_two (folder_at (state_after h).namespace spot) w.folder K (subst (λ (b : Area). folder_at (state_after h).namespace (pod_spot pod b) ≡ Some w.folder) place w.there) (stayed h x z) in
       subst (λ (n : List ℕ). list_any (is_named n) (items_in K [] (state_after h).entries) ≡ true) (mark_tells has.0 m has.1).is
       (subst (λ (n : ℕ). list_any (is_named has.0) (items_in n [] (state_after h).entries) ≡ true) folder w.named)
 
-  created_met : TellsMarks pod area status.created me mid sees.marked → (m : ℕ) → status.created ≡ Some m → AtSomeMoment old new (HasCreatedMark pod m)
+  created_met : TellsMarks pod area status.created me mid sees.marked → (m : ℕ) → status.created ≡ Some m → AtSomeState old new (HasCreatedMark pod m)
   created_met (inl t) m is =
       let g = t.greatest.shown m is in
       let x = shown_once X_mid marked_Z [] t.items t.shows root_own g.0 g.1 in
       record { trace = x.0; moment = is_moment x.0 x.1 x.2; holds = (g.0.name, g.2, record { area = area; stage = stage; folder = K; there = stayed x.0 x.1 x.2; named = x.3 }) }
   created_met (inr y) m is = never_gone X_mid marked_Z y
 
-  latest_met : TellsMarks pod area status.created me mid sees.marked → (m : ℕ) → AtEachMoment old new (HasCreatedMark pod m) → IsSomeAnd status.created (λ c. m ≤ c)
+  latest_met : TellsMarks pod area status.created me mid sees.marked → (m : ℕ) → AtEachState old new (HasCreatedMark pod m) → IsSomeAnd status.created (λ c. m ≤ c)
   latest_met (inl t) m each =
       let first = each X (is_moment X (by_more [] (sym (append-nil X))) (and_on X_mid (and_on mid_marked marked_Z))) in
       t.greatest.most (created_mark m) m (shown_all X_mid marked_Z [] t.items t.shows root_own (created_mark m) (λ h x z. mark_here h m x z (each h (is_moment h x z))))
@@ -257,23 +254,23 @@ module _ (pod : PodId) (area : Area) (within : rank area ≤ 5) (phase : Phase) 
   X_marked : Grows X sees.marked
   X_marked = and_on X_mid mid_marked
 
-  status_mine : (h : List Event) → is_own_of (state_after h) (Some (inner_at spot status_directory)) ≡ false
+  status_mine : (h : List Event) → is_apps_inner (state_after h) (Some (inner_at spot status_directory)) ≡ false
   status_mine h = status_own h (inner_at spot status_directory) [] refl
 
-  ended_here : (h : List Event) (app : List ℕ) (n : ℕ) → Grows X h → Grows h Z → HasEnded pod app n (state_after h) → HasEndedIn pod area app n (state_after h)
+  ended_here : (h : List Event) (app : List ℕ) (n : ℕ) → Grows X h → Grows h Z → HasEndedAnywhere pod app n (state_after h) → HasEndedIn pod area app n (state_after h)
   ended_here h app n x z (b, is, has) =
       subst (λ (c : Area). HasEndedIn pod c app n (state_after h)) (here h x z b is (file_stands (state_after h) (status_file pod b app) has.bytes has.file)) has
 
-  file_here : (h : List Event) (app : List ℕ) (n : ℕ) → Grows X h → Grows h Z → HasEnded pod app n (state_after h) → has_file (state_after h).entries K (status_path app) ≡ true
+  file_here : (h : List Event) (app : List ℕ) (n : ℕ) → Grows X h → Grows h Z → HasEndedAnywhere pod app n (state_after h) → has_file (state_after h).entries K (status_path app) ≡ true
   file_here h app n x z has = let e = ended_here h app n x z has in file_in (state_after h) K spot (status_path app) e.bytes (stayed h x z) e.file
 
   -- an end that was told stood at a moment
-  once : {a b : List Event} → Grows X a → Grows b Z → (e : AppEndText) → AtOwnStep me a b (HasEndedIn pod area e.app e.status) → AtSomeMoment old new (HasEnded pod e.app e.status)
+  once : {a b : List Event} → Grows X a → Grows b Z → (e : AppEndText) → AtOwnStep me a b (HasEndedIn pod area e.app e.status) → AtSomeState old new (HasEndedAnywhere pod e.app e.status)
   once from to e y = record { trace = At y; moment = is_moment (At y) (and_on from (to_step y)) (and_on (from_step y) to); holds = (area, stage, y.holds) }
 
-  ends_met : TellsEnds pod area status.ends me sees.marked sees.ended → AllByRecursion (λ (e : AppEndText). AtSomeMoment old new (HasEnded pod e.app e.status)) status.ends
-  ends_met (inl t) = all_weaker (λ (e : AppEndText). AtOwnStep me t.between sees.ended (HasEndedIn pod area e.app e.status)) (λ (e : AppEndText). AtSomeMoment old new (HasEnded pod e.app e.status)) (once (and_on X_marked (first_of t.moment)) ended_Z) status.ends t.each.each
-  ends_met (inr (none, y)) = subst (λ (l : List AppEndText). AllByRecursion (λ (e : AppEndText). AtSomeMoment old new (HasEnded pod e.app e.status)) l) (sym none) tt
+  ends_met : TellsEnds pod area status.ends me sees.marked sees.ended → AllByRecursion (λ (e : AppEndText). AtSomeState old new (HasEndedAnywhere pod e.app e.status)) status.ends
+  ends_met (inl t) = all_weaker (λ (e : AppEndText). AtOwnStep me t.between sees.ended (HasEndedIn pod area e.app e.status)) (λ (e : AppEndText). AtSomeState old new (HasEndedAnywhere pod e.app e.status)) (once (and_on X_marked (first_of t.moment)) ended_Z) status.ends t.each.each
+  ends_met (inr (none, y)) = subst (λ (l : List AppEndText). AllByRecursion (λ (e : AppEndText). AtSomeState old new (HasEndedAnywhere pod e.app e.status)) l) (sym none) tt
 
   rise_met : TellsEnds pod area status.ends me sees.marked sees.ended → IsStrictlySortedBy (slice_cmp nat_cmp) (ended_apps status.ends)
   unfolding IsStrictlySortedBy
@@ -289,7 +286,7 @@ module _ (pod : PodId) (area : Area) (within : rank area ≤ 5) (phase : Phase) 
       listed_name K status_directory (state_after x.0).entries item.name x.3)))
   named_met (inr (none, y)) = subst (λ (l : List AppEndText). AllByRecursion (λ (e : AppEndText). is_file_name e.app ≡ true) l) (sym none) tt
 
-  whole_met : TellsEnds pod area status.ends me sees.marked sees.ended → (app : List ℕ) (n : ℕ) → is_file_name app ≡ true → AtEachMoment old new (HasEnded pod app n) → has_name (ended_apps status.ends) app ≡ true
+  whole_met : TellsEnds pod area status.ends me sees.marked sees.ended → (app : List ℕ) (n : ℕ) → is_file_name app ≡ true → AtEachState old new (HasEndedAnywhere pod app n) → has_name (ended_apps status.ends) app ≡ true
   whole_met (inl t) app n name each = by (has_name (ended_apps status.ends) app) refl
     where
       shown : has_name (item_names t.items) app ≡ true
@@ -311,7 +308,7 @@ module _ (pod : PodId) (area : Area) (within : rank area ≤ 5) (phase : Phase) 
       let file = file_here h app n x z (each h (is_moment h x z)) in
       clash (has_dir (state_after h).entries K status_directory) (status_parent h K (status_path app) (good_at h z).run (directly app name) file) (y.holds K (stayed h x z))
 
-  pub status_met : status.phase ≡ phase → IsStatus pod status me old new
+  pub status_met : status.phase ≡ phase → IsPodStatus pod status me old new
   status_met is = record {
     area = area;
     stage = stage;

@@ -5,6 +5,9 @@ use Rattle.std.proofs.Math.Seq.{drop-append-add}
 use Rattle.std.proofs.lemmas.Bool.Decides.{Decides-eqb, nat_tests}
 use Rattle.std.proofs.lemmas.Bool.{eqb-true}
 use Rattle.std.proofs.lemmas.Slice.Eq.{starts_is}
+use Rattle.plain_laws.proofs.Texts.{same_bytes, same_text, not_empty}
+use Rattle.plain_laws.proofs.Booleans.{clash}
+use Rattle.plain_laws.proofs.Lists.{any_wider}
 use Rattle.dir_model.specs.declared.event.Event.{Event}
 use Rattle.dir_model.specs.declared.item.Inner.{Inner}
 use Rattle.dir_model.specs.declared.tree.TreeEntry.{TreeEntry}
@@ -18,7 +21,7 @@ use Rattle.dir_model.specs.declared.request.Reply.{Reply}
 use Rattle.dir_model.specs.declared.request.Reply.TheVariants.{Done, Refused}
 use Rattle.dir_model.specs.Calls.{IsRun, is_run_from, is_allowed}
 use Rattle.dir_model.specs.Paths.{is_slash, is_empty, lies_below, is_directly_in, behind}
-use Rattle.dir_model.specs.Replies.{is_own_of, is_any_reply, is_reply, is_state_reply, refused_in, make_refusal, file_refusal, left_at, is_fault, is_error, refusal, is_refused}
+use Rattle.dir_model.specs.Replies.{is_apps_inner, is_any_reply, is_reply, is_state_reply, refused_in, make_refusal, file_refusal, left_at, is_fault, is_error, refusal, is_refused}
 use Rattle.dir_model.specs.State.{DirState, folder_at}
 use Rattle.dir_model.specs.Trace.{state_next, state_after, entries_kept, entry_made, placed, removed_in}
 use Rattle.dir_model.specs.Trees.{is_dir, is_within, without_path, is_entry, is_dir_entry, is_file_entry, has_any, has_file, has_dir, has_parent, is_parent_entry, is_child}
@@ -26,12 +29,10 @@ use Rattle.dir_model.proofs.Allowed.{allowed_reply}
 use Rattle.dir_model.proofs.Chains.{state_after-push}
 use Rattle.dir_model.proofs.Lists.{and_left, and_right, and_both, not_true, or_last, any_push, any_last_not, any_filter}
 use Rattle.dir_rules.specs.Marks.{status_directory}
-use Rattle.dir_rules.proofs.Looks.{same_bytes}
-use Rattle.lifecycle.proofs.Handles.{clash, none_refused, refused_unless}
-use Rattle.lifecycle.proofs.Places.{name_same}
+use Rattle.lifecycle.proofs.Handles.{none_refused, refused_unless}
 use Rattle.pod_report.proofs.StatusFiles.{status_own}
-use Rattle.dir_laws.proofs.Apps.{not_empty, below_front}
-use Rattle.gate_reading.proofs.DirectItems.{below_all}
+use Rattle.dir_laws.proofs.Apps.{below_front}
+use Rattle.dir_laws.proofs.Paths.{below_root}
 
 abbrev d : List ℕ
 d = status_directory
@@ -117,14 +118,14 @@ within_child path c w h = or_last (bytes_eq c path) (lies_below c path) (by (byt
     x = in_statuses c h
 
     under : (path : List ℕ) → lies_below d path ≡ true → lies_below c path ≡ true
-    under [] l = subst (λ (p : List ℕ). lies_below p [] ≡ true) (sym x.is) (below_all 115 (drop 1 d ++ 47 ∷ x.name))
+    under [] l = subst (λ (p : List ℕ). lies_below p [] ≡ true) (sym x.is) (below_root 115 (drop 1 d ++ 47 ∷ x.name))
     under (y ∷ p) l =
         let front : d ≡ (y ∷ p) ++ drop (length (y ∷ p)) d = below_front d (y ∷ p) (not_empty y p) l in
         let rest = slash_front d (y ∷ p) (drop (length (y ∷ p)) d) front (slash_of y p d l) in
         below_of y p c (rest.0 ++ 47 ∷ x.name) (x.is ∙ (ap (λ l. l ++ 47 ∷ x.name) (front ∙ ap (λ l. (y ∷ p) ++ l) rest.1) ∙ append_assoc (y ∷ p) (47 ∷ rest.0) (47 ∷ x.name)))
 
     by : (b : Bool) → bytes_eq d path ≡ b → (b || lies_below d path) ≡ true → lies_below c path ≡ true
-    by true is k = subst (λ (p : List ℕ). lies_below c p ≡ true) (name_same d path is) (and_left (lies_below c d) _ h)
+    by true is k = subst (λ (p : List ℕ). lies_below c p ≡ true) (same_text d path is) (and_left (lies_below c d) _ h)
     by false is k = under path k
 
 -- entries
@@ -132,14 +133,6 @@ within_child path c w h = or_last (bytes_eq c path) (lies_below c path) (by (byt
 -- each folder that has something in the directory has the directory
 abbrev Parented : List TreeEntry → Type 0
 Parented es = (k : ℕ) → list_any (is_child k d) es ≡ true → list_any (is_dir_entry k d) es ≡ true
-
-any_wider : (t q : TreeEntry → Bool) → ((e : TreeEntry) → t e ≡ true → q e ≡ true) → (es : List TreeEntry) → list_any t es ≡ true → list_any q es ≡ true
-any_wider t q only [] any = cc
-any_wider t q only (e ∷ es) any = by (t e) (q e) (only e) any (λ rest. any_wider t q only es rest)
-  where
-    by : (b c : Bool) → (b ≡ true → c ≡ true) → (b || list_any t es) ≡ true → (list_any t es ≡ true → list_any q es ≡ true) → (c || list_any q es) ≡ true
-    by true c only any go = ap (λ x. x || list_any q es) (only refl)
-    by false c only any go = or_last c (list_any q es) (go any)
 
 fewer : (t q : TreeEntry → Bool) (es : List TreeEntry) → list_any t (filter q es) ≡ true → list_any t es ≡ true
 fewer t q [] h = h
@@ -184,7 +177,7 @@ taken f path es p k any = by ((k == f) && is_within path d) refl
     keeps off e dir =
         let here = and_left (is_entry k d e) (is_dir e.node) dir in
         let folder : e.folder ≡ k = eqb-true e.folder k (and_left (e.folder == k) (bytes_eq e.path d) here) in
-        let place : e.path ≡ d = name_same e.path d (and_right (e.folder == k) (bytes_eq e.path d) here) in
+        let place : e.path ≡ d = same_text e.path d (and_right (e.folder == k) (bytes_eq e.path d) here) in
         ap (λ (n : ℕ). not ((n == f) && is_within path e.path)) folder ∙ (ap (λ (q : List ℕ). not ((k == f) && is_within path q)) place ∙ ap not off)
 
     by : (b : Bool) → ((k == f) && is_within path d) ≡ b → list_any (is_dir_entry k d) (without_path f path es) ≡ true
@@ -221,7 +214,7 @@ parent_there es k path h has = by (is_directly_in [] path) refl has
 file_child : (es : List TreeEntry) (k : ℕ) (path : List ℕ) → is_directly_in d path ≡ true → has_file es k path ≡ true → list_any (is_child k d) es ≡ true
 file_child es k path h has = any_wider (is_file_entry k path) (is_child k d) (λ e is.
     let here = and_left (is_entry k path e) (not (is_dir e.node)) is in
-    and_both (e.folder == k) (is_directly_in d e.path) (and_left (e.folder == k) (bytes_eq e.path path) here) (subst (λ (q : List ℕ). is_directly_in d q ≡ true) (sym (name_same e.path path (and_right (e.folder == k) (bytes_eq e.path path) here))) h)) es has
+    and_both (e.folder == k) (is_directly_in d e.path) (and_left (e.folder == k) (bytes_eq e.path path) here) (subst (λ (q : List ℕ). is_directly_in d q ≡ true) (sym (same_text e.path path (and_right (e.folder == k) (bytes_eq e.path path) here))) h)) es has
 
 made : (o : Option ℕ) (path : List ℕ) (node : TreeNode) (es : List TreeEntry) → Parented es → ((k : ℕ) → o ≡ Some k → is_directly_in d path ≡ true → list_any (is_dir_entry k d) es ≡ true) → Parented (es ++ option_to_list (placed o path node))
 made None path node es p here = subst Parented (sym (append-nil es)) p
@@ -236,7 +229,7 @@ module _ (h : List Event) (p : ℕ) where
   abbrev s : DirState
   s = state_after h
 
-  own_not : (i : Inner) → is_directly_in d i.path ≡ true → is_own_of s (Some i) ≡ false
+  own_not : (i : Inner) → is_directly_in d i.path ≡ true → is_apps_inner s (Some i) ≡ false
   own_not i at = let x = in_statuses i.path at in status_own h i (47 ∷ x.name) x.is
 
   parent_of : (path : List ℕ) (es : List TreeEntry) (k : ℕ) → is_some (make_refusal path es k) ≡ false → has_parent es k path ≡ true
@@ -285,7 +278,7 @@ module _ (h : List Event) (p : ℕ) where
       by true is = subst Parented (sym (append-nil s.entries)) par
       by false is = made (folder_at s.namespace i.spot) i.path (Piece (take left piece)) s.entries par (λ k at direct. there_file par i k (partly i piece error left k at is (state_says i (own_not i direct) r)) direct)
         where
-          state_says : (i : Inner) → is_own_of s (Some i) ≡ false → is_reply s p (AppendIn i piece) (Refused error left) ≡ true → is_refused s p (AppendIn i piece) error left ≡ true
+          state_says : (i : Inner) → is_apps_inner s (Some i) ≡ false → is_reply s p (AppendIn i piece) (Refused error left) ≡ true → is_refused s p (AppendIn i piece) error left ≡ true
           state_says i off r = sym (ap (λ b. cond b (is_any_reply s p (AppendIn i piece) (Refused error left)) (is_state_reply s p (AppendIn i piece) (Refused error left))) off) ∙ r
   step (RemoveFileIn i) Done par r = unmade (folder_at s.namespace i.spot) i.path s.entries par
   step (RemoveDirIn i) Done par r = unmade (folder_at s.namespace i.spot) i.path s.entries par

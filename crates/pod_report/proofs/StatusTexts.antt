@@ -9,7 +9,7 @@ use Rattle.std.proofs.lemmas.Fmt.{length-decimal-le, IsAscii-decimal, decimal_in
 use Rattle.std.proofs.lemmas.Grind.{common_steps}
 use Rattle.std.proofs.lemmas.Slice.Eq.{bytes_eq-Decides}
 use Rattle.std.proofs.lemmas.Str.{IsUtf8-from_ascii}
-use Rattle.lifecycle.proofs.Handles.{clash}
+use Rattle.plain_laws.proofs.Booleans.{clash}
 use Rattle.lifecycle.proofs.Looking.{at_most}
 use Rattle.pod_report.specs.Ends.{status_text, IsStatusText, IsNoStatus}
 use Rattle.pod_report.specs.Sequential.{status_of_text}

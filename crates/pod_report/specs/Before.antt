@@ -18,7 +18,7 @@ use Rattle.pod_lookup.specs.Pods.{pod_names, pods_standing}
 use Rattle.pod_report.specs.declared.error.ReportError.{ReportError}
 use Rattle.pod_report.specs.declared.error.ReportError.TheVariants.{NoPod, NoManifest}
 use Rattle.pod_report.specs.declared.line.PodLine.{PodLine}
-use Rattle.pod_report.specs.Manifests.{HasManifest, LacksManifest, manifest_file, app_names}
+use Rattle.pod_report.specs.Manifests.{PodHasManifest, PodLacksManifest, manifest_in_area, app_names}
 use Rattle.pod_report.specs.Snapshot.{lined}
 
 -- the names of a manifest's apps, where it has a reading
@@ -32,30 +32,30 @@ names_in_file None = None
 names_in_file (Some bytes) = names_read (pod_manifest bytes)
 
 -- the pod stands in an area, its phase is by the area and the lock, and its apps are by its file `pod` there
-pub record IsLineOf (s : DirState) (line : PodLine) : Type 0 where
+pub record IsLineOfPod (s : DirState) (line : PodLine) : Type 0 where
   pub area : Area
   pub stage : is_stage area ≡ true
   pub there : stands s.namespace (pod_spot line.pod area) ≡ true
   pub phase : phase_in area (is_owned_at s.namespace (pod_spot line.pod area)) ≡ Some line.phase
-  pub apps : line.apps ≡ names_in_file (file_at s (manifest_file line.pod area))
+  pub apps : line.apps ≡ names_in_file (file_at s (manifest_in_area line.pod area))
 
 -- a line for each pod that stands, by uuid
-pub record AreTheLinesOf (s : DirState) (lines : List PodLine) : Type 0 where
+pub record AreThePodLines (s : DirState) (lines : List PodLine) : Type 0 where
   pub pods : lined lines ≡ pod_names (pods_standing s.namespace)
-  pub each : AllByRecursion (IsLineOf s) lines
+  pub each : AllByRecursion (IsLineOfPod s) lines
 
 -- where nobody else steps, and this process holds no lock exclusively, the lines are those of the state before
-abbrev pub ListsQuietly : DirAt → DirAt → List PodLine → Type 0
-ListsQuietly old new lines =
-    Quiet old.process old.trace new.trace → OwnsNothing old.process (state_after old.trace).namespace → AreTheLinesOf (state_after old.trace) lines
+abbrev pub ListsPodsQuietly : DirAt → DirAt → List PodLine → Type 0
+ListsPodsQuietly old new lines =
+    Quiet old.process old.trace new.trace → OwnsNothing old.process (state_after old.trace).namespace → AreThePodLines (state_after old.trace) lines
 
 -- the pod's manifest, or that it has none, or that it stands nowhere
 abbrev pub IsManifestBy : DirState → PodId → Result PodManifest ReportError → Type 0
-IsManifestBy s pod (Ok manifest) = HasManifest pod (pod_data manifest) s
-IsManifestBy s pod (Err NoManifest) = LacksManifest pod s
+IsManifestBy s pod (Ok manifest) = PodHasManifest pod (pod_data manifest) s
+IsManifestBy s pod (Err NoManifest) = PodLacksManifest pod s
 IsManifestBy s pod (Err NoPod) = (area : Area) → is_stage area ≡ true → stands s.namespace (pod_spot pod area) ≡ false
 IsManifestBy s pod (Err error) = Unit {0}
 
-abbrev pub AnswersQuietly : PodId → Result PodManifest ReportError → DirAt → DirAt → Type 0
-AnswersQuietly pod result old new =
+abbrev pub ReadsManifestQuietly : PodId → Result PodManifest ReportError → DirAt → DirAt → Type 0
+ReadsManifestQuietly pod result old new =
     Quiet old.process old.trace new.trace → OwnsNothing old.process (state_after old.trace).namespace → IsManifestBy (state_after old.trace) pod result

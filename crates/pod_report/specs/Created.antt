@@ -24,6 +24,6 @@ abbrev pub HasCreatedMark : PodId → ℕ → DirState → Type 0
 HasCreatedMark pod moment s = (name : List ℕ) × (created_moment name ≡ Some moment) × HasInFolder pod name s
 
 -- the greatest moment of the created- marks among these items
-pub record IsGreatest (items : List Item) (created : Option ℕ) : Type 0 where
+pub record IsLatestCreation (items : List Item) (created : Option ℕ) : Type 0 where
   pub shown : (moment : ℕ) → created ≡ Some moment → (item : Item) × (has_item items item ≡ true) × (created_moment item.name ≡ Some moment)
   pub most : (name : List ℕ) (moment : ℕ) → list_any (is_named name) items ≡ true → created_moment name ≡ Some moment → IsSomeAnd created (λ c. moment ≤ c)

@@ -43,8 +43,8 @@ abbrev pub HasNoEndIn : PodId → Area → List ℕ → DirState → Type 0
 HasNoEndIn pod area app s = (status : ℕ) → HasEndedIn pod area app status s → ⊥
 
 -- the app of the pod ended with this status, wherever the pod stands
-abbrev pub HasEnded : PodId → List ℕ → ℕ → DirState → Type 0
-HasEnded pod app status s = (area : Area) × (is_stage area ≡ true) × HasEndedIn pod area app status s
+abbrev pub HasEndedAnywhere : PodId → List ℕ → ℕ → DirState → Type 0
+HasEndedAnywhere pod app status s = (area : Area) × (is_stage area ≡ true) × HasEndedIn pod area app status s
 
 -- the names of the apps that ended
 abbrev pub ended_apps : List AppEndText → List (List ℕ)

@@ -24,22 +24,22 @@ use Rattle.pod_report.specs.declared.ends.AppEndText.{AppEndText}
 use Rattle.pod_report.specs.declared.inspect.Inspection.{Inspection}
 use Rattle.pod_report.specs.declared.inspect.Inspection.TheVariants.{Gone, Missed, Met}
 use Rattle.pod_report.specs.declared.status.PodStatus.{PodStatus}
-use Rattle.pod_report.specs.Created.{IsGreatest}
+use Rattle.pod_report.specs.Created.{IsLatestCreation}
 use Rattle.pod_report.specs.Ends.{HasEndedIn, HasNoEndIn, ended_apps}
 use Rattle.pod_report.specs.Moments.{IsMoment}
 use Rattle.pod_report.specs.Rounds.{HasLeft, LeavesOneMore}
-use Rattle.pod_report.specs.Snapshot.{IsPartOf}
-use Rattle.pod_report.specs.Status.{IsStatus}
+use Rattle.pod_report.specs.Snapshot.{IsSublist}
+use Rattle.pod_report.specs.Status.{IsPodStatus}
 
 -- a listing of the pod's folder showed this as the greatest created- mark
-pub record ShowsMarks (pod : PodId) (area : Area) (created : Option ℕ) (me : ℕ) (old new : List Event) : Type 0 where
+pub record ShowsCreationMark (pod : PodId) (area : Area) (created : Option ℕ) (me : ℕ) (old new : List Event) : Type 0 where
   pub items : List Item
   pub shows : ShowsDirectory me old new (inner_at (pod_spot pod area) []) items
-  pub greatest : IsGreatest items created
+  pub greatest : IsLatestCreation items created
 
 -- or no folder stood there when it began
 abbrev pub TellsMarks : PodId → Area → Option ℕ → ℕ → List Event → List Event → Type 0
-TellsMarks pod area created me old new = ShowsMarks pod area created me old new ⊎ AtOwnStep me old new (λ s. folder_at s.namespace (pod_spot pod area) ≡ None)
+TellsMarks pod area created me old new = ShowsCreationMark pod area created me old new ⊎ AtOwnStep me old new (λ s. folder_at s.namespace (pod_spot pod area) ≡ None)
 
 -- what the status file of this name told: the app's end, or that it is none
 abbrev pub TellsEnd : PodId → Area → List ℕ → Option ℕ → ℕ → List Event → List Event → Type 0
@@ -47,14 +47,14 @@ TellsEnd pod area app (Some status) me old new = AtOwnStep me old new (HasEndedI
 TellsEnd pod area app None me old new = AtOwnStep me old new (HasNoEndIn pod area app)
 
 -- of the files of these names, in their order, each that isn't told of was no end
-pub record TellsEach (pod : PodId) (area : Area) (names : List (List ℕ)) (ends : List AppEndText) (me : ℕ) (old new : List Event) : Type 0 where
-  pub part : IsPartOf (ended_apps ends) names
+pub record TellsEachEnd (pod : PodId) (area : Area) (names : List (List ℕ)) (ends : List AppEndText) (me : ℕ) (old new : List Event) : Type 0 where
+  pub part : IsSublist (ended_apps ends) names
   pub each : AllByRecursion (λ (e : AppEndText). AtOwnStep me old new (HasEndedIn pod area e.app e.status)) ends
   pub left : (name : List ℕ) → has_name names name ≡ true → has_name (ended_apps ends) name ≡ false → AtOwnStep me old new (HasNoEndIn pod area name)
 
 -- the app's end was added, or its file told none
-abbrev pub AddsEnd : PodId → Area → List ℕ → List AppEndText → List AppEndText → ℕ → List Event → List Event → Type 0
-AddsEnd pod area app before after me old new =
+abbrev pub AddsAppEnd : PodId → Area → List ℕ → List AppEndText → List AppEndText → ℕ → List Event → List Event → Type 0
+AddsAppEnd pod area app before after me old new =
     ((after ≡ before) × AtOwnStep me old new (HasNoEndIn pod area app))
     ⊎ ((status : ℕ) × (after ≡ before ++ record { app = app; status = status } ∷ []) × AtOwnStep me old new (HasEndedIn pod area app status))
 
@@ -65,7 +65,7 @@ pub record ShowsEnds (pod : PodId) (area : Area) (ends : List AppEndText) (me : 
   pub items : List Item
   pub rise : IsStrictlySortedBy (slice_cmp nat_cmp) (item_names items)
   pub shows : ShowsDirectory me old between (inner_at (pod_spot pod area) status_directory) items
-  pub each : TellsEach pod area (item_names items) ends me between new
+  pub each : TellsEachEnd pod area (item_names items) ends me between new
 
 -- the folder there, if one stands there, has no directory of statuses
 abbrev pub LacksStatuses : PodId → Area → DirState → Type 0
@@ -99,4 +99,4 @@ moved_on _ = Missed
 abbrev pub InspectionTells : PodId → Inspection → DirAt → DirAt → Type 0
 InspectionTells pod Gone old new = AtOwnEvent old.process old.trace new.trace (IsNowhere pod)
 InspectionTells pod Missed old new = (n : ℕ) → HasLeft pod n old → LeavesOneMore pod n new
-InspectionTells pod (Met status) old new = IsStatus pod status old.process old.trace new.trace
+InspectionTells pod (Met status) old new = IsPodStatus pod status old.process old.trace new.trace

@@ -12,11 +12,11 @@ pub record IsMoment (old trace new : List Event) : Type 0 where
   pub ends : new ≡ trace ++ last
 
 -- at one of them
-pub record AtSomeMoment (old new : List Event) (P : DirState → Type 0) : Type 0 where
+pub record AtSomeState (old new : List Event) (P : DirState → Type 0) : Type 0 where
   pub trace : List Event
   pub moment : IsMoment old trace new
   pub holds : P (state_after trace)
 
 -- and at each
-abbrev pub AtEachMoment : List Event → List Event → (DirState → Type 0) → Type 0
-AtEachMoment old new P = (trace : List Event) → IsMoment old trace new → P (state_after trace)
+abbrev pub AtEachState : List Event → List Event → (DirState → Type 0) → Type 0
+AtEachState old new P = (trace : List Event) → IsMoment old trace new → P (state_after trace)

@@ -9,7 +9,7 @@ use Rattle.dir_model.specs.Calls.{AtOwnStep}
 use Rattle.dir_model.specs.State.{stands}
 use Rattle.dir_trait.specs.DirCalls.{DirAt}
 use Rattle.phase_read.specs.declared.found.Found.TheVariants.{At, Gone}
-use Rattle.phase_read.specs.Read.{IsReading, pod_spot}
+use Rattle.phase_read.specs.Read.{IsPhaseReading, pod_spot}
 use Rattle.pod_report.specs.declared.error.ReportError.{ReportError}
 use Rattle.pod_report.specs.declared.error.ReportError.TheVariants.{NoPod}
 use Rattle.pod_report.specs.declared.inspect.Inspection.{Inspection}
@@ -21,7 +21,7 @@ use Rattle.pod_report.specs.Moments.{IsMoment}
 -- an own reading found the pod in the area in this phase, and more events followed
 pub record FindsPod (pod : PodId) (phase : Phase) (area : Area) (me : ℕ) (old found new : List Event) : Type 0 where
   pub moment : IsMoment old found new
-  pub reading : IsReading me old found pod (At phase area)
+  pub reading : IsPhaseReading me old found pod (At phase area)
 
 -- an own reading found the pod in the phase that is told, and then its folder there showed the rest
 pub record IsSeen (pod : PodId) (status : PodStatus) (me : ℕ) (old new : List Event) : Type 0 where
@@ -39,7 +39,7 @@ pub record HasGone (pod : PodId) (me : ℕ) (old new : List Event) : Type 0 wher
 
 -- or an own reading found it nowhere
 abbrev pub IsMissed : PodId → ℕ → List Event → List Event → Type 0
-IsMissed pod me old new = IsReading me old new pod Gone ⊎ HasGone pod me old new
+IsMissed pod me old new = IsPhaseReading me old new pod Gone ⊎ HasGone pod me old new
 
 -- of a round of a status: it missed the pod, or saw its status
 abbrev pub InspectionSees : PodId → Inspection → DirAt → DirAt → Type 0

@@ -9,6 +9,7 @@ use Rattle.dir_model.specs.Replies.{is_look_at}
 use Rattle.dir_rules.specs.declared.seen.Seen.{Seen}
 use Rattle.dir_trait.specs.DirCalls.{DirAt, ExtendsBy}
 use Rattle.dir_trait.specs.Knowledge.{Knows}
+use Rattle.dir_trait.specs.Effects.{OnlyAsksAndKeeps}
 use Rattle.phase_read.specs.Read.{is_pod_spot}
 
 -- reads of files of the pod's folder, wherever it stands
@@ -50,10 +51,10 @@ pub record KeepsHandles (s : Seen) (new : DirAt) : Type 0 where
   pub kept : known.kept ≡ s.kept
   pub knows : Knows new known
 
--- nothing was asked for but this, every handle is as it was, and whatever the process knew of what it has open, it knows
-pub record OnlyAsksFor (observed : Bool) (asks : Request → Bool) (old new : DirAt) : Type 0 where
-  pub same : new.process ≡ old.process
-  pub faults : old.faults ≤ new.faults
-  pub local : new.local ≡ old.local
-  pub extends : observed ≡ true → ExtendsBy asks old new
-  pub known : observed ≡ true → (s : Seen) → Knows old s → KeepsHandles s new
+-- whatever a process knew of what it has open, it knows
+abbrev pub KeepsAllHandles : DirAt → DirAt → Type 0
+KeepsAllHandles old new = (s : Seen) → Knows old s → KeepsHandles s new
+
+-- nothing was asked for but this, every handle is as it was, and so much is known still
+abbrev pub OnlyAsksFor : Bool → (Request → Bool) → DirAt → DirAt → Type 0
+OnlyAsksFor observed asks old new = OnlyAsksAndKeeps observed asks KeepsAllHandles old new

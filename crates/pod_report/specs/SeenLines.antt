@@ -11,7 +11,7 @@ use Rattle.pod_lookup.specs.Pods.{pod_names, FindsPods}
 use Rattle.pod_report.specs.declared.line.PodLine.{PodLine}
 use Rattle.pod_report.specs.OwnReadings.{IsMissed}
 use Rattle.pod_report.specs.SeenManifests.{IsVisited}
-use Rattle.pod_report.specs.Snapshot.{IsPartOf, lined, names_told}
+use Rattle.pod_report.specs.Snapshot.{IsSublist, lined, names_told}
 
 -- such a visit told a line
 pub record IsLineSeen (me : ℕ) (old new : List Event) (line : PodLine) : Type 0 where
@@ -36,7 +36,7 @@ IsLinedOrMissed me old new lines pod = (has_name (lined lines) (pod_text pod.byt
 
 -- of these pods, in their order, each that has no line was missed
 pub record LinesSeen (pods : List PodId) (lines : List PodLine) (me : ℕ) (old new : List Event) : Type 0 where
-  pub part : IsPartOf (lined lines) (pod_names pods)
+  pub part : IsSublist (lined lines) (pod_names pods)
   pub each : AllByRecursion (IsLineSeen me old new) lines
   pub rest : AllByRecursion (IsLinedOrMissed me old new lines) pods
 

@@ -4,10 +4,10 @@ ghost use Rattle.dir_trait.specs.Causes.{Rose};
 ghost use Rattle.dir_trait.specs.Local.{IsActive, has_own_open};
 ghost use Rattle.dir_trait.specs.Pods.{pod_text};
 ghost use Rattle.lifecycle.specs.Executions.{IsConforming};
-ghost use Rattle.pod_report.specs.Outside.{IsOutside};
+ghost use Rattle.pod_report.specs.Outside.{IsReportFailure};
 ghost use Rattle.pod_report.specs.SeenManifests.{RoundSees};
 ghost use Rattle.pod_report.specs.Requests.{OnlyAsksFor, visits};
-ghost use Rattle.pod_report.specs.Rounds.{IsKnownRound, moved_from, round_of, RoundTells};
+ghost use Rattle.pod_report.specs.Rounds.{IsKnownRound, moved_from, report_round_of, RoundTells};
 
 use crate::error::{ReportError, look_fault};
 use crate::sight::{Sight, see_manifest};
@@ -36,7 +36,7 @@ fn moved_from(area: Area) -> Round
 }
 
 fn round_of(phase: Phase, area: Area, sight: Sight) -> Round
-    ensures { result ≡ round_of phase area sight }
+    ensures { result ≡ report_round_of phase area sight }
 {
     match sight {
         Sight::Manifest(found) => Round::Met(Visit {
@@ -58,7 +58,7 @@ pub(crate) fn attempt<D: Dir>(alloc: Global, dir: &mut D, pod: PodId) -> Result<
     ensures counted { (D.shown dir.new).calls ≤ (D.shown dir.old).calls + 28 }
     ensures only { OnlyAsksFor D.observed (visits pod) (D.shown dir.old) (D.shown dir.new) }
     ensures cause { IsErrOf result ReportError.DirFault → Rose (D.shown dir.old).faults (D.shown dir.new).faults }
-    ensures kind { IfErr result IsOutside }
+    ensures kind { IfErr result IsReportFailure }
     ensures seen { IfOk result (λ round. D.observed ≡ true → RoundSees pod round (D.shown dir.old) (D.shown dir.new)) }
     ensures round { IfOk result (λ round. D.observed ≡ true → IsConforming (D.shown dir.new).trace
         → RoundTells pod round (D.shown dir.old) (D.shown dir.new)) }

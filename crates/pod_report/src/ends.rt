@@ -6,8 +6,8 @@ ghost use Rattle.dir_trait.specs.Listings.{item_names};
 ghost use Rattle.dir_trait.specs.Local.{IsActive};
 ghost use Rattle.dir_trait.specs.Paths.{is_path};
 ghost use Rattle.pod_report.specs.Ends.{status_path};
-ghost use Rattle.pod_report.specs.Inspections.{AddsEnd, TellsEnd, TellsEach, TellsEnds};
-ghost use Rattle.pod_report.specs.Outside.{IsOutside};
+ghost use Rattle.pod_report.specs.Inspections.{AddsAppEnd, TellsEnd, TellsEachEnd, TellsEnds};
+ghost use Rattle.pod_report.specs.Outside.{IsReportFailure};
 ghost use Rattle.pod_report.specs.Requests.{OnlyAsksFor, inspects};
 
 use crate::digits::status_in;
@@ -54,7 +54,7 @@ fn end_at<D: Dir>(
     requires path { is_path path.now ≡ true }
     ensures only { OnlyAsksFor D.observed (inspects pod) (D.shown dir.old) (D.shown dir.new) }
     ensures cause { IsErrOf result ReportError.DirFault → Rose (D.shown dir.old).faults (D.shown dir.new).faults }
-    ensures kind { IfErr result IsOutside }
+    ensures kind { IfErr result IsReportFailure }
     ensures told { IfOk result (λ status. D.observed ≡ true → (app : List ℕ) → path.now ≡ status_path app
         → TellsEnd pod area app status (D.shown dir.old).process (D.shown dir.old).trace (D.shown dir.new).trace) }
 {
@@ -77,7 +77,7 @@ fn end_of<D: Dir>(
     requires stage { D.observed ≡ true → rank area ≤ 5 }
     ensures only { OnlyAsksFor D.observed (inspects pod) (D.shown dir.old) (D.shown dir.new) }
     ensures cause { IsErrOf result ReportError.DirFault → Rose (D.shown dir.old).faults (D.shown dir.new).faults }
-    ensures kind { IfErr result IsOutside }
+    ensures kind { IfErr result IsReportFailure }
     ensures told { IfOk result (λ status. D.observed ≡ true
         → TellsEnd pod area app.now status (D.shown dir.old).process (D.shown dir.old).trace (D.shown dir.new).trace) }
 {
@@ -110,9 +110,9 @@ fn add_end<D: Dir>(
     requires stage { D.observed ≡ true → rank area ≤ 5 }
     ensures only { OnlyAsksFor D.observed (inspects pod) (D.shown dir.old) (D.shown dir.new) }
     ensures cause { IsErrOf result ReportError.DirFault → Rose (D.shown dir.old).faults (D.shown dir.new).faults }
-    ensures kind { IfErr result IsOutside }
+    ensures kind { IfErr result IsReportFailure }
     ensures told { IfOk result (λ done. D.observed ≡ true
-        → AddsEnd pod area app.now ends.old.items ends.new.items (D.shown dir.old).process (D.shown dir.old).trace (D.shown dir.new).trace) }
+        → AddsAppEnd pod area app.now ends.old.items ends.new.items (D.shown dir.old).process (D.shown dir.old).trace (D.shown dir.new).trace) }
 {
     match end_of(alloc, dir, pod, area, app) {
         Ok(Some(status)) => push(ends, *app, status),
@@ -133,9 +133,9 @@ fn ends_of<D: Dir>(
     requires stage { D.observed ≡ true → rank area ≤ 5 }
     ensures only { OnlyAsksFor D.observed (inspects pod) (D.shown dir.old) (D.shown dir.new) }
     ensures cause { IsErrOf result ReportError.DirFault → Rose (D.shown dir.old).faults (D.shown dir.new).faults }
-    ensures kind { IfErr result IsOutside }
+    ensures kind { IfErr result IsReportFailure }
     ensures told { IfOk result (λ ends. D.observed ≡ true
-        → TellsEach pod area (item_names items.now) ends.items (D.shown dir.old).process (D.shown dir.old).trace (D.shown dir.new).trace) }
+        → TellsEachEnd pod area (item_names items.now) ends.items (D.shown dir.old).process (D.shown dir.old).trace (D.shown dir.new).trace) }
 {
     let mut ends = Vec::new(alloc);
     'items: for item in items {
@@ -155,7 +155,7 @@ pub(crate) fn ends_at<D: Dir>(
     requires stage { D.observed ≡ true → rank area ≤ 5 }
     ensures only { OnlyAsksFor D.observed (inspects pod) (D.shown dir.old) (D.shown dir.new) }
     ensures cause { IsErrOf result ReportError.DirFault → Rose (D.shown dir.old).faults (D.shown dir.new).faults }
-    ensures kind { IfErr result IsOutside }
+    ensures kind { IfErr result IsReportFailure }
     ensures told { IfOk result (λ ends. D.observed ≡ true
         → TellsEnds pod area ends.items (D.shown dir.old).process (D.shown dir.old).trace (D.shown dir.new).trace) }
 {

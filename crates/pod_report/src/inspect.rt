@@ -6,7 +6,7 @@ ghost use Rattle.dir_trait.specs.Local.{IsActive, has_own_open};
 ghost use Rattle.dir_trait.specs.Pods.{pod_text};
 ghost use Rattle.lifecycle.specs.Executions.{IsConforming};
 ghost use Rattle.pod_report.specs.Inspections.{moved_on, SeesAt, InspectionTells};
-ghost use Rattle.pod_report.specs.Outside.{IsOutside};
+ghost use Rattle.pod_report.specs.Outside.{IsReportFailure};
 ghost use Rattle.pod_report.specs.OwnReadings.{InspectionSees};
 ghost use Rattle.pod_report.specs.Requests.{OnlyAsksFor, inspects};
 
@@ -52,7 +52,7 @@ fn see_status<D: Dir>(
     requires stage { D.observed ≡ true → rank area ≤ 5 }
     ensures only { OnlyAsksFor D.observed (inspects pod) (D.shown dir.old) (D.shown dir.new) }
     ensures cause { IsErrOf result ReportError.DirFault → Rose (D.shown dir.old).faults (D.shown dir.new).faults }
-    ensures kind { IfErr result IsOutside }
+    ensures kind { IfErr result IsReportFailure }
     ensures seen { IfOk result (λ seen. D.observed ≡ true
         → SeesAt pod area phase seen (D.shown dir.old).process (D.shown dir.old).trace (D.shown dir.new).trace) }
 {
@@ -79,7 +79,7 @@ pub(crate) fn inspect<D: Dir>(
     requires alone { has_own_open (D.shown dir.old).local (pod_text pod.bytes) ≡ false }
     ensures only { OnlyAsksFor D.observed (inspects pod) (D.shown dir.old) (D.shown dir.new) }
     ensures cause { IsErrOf result ReportError.DirFault → Rose (D.shown dir.old).faults (D.shown dir.new).faults }
-    ensures kind { IfErr result IsOutside }
+    ensures kind { IfErr result IsReportFailure }
     ensures seen { IfOk result (λ round. D.observed ≡ true → InspectionSees pod round (D.shown dir.old) (D.shown dir.new)) }
     ensures round { IfOk result (λ round. D.observed ≡ true → IsConforming (D.shown dir.new).trace
         → InspectionTells pod round (D.shown dir.old) (D.shown dir.new)) }

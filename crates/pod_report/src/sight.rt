@@ -6,7 +6,7 @@ ghost use Rattle.dir_trait.specs.DirCalls.{HeldBetween};
 ghost use Rattle.dir_trait.specs.Local.{IsActive};
 ghost use Rattle.dir_trait.specs.State.{stands};
 ghost use Rattle.phase_read.specs.Read.{pod_spot};
-ghost use Rattle.pod_report.specs.Outside.{IsOutside};
+ghost use Rattle.pod_report.specs.Outside.{IsReportFailure};
 ghost use Rattle.pod_report.specs.Requests.{OnlyAsksFor, visits};
 ghost use Rattle.pod_report.specs.Sights.{IsKnownSight, IsSightOf, SeesNoFile, Sees};
 
@@ -57,7 +57,7 @@ pub(crate) fn is_there<D: Dir>(
     ensures counted { (D.shown dir.new).calls ≤ (D.shown dir.old).calls + 2 }
     ensures only { OnlyAsksFor D.observed (visits pod) (D.shown dir.old) (D.shown dir.new) }
     ensures cause { IsErrOf result ReportError.DirFault → Rose (D.shown dir.old).faults (D.shown dir.new).faults }
-    ensures kind { IfErr result IsOutside }
+    ensures kind { IfErr result IsReportFailure }
     ensures there { IfOk result (λ there. D.observed ≡ true
         → HeldBetween (D.shown dir.old) (D.shown dir.new) (λ s. stands s.namespace (pod_spot pod area) ≡ there)) }
 {
@@ -78,7 +78,7 @@ fn sight_missing<D: Dir>(
     ensures counted { (D.shown dir.new).calls ≤ (D.shown dir.old).calls + 2 }
     ensures only { OnlyAsksFor D.observed (visits pod) (D.shown dir.old) (D.shown dir.new) }
     ensures cause { IsErrOf result ReportError.DirFault → Rose (D.shown dir.old).faults (D.shown dir.new).faults }
-    ensures kind { IfErr result IsOutside }
+    ensures kind { IfErr result IsReportFailure }
     ensures seen { IfOk result (λ sight. D.observed ≡ true → SeesNoFile pod area sight (D.shown dir.old) (D.shown dir.new)) }
     ensures manifest { IfOk result IsKnownSight }
 {
@@ -101,7 +101,7 @@ pub(crate) fn see_manifest<D: Dir>(
     ensures counted { (D.shown dir.new).calls ≤ (D.shown dir.old).calls + 4 }
     ensures only { OnlyAsksFor D.observed (visits pod) (D.shown dir.old) (D.shown dir.new) }
     ensures cause { IsErrOf result ReportError.DirFault → Rose (D.shown dir.old).faults (D.shown dir.new).faults }
-    ensures kind { IfErr result IsOutside }
+    ensures kind { IfErr result IsReportFailure }
     ensures seen { IfOk result (λ sight. D.observed ≡ true → Sees pod area sight (D.shown dir.old) (D.shown dir.new)) }
     ensures manifest { IfOk result IsKnownSight }
 {

@@ -3,11 +3,11 @@ ghost use Rattle.std.specs.Prelude.{◌≡◌, ◌++◌, ◌∷◌, [], true, If
 ghost use Rattle.dir_trait.specs.Causes.{Rose};
 ghost use Rattle.dir_trait.specs.Local.{IsActive};
 ghost use Rattle.lifecycle.specs.Executions.{IsConforming};
-ghost use Rattle.pod_report.specs.Before.{ListsQuietly};
+ghost use Rattle.pod_report.specs.Before.{ListsPodsQuietly};
 ghost use Rattle.pod_report.specs.Outside.{IsUnsaid};
 ghost use Rattle.pod_report.specs.SeenLines.{AddsSeen, LinesSeenBetween, ListsSeenBetween};
 ghost use Rattle.pod_report.specs.Requests.{OnlyAsksFor, surveys, HasNoPodOpen};
-ghost use Rattle.pod_report.specs.Snapshot.{AddsLine, TellsPods, IsSnapshotBetween, LinesStanding};
+ghost use Rattle.pod_report.specs.Snapshot.{AddsPodLine, TellsPods, IsSnapshotBetween, LinesStanding};
 
 use crate::error::{ReportError, look_fault};
 use crate::line::{PodLine, line_of};
@@ -40,7 +40,7 @@ fn add_line<D: Dir>(
     ensures seen { IfOk result (λ done. D.observed ≡ true
         → AddsSeen pod lines.old.items lines.new.items (D.shown dir.old) (D.shown dir.new)) }
     ensures told { IfOk result (λ done. D.observed ≡ true → IsConforming (D.shown dir.new).trace
-        → AddsLine pod lines.old.items lines.new.items (D.shown dir.old) (D.shown dir.new)) }
+        → AddsPodLine pod lines.old.items lines.new.items (D.shown dir.old) (D.shown dir.new)) }
     ensures stray { IsErrOf result ReportError.Stray → D.observed ≡ true → IsConforming (D.shown dir.new).trace → ⊥ }
 {
     match line_of(alloc, dir, pod) {
@@ -93,7 +93,7 @@ pub fn list_pods<D: Dir>(alloc: Global, dir: &mut D) -> Result<Vec<PodLine>, Rep
     ensures standing { IfOk result (λ lines. D.observed ≡ true → IsConforming (D.shown dir.new).trace
         → LinesStanding (D.shown dir.old) (D.shown dir.new) lines.items) }
     ensures quiet { IfOk result (λ lines. D.observed ≡ true → IsConforming (D.shown dir.new).trace
-        → ListsQuietly (D.shown dir.old) (D.shown dir.new) lines.items) }
+        → ListsPodsQuietly (D.shown dir.old) (D.shown dir.new) lines.items) }
     ensures stray { IsErrOf result ReportError.Stray → D.observed ≡ true → IsConforming (D.shown dir.new).trace → ⊥ }
 {
     match listed_pods(alloc, dir) {

@@ -8,8 +8,8 @@ ghost use Rattle.lifecycle.specs.Executions.{IsConforming};
 ghost use Rattle.manifests.specs.ManifestRules.{IsPodManifest};
 ghost use Rattle.manifests.specs.PodData.{pod_data};
 ghost use Rattle.phase_read.specs.Exact.{AtOwnEvent, IsNowhere};
-ghost use Rattle.pod_report.specs.Before.{AnswersQuietly};
-ghost use Rattle.pod_report.specs.Manifests.{HasManifest, LacksManifest};
+ghost use Rattle.pod_report.specs.Before.{ReadsManifestQuietly};
+ghost use Rattle.pod_report.specs.Manifests.{PodHasManifest, PodLacksManifest};
 ghost use Rattle.pod_report.specs.Outside.{IsUnsaid};
 ghost use Rattle.pod_report.specs.SeenManifests.{AnswersRead, VisitSees};
 ghost use Rattle.pod_report.specs.Requests.{OnlyAsksFor, visits};
@@ -76,14 +76,14 @@ pub fn manifest_of<D: Dir>(
     ensures cause { IsErrOf result ReportError.DirFault → Rose (D.shown dir.old).faults (D.shown dir.new).faults }
     ensures seen { D.observed ≡ true → AnswersRead pod result (D.shown dir.old) (D.shown dir.new) }
     ensures read { IfOk result (λ manifest. D.observed ≡ true → IsConforming (D.shown dir.new).trace
-        → HeldBetween (D.shown dir.old) (D.shown dir.new) (HasManifest pod (pod_data manifest))) }
+        → HeldBetween (D.shown dir.old) (D.shown dir.new) (PodHasManifest pod (pod_data manifest))) }
     ensures kind { IfOk result (λ manifest. IsPodManifest (pod_data manifest)) }
     ensures nowhere { IsErrOf result ReportError.NoPod → D.observed ≡ true → IsConforming (D.shown dir.new).trace
         → AtOwnEvent (D.shown dir.old).process (D.shown dir.old).trace (D.shown dir.new).trace (IsNowhere pod) }
     ensures lacking { IsErrOf result ReportError.NoManifest → D.observed ≡ true → IsConforming (D.shown dir.new).trace
-        → HeldBetween (D.shown dir.old) (D.shown dir.new) (LacksManifest pod) }
+        → HeldBetween (D.shown dir.old) (D.shown dir.new) (PodLacksManifest pod) }
     ensures quiet { D.observed ≡ true → IsConforming (D.shown dir.new).trace
-        → AnswersQuietly pod result (D.shown dir.old) (D.shown dir.new) }
+        → ReadsManifestQuietly pod result (D.shown dir.old) (D.shown dir.new) }
     ensures stray { IsErrOf result ReportError.Stray → D.observed ≡ true → IsConforming (D.shown dir.new).trace → ⊥ }
 {
     match visit_pod(alloc, dir, pod) {

@@ -6,7 +6,7 @@ mod texts;
 
 ghost use Rattle.std.specs.Prelude.{◌≡◌, ◌⊎◌, ◌++◌, true};
 ghost use Rattle.dir_trait.specs.Causes.{Rose};
-ghost use Rattle.command_outcomes.specs.Texts.{status_of};
+ghost use Rattle.command_outcomes.specs.Texts.{exit_status_of};
 
 use crate::help::text_alone;
 use command_outcomes::Refusal;
@@ -36,9 +36,9 @@ fn print_alone<O: Sink, E: Sink>(alloc: Global, text: &str, out: &mut O, err: &m
 
 /// Says why no command was run, and gives the exit status.
 fn refuse_setup<E: Sink>(alloc: Global, error: SetupError, err: &mut E) -> u8
-    ensures usage { error ≡ SetupError.Usage → result ≡ status_of Refusal.Usage }
-    ensures fault { error ≡ SetupError.DirFault → result ≡ status_of Refusal.DirFault }
-    ensures memory { error ≡ SetupError.NoMemory → result ≡ status_of Refusal.NoMemory }
+    ensures usage { error ≡ SetupError.Usage → result ≡ exit_status_of Refusal.Usage }
+    ensures fault { error ≡ SetupError.DirFault → result ≡ exit_status_of Refusal.DirFault }
+    ensures memory { error ≡ SetupError.NoMemory → result ≡ exit_status_of Refusal.NoMemory }
 {
     match error {
         SetupError::Usage => refuse(alloc, err, &Refusal::Usage),

@@ -16,9 +16,9 @@ use Rattle.dir_trait.specs.DirCalls.{DirAt, DirCall, ExtendsBy}
 use Rattle.dir_trait.specs.Knowledge.{Knows}
 use Rattle.command_outcomes.specs.declared.refusal.Refusal.{Refusal}
 use Rattle.command_outcomes.specs.declared.refusal.Refusal.TheVariants.{NoMemory, SpawnFault}
-use Rattle.command_outcomes.specs.Conforming.{begun, shown_at, StaysConforming}
+use Rattle.command_outcomes.specs.Conforming.{seen_at_begin, dir_at_moment, StaysConforming}
 use Rattle.command_outcomes.specs.Moments.{BundleSeen, DirSeen, Inside, Outside, Moment, SinkSeen, SpawnerSeen, Answer, dir_seen, is_well, outcome_of}
-use Rattle.command_outcomes.specs.Texts.{status_of}
+use Rattle.command_outcomes.specs.Texts.{exit_status_of}
 use Rattle.command_outcomes.proofs.Seen.{beside}
 use Rattle.commands.specs.AppsTold.{inside}
 use Rattle.commands.specs.Opening.{Approach, Looks, Opens}
@@ -26,12 +26,12 @@ use Rattle.commands.proofs.Starts.{look_extends, look_lists}
 use Rattle.pod_lookup.specs.Looks.{lists_stages}
 use Rattle.rkt_cli.specs.declared.line.Line.{Line}
 use Rattle.rkt_cli.specs.declared.line.Line.TheVariants as line
-use Rattle.rkt_cli.specs.Commands.{any_task, approach_in, Came, intent_in, intent_of, reads_bundle, runs_apps, uses_dir, ReadsOnly}
-use Rattle.rkt_cli.specs.Lookups.{Acts, approach_by, ComesToPod, FindsPod, LookedInVain, NeverCame}
+use Rattle.rkt_cli.specs.Commands.{any_task, approach_in, TellsOfItsApps, intent_in, intent_of, reads_bundle, runs_apps, uses_dir, ReadsOnly}
+use Rattle.rkt_cli.specs.Lookups.{Acts, approach_by, ComesToPod, FindsPodByWord, LookedInVain, NeverReachedItsPod}
 use Rattle.rkt_cli.specs.Promises.{IsRunOf}
-use Rattle.rkt_cli.specs.Runs.{begun_local, CommandRan, End, end_of_writing, InProcess, NeverBegan, Performs, Printed, Reported, RunOfNothing, status_at}
-use Rattle.rkt_cli.specs.Spawns.{CameBetween}
-use Rattle.rkt_cli.specs.Tasks.{Task, task_of, word_of, FindsItsPod, IsMeantBy, MeansItsPod}
+use Rattle.rkt_cli.specs.Runs.{begun_local, CommandRan, End, end_of_writing, InProcess, NeverBegan, Performs, Printed, Reported, RunsNoCommand, status_at}
+use Rattle.rkt_cli.specs.Spawns.{AppsToldBetween}
+use Rattle.rkt_cli.specs.Tasks.{Task, task_of, pod_word_of, FindsItsPod, IsMeantBy, MeansItsPod}
 use Rattle.rkt_cli.proofs.AppsRan.{line_is, spawns}
 use Rattle.rkt_cli.proofs.RunsRan.{begun_at}
 
@@ -76,7 +76,7 @@ read_so (line.RunPrepared word address) pod old new reads = reads
 read_so (line.Rm word) pod old new reads = reads
 read_so l pod old new reads = reads
 
-same_approach : (l : Line) (pod : PodId) → approach_by (word_of l) ≡ approach_in (task_of l pod)
+same_approach : (l : Line) (pod : PodId) → approach_by (pod_word_of l) ≡ approach_in (task_of l pod)
 same_approach (line.Status word) pod = refl
 same_approach (line.CatManifest word) pod = refl
 same_approach (line.RunPrepared word address) pod = refl
@@ -84,21 +84,21 @@ same_approach (line.Rm word) pod = refl
 same_approach l pod = refl
 
 -- the pod that it was found to mean
-pub is_meant_by : (l : Line) (pod : PodId) (draw : Draw) (b m : DirSeen) → FindsPod (word_of l) draw b m (Ok pod) → IsMeantBy (word_of l) draw pod
+pub is_meant_by : (l : Line) (pod : PodId) (draw : Draw) (b m : DirSeen) → FindsPodByWord (pod_word_of l) draw b m (Ok pod) → IsMeantBy (pod_word_of l) draw pod
 is_meant_by (line.Status word) pod draw b m f = f.0
 is_meant_by (line.CatManifest word) pod draw b m f = f.0
 is_meant_by (line.RunPrepared word address) pod draw b m f = f.0
 is_meant_by (line.Rm word) pod draw b m f = f.0
 is_meant_by l pod draw b m f = let same : pod ≡ draw.uuid = cc in same
 
-pub means_its : (l : Line) (pod : PodId) (draw : Draw) → IsMeantBy (word_of l) draw pod → MeansItsPod (task_of l pod)
+pub means_its : (l : Line) (pod : PodId) (draw : Draw) → IsMeantBy (pod_word_of l) draw pod → MeansItsPod (task_of l pod)
 means_its (line.Status word) pod draw m = m
 means_its (line.CatManifest word) pod draw m = m
 means_its (line.RunPrepared word address) pod draw m = m
 means_its (line.Rm word) pod draw m = m
 means_its l pod draw m = tt
 
-finds_its : (l : Line) (pod : PodId) (draw : Draw) (b m : DirSeen) → FindsPod (word_of l) draw b m (Ok pod) → b.observed ≡ true → FindsItsPod (task_of l pod) b.process b.trace m.trace
+finds_its : (l : Line) (pod : PodId) (draw : Draw) (b m : DirSeen) → FindsPodByWord (pod_word_of l) draw b m (Ok pod) → b.observed ≡ true → FindsItsPod (task_of l pod) b.process b.trace m.trace
 finds_its (line.Status word) pod draw b m f t = f.1 t
 finds_its (line.CatManifest word) pod draw b m f t = f.1 t
 finds_its (line.RunPrepared word address) pod draw b m f t = f.1 t
@@ -106,7 +106,7 @@ finds_its (line.Rm word) pod draw b m f t = f.1 t
 finds_its l pod draw b m f t = tt
 
 -- a line that needs no process has no word
-pub drawn_alone : (l : Line) (draw : Draw) → uses_dir (any_task l) ≡ false → IsMeantBy (word_of l) draw draw.uuid
+pub drawn_alone : (l : Line) (draw : Draw) → uses_dir (any_task l) ≡ false → IsMeantBy (pod_word_of l) draw draw.uuid
 drawn_alone (line.Status word) draw apart = cc
 drawn_alone (line.CatManifest word) draw apart = cc
 drawn_alone (line.RunPrepared word address) draw apart = cc
@@ -131,22 +131,22 @@ module _ (observed : Bool) (l : Line) (now : ℕ) (draw : Draw) (intent : Intent
       let never : NeverBegan intent (beside (dir_seen observed a) u) (beside (dir_seen observed b) u) (Err NoMemory) = record { is = refl; same = refused.same; local = refused.local; faults = refused.faults; step = refused.step; bundle = refl } in
       inr (NoMemory, refl, inr (inl (intent, said, refl, never)), refl, refl)
 
-  module _ (fresh : a.local ≡ nothing_local) (begins : DirCall observed a (Begin intent) Done b) (m : DirAt) (comes : ComesToPod (word_of l) (dir_seen observed b) (dir_seen observed m)) where
+  module _ (fresh : a.local ≡ nothing_local) (begins : DirCall observed a (Begin intent) Done b) (m : DirAt) (comes : ComesToPod (pod_word_of l) (dir_seen observed b) (dir_seen observed m)) where
     began : b.local ≡ begun_local intent
     began = begins.local ∙ ap (λ (x : Local). local_replied x (Begin intent) Done) fresh
 
-    knew : observed ≡ true → Knows (shown_at (dir_seen observed b)) (begun intent)
+    knew : observed ≡ true → Knows (dir_at_moment (dir_seen observed b)) (seen_at_begin intent)
     knew t = let k = begun_at intent fresh begins t in record { tied = k.tied; handles = k.handles }
 
-    pub acted_knows : observed ≡ true → Knows (shown_at (dir_seen observed m)) (begun intent)
+    pub acted_knows : observed ≡ true → Knows (dir_at_moment (dir_seen observed m)) (seen_at_begin intent)
     acted_knows t = comes.knows t intent (knew t)
 
     -- its pod was found, the command ran, and it finished
-    module _ (pod : PodId) (found : FindsPod (word_of l) draw (dir_seen observed b) (dir_seen observed m) (Ok pod)) (c d : DirAt) (u v : BundleSeen) (s s' : SpawnerSeen) (answer : Answer)
+    module _ (pod : PodId) (found : FindsPodByWord (pod_word_of l) draw (dir_seen observed b) (dir_seen observed m) (Ok pod)) (c d : DirAt) (u v : BundleSeen) (s s' : SpawnerSeen) (answer : Answer)
         (uses : uses_dir (any_task l) ≡ true)
         (ran : CommandRan (task_of l pod) now draw (beside (dir_seen observed m) u) (beside (dir_seen observed c) v) (outcome_of answer))
         (keeps : observed ≡ true → (i : Intent) → intent_of (task_of l pod) now draw ≡ Some i → StaysConforming i (dir_seen observed m) (dir_seen observed c))
-        (came : Came (task_of l pod) now draw (inside (dir_seen observed m) s) (inside (dir_seen observed c) s') answer)
+        (came : TellsOfItsApps (task_of l pod) now draw (inside (dir_seen observed m) s) (inside (dir_seen observed c) s') answer)
         (spawn_cause : IsErrOf answer SpawnFault → Rose s.shown.faults s'.shown.faults)
         (finish : DirCall observed c Finish Done d) (faultless : d.faults ≡ c.faults) where
       abbrev task : Task
@@ -185,7 +185,7 @@ module _ (observed : Bool) (l : Line) (now : ℕ) (draw : Draw) (intent : Intent
         bundle_after = refl;
       }
 
-      between : CameBetween task now draw (Some intent) (inside (dir_seen observed a) s) (inside (dir_seen observed d) s') answer
+      between : AppsToldBetween task now draw (Some intent) (inside (dir_seen observed a) s) (inside (dir_seen observed d) s') answer
       between = inl (record {
         begun = dir_seen observed m;
         ended = dir_seen observed c;
@@ -205,17 +205,17 @@ module _ (observed : Bool) (l : Line) (now : ℕ) (draw : Draw) (intent : Intent
         is_meant_by l pod draw (dir_seen observed b) (dir_seen observed m) found,
         record {
           performs = subst (λ (i : Option Intent). Performs task now draw i (beside (dir_seen observed a) u) (beside (dir_seen observed d) v) (outcome_of answer)) (sym its) (inl in_process);
-          came = subst (λ (i : Option Intent). CameBetween task now draw i (inside (dir_seen observed a) s) (inside (dir_seen observed d) s') answer) (sym its) between;
+          came = subst (λ (i : Option Intent). AppsToldBetween task now draw i (inside (dir_seen observed a) s) (inside (dir_seen observed d) s') answer) (sym its) between;
           spawn_cause = spawn_cause;
         },
       )
 
     -- none was found, and it finished
-    module _ (refusal : Refusal) (d : DirAt) (u : BundleSeen) (s : SpawnerSeen) (vain : FindsPod (word_of l) draw (dir_seen observed b) (dir_seen observed m) (Err refusal)) (finish : DirCall observed m Finish Done d) (faultless : d.faults ≡ m.faults) where
+    module _ (refusal : Refusal) (d : DirAt) (u : BundleSeen) (s : SpawnerSeen) (vain : FindsPodByWord (pod_word_of l) draw (dir_seen observed b) (dir_seen observed m) (Err refusal)) (finish : DirCall observed m Finish Done d) (faultless : d.faults ≡ m.faults) where
       abbrev Never : Type 0
-      Never = NeverCame l now draw (beside (dir_seen observed a) u) (beside (dir_seen observed d) u) refusal
+      Never = NeverReachedItsPod l now draw (beside (dir_seen observed a) u) (beside (dir_seen observed d) u) refusal
 
-      looked : (word : List ℕ) → ComesToPod (Some word) (dir_seen observed b) (dir_seen observed m) → FindsPod (Some word) draw (dir_seen observed b) (dir_seen observed m) (Err refusal) → LookedInVain word intent (dir_seen observed a) (dir_seen observed d) refusal
+      looked : (word : List ℕ) → ComesToPod (Some word) (dir_seen observed b) (dir_seen observed m) → FindsPodByWord (Some word) draw (dir_seen observed b) (dir_seen observed m) (Err refusal) → LookedInVain word intent (dir_seen observed a) (dir_seen observed d) refusal
       looked word came why = record {
         begun = dir_seen observed b;
         looked = dir_seen observed m;
@@ -232,12 +232,12 @@ module _ (observed : Bool) (l : Line) (now : ℕ) (draw : Draw) (intent : Intent
         local = finish.local ∙ ap (λ (x : Local). local_replied x Finish Done) (comes.local ∙ began);
       }
 
-      never : (word : Option (List ℕ)) → word_of l ≡ word → ComesToPod word (dir_seen observed b) (dir_seen observed m) → FindsPod word draw (dir_seen observed b) (dir_seen observed m) (Err refusal) → Never
+      never : (word : Option (List ℕ)) → pod_word_of l ≡ word → ComesToPod word (dir_seen observed b) (dir_seen observed m) → FindsPodByWord word draw (dir_seen observed b) (dir_seen observed m) (Err refusal) → Never
       never None is came why = cc
       never (Some word) is came why = inr (inr (word, is, intent, said, looked word came why))
 
       pub acted_vain : Acts l now draw (beside (dir_seen observed a) u) (beside (dir_seen observed d) u) s s (Err refusal)
-      acted_vain = inr (refusal, refl, never (word_of l) refl comes vain, refl, refl)
+      acted_vain = inr (refusal, refl, never (pod_word_of l) refl comes vain, refl, refl)
 
 -- a command that needs no process
 pub acted_apart : (observed : Bool) (l : Line) (now : ℕ) (draw : Draw) (a b : DirAt) (u v : BundleSeen) (s s' : SpawnerSeen) (answer : Answer) → intent_in l now draw ≡ None → uses_dir (any_task l) ≡ false → dir_seen observed b ≡ dir_seen observed a →
@@ -251,13 +251,13 @@ acted_apart observed l now draw a b u v s s' answer none apart same ran well spa
       drawn_alone l draw apart,
       record {
         performs = subst (λ (i : Option Intent). Performs task now draw i (beside (dir_seen observed a) u) (beside (dir_seen observed b) v) (outcome_of answer)) (sym its) (record { apart = same_uses l draw.uuid ∙ apart; dir = same; ran = ran });
-        came = subst (λ (i : Option Intent). CameBetween task now draw i (inside (dir_seen observed a) s) (inside (dir_seen observed b) s') answer) (sym its) well;
+        came = subst (λ (i : Option Intent). AppsToldBetween task now draw i (inside (dir_seen observed a) s) (inside (dir_seen observed b) s') answer) (sym its) well;
         spawn_cause = spawn_cause;
       },
     )
 
 -- such a command starts no apps
-pub well_apart : (l : Line) (now : ℕ) (draw : Draw) (a b : Inside) (answer : Answer) → uses_dir (any_task l) ≡ false → Came (task_of l draw.uuid) now draw a b answer → is_well answer ≡ true
+pub well_apart : (l : Line) (now : ℕ) (draw : Draw) (a b : Inside) (answer : Answer) → uses_dir (any_task l) ≡ false → TellsOfItsApps (task_of l draw.uuid) now draw a b answer → is_well answer ≡ true
 well_apart (line.Validate path) now draw a b answer apart came = came
 well_apart (line.Demo count) now draw a b answer apart came = came
 well_apart l now draw a b answer apart came = cc
@@ -273,9 +273,9 @@ pub kept_seen : {S : Type 0} (answer : Answer) (see : S → SinkSeen) (old new :
 kept_seen (Ok told) see old new kept = tt
 kept_seen (Err r) see old new kept = ap see kept
 
-pub refused_status : (end : Result Bool Refusal) (r : Refusal) → ◌≡◌ {A = End} (end_of_writing end) (Err r) → status_at end ≡ status_of r
+pub refused_status : (end : Result Bool Refusal) (r : Refusal) → ◌≡◌ {A = End} (end_of_writing end) (Err r) → status_at end ≡ exit_status_of r
 refused_status (Ok well) r is = cc
-refused_status (Err q) r is = let same : q ≡ r = cc in ap status_of same
+refused_status (Err q) r is = let same : q ≡ r = cc in ap exit_status_of same
 
 pub acted : (l : Line) (now : ℕ) (draw : Draw) (old new : Moment) (answer : Answer) (end : Result Bool Refusal) (status : ℕ) → status ≡ status_at end → IfOk end (λ well. well ≡ is_well answer) →
     Acts l now draw old.outside new.outside old.spawner new.spawner answer → Printed (outcome_of answer) old.out new.out (end_of_writing end) → IfErr answer (λ r. new.out ≡ old.out) → Reported (end_of_writing end) old.err new.err → IsRunOf (Some l) now draw old new status
@@ -313,7 +313,7 @@ module _ (now : ℕ) (draw : Draw) (old new : Moment) (status : ℕ) where
   pub not_read : (line : Option Line) → IsRunOf None now draw old new status → line ≡ None → IsRunOf line now draw old new status
   not_read line run is = subst (λ (x : Option Line). IsRunOf x now draw old new status) (sym is) run
 
-  pub forgotten : (line : Option Line) → RunOfNothing NoMemory old new status → IsRunOf line now draw old new status
+  pub forgotten : (line : Option Line) → RunsNoCommand NoMemory old new status → IsRunOf line now draw old new status
   forgotten None r = inr r
   forgotten (Some l) r = inr (record {
     refusal = NoMemory;

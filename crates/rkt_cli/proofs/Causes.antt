@@ -8,7 +8,7 @@ use Rattle.dir_model.specs.Causes.{Rose}
 use Rattle.command_outcomes.specs.declared.refusal.Refusal.{Refusal}
 use Rattle.command_outcomes.specs.declared.refusal.Refusal.TheVariants.{Usage, NoPod, Busy, NoImage, WrongPhase, PodBusy, NoManifest, Damaged, DirFault, BundleFault, SpawnFault, OutFault, NoMemory, LinkFault, Stray}
 use Rattle.command_outcomes.specs.Ends.{is_own_end}
-use Rattle.command_outcomes.specs.Moments.{Outside, Moment, Answer, outcome_of, Outcome}
+use Rattle.command_outcomes.specs.Moments.{Outside, Moment, Answer, outcome_of, CommandOutcome}
 use Rattle.commands.specs.Answers.{inside_in}
 use Rattle.commands.specs.ImageGcCommand.{RefusesImageGc}
 use Rattle.commands.specs.ImageImport.{image_import_refusal}
@@ -32,7 +32,7 @@ use Rattle.rkt_cli.specs.Tasks.{Status, PodList, CatManifest, Validate, ImageLis
 use Rattle.rkt_cli.specs.Commands.{command_in, intent_of, may}
 use Rattle.rkt_cli.specs.Promises.{RefusedFor}
 use Rattle.rkt_cli.specs.Runs.{Performs, RunOfLine, Unwritten}
-use Rattle.rkt_cli.specs.Spawns.{CameBetween}
+use Rattle.rkt_cli.specs.Spawns.{AppsToldBetween}
 use Rattle.rkt_cli.proofs.Ends.{from_end}
 use Rattle.commands.proofs.ImportRefusals.{refusal_lawful}
 use Rattle.rkt_cli.proofs.Imports.{import_refused, import_busy}
@@ -43,6 +43,7 @@ use Rattle.rkt_cli.proofs.PodRemovals.{rm_none, rm_stray, rm_busy, rm_wrong, rm_
 use Rattle.rkt_cli.proofs.Removals.{removal_busy, removal_unnamed, removal_none, removal_stray, sweep_stray}
 use Rattle.rkt_cli.proofs.Reported.{report_seen, report_told}
 use Rattle.commands.specs.Wants.{Wants}
+use Rattle.commands.proofs.RunRefused.{same_refusal}
 
 -- the refusals that aren't of one command
 abbrev pub is_shared : Refusal → Bool
@@ -69,9 +70,6 @@ own_end NoMemory plain = let clash : true ≡ false = plain in cc
 own_end DirFault plain = let clash : true ≡ false = plain in cc
 own_end BundleFault plain = let clash : true ≡ false = plain in cc
 own_end r plain = refl
-
-same_refusal : (r q : Refusal) → ◌≡◌ {A = Answer} (Err r) (Err q) → r ≡ q
-same_refusal r q is = cc
 
 module _ (now : ℕ) (draw : Draw) (old new : Outside) where
   abbrev Fails : Task → Refusal → Type 0
@@ -171,7 +169,7 @@ module _ (now : ℕ) (draw : Draw) (old new : Moment) where
   Refuses line r = Performs line now draw (intent_of line now draw) old.outside new.outside (Err r)
 
   abbrev Comes : Task → Refusal → Type 0
-  Comes line r = CameBetween line now draw (intent_of line now draw) (inside_in old) (inside_in new) (Err r)
+  Comes line r = AppsToldBetween line now draw (intent_of line now draw) (inside_in old) (inside_in new) (Err r)
 
   -- a process that couldn't begin says that memory ran out
   unbegun : (r : Refusal) {X : Type 0} → is_shared r ≡ false → ◌≡◌ {A = Answer} (Err r) (Err NoMemory) → X
@@ -236,13 +234,13 @@ module _ (now : ℕ) (draw : Draw) (old new : Moment) where
 abbrev failing : Refusal → Answer
 failing r = Err r
 
-abbrev ending : Refusal → Outcome
+abbrev ending : Refusal → CommandOutcome
 ending r = Err r
 
 -- the answer of a refused outcome
 pub refused_answer : (answer : Answer) (r : Refusal) → outcome_of answer ≡ Err r → answer ≡ Err r
-refused_answer (Ok told) r is = let e : ◌≡◌ {A = Outcome} (Ok told.text) (Err r) = is in cc
-refused_answer (Err q) r is = let e : ◌≡◌ {A = Outcome} (Err q) (Err r) = is in let same : q ≡ r = cc in ap failing same
+refused_answer (Ok told) r is = let e : ◌≡◌ {A = CommandOutcome} (Ok told.text) (Err r) = is in cc
+refused_answer (Err q) r is = let e : ◌≡◌ {A = CommandOutcome} (Err q) (Err r) = is in let same : q ≡ r = cc in ap failing same
 
 -- of a run that ended with a refusal
 pub cause_of : (line : Task) (now : ℕ) (draw : Draw) (old new : Moment) (status : ℕ) (r : Refusal) (x : RunOfLine line now draw (intent_of line now draw) old new status) → x.end ≡ Err r → RefusedFor (command_in line) now draw r old new
@@ -250,9 +248,9 @@ cause_of line now draw old new status r x is = by (from_end x.outcome old.out ne
   where
     by : (x.outcome ≡ Err r) ⊎ Unwritten r old.out new.out → RefusedFor (command_in line) now draw r old new
     by (inl e) =
-        let p : Performs line now draw (intent_of line now draw) old.outside new.outside (Err r) = subst (λ (o : Outcome). Performs line now draw (intent_of line now draw) old.outside new.outside o) e x.performs in
+        let p : Performs line now draw (intent_of line now draw) old.outside new.outside (Err r) = subst (λ (o : CommandOutcome). Performs line now draw (intent_of line now draw) old.outside new.outside o) e x.performs in
         its_cause now draw old new line r (refusals_of line now draw (intent_of line now draw) old.outside new.outside (Err r) r p refl) p
-        (subst (λ (a : Answer). CameBetween line now draw (intent_of line now draw) (inside_in old) (inside_in new) a) (refused_answer x.answer r (sym x.outcome_is ∙ e)) x.came)
+        (subst (λ (a : Answer). AppsToldBetween line now draw (intent_of line now draw) (inside_in old) (inside_in new) a) (refused_answer x.answer r (sym x.outcome_is ∙ e)) x.came)
         (λ same. x.spawn_cause (e ∙ ap ending same))
     by (inr (inl u)) = subst (λ (q : Refusal). RefusedFor (command_in line) now draw q old new) (sym u.0) u.1
     by (inr (inr u)) = subst (λ (q : Refusal). RefusedFor (command_in line) now draw q old new) (sym u.0) tt

@@ -6,7 +6,7 @@ use Rattle.dir_model.proofs.Chains.{nothing_yet}
 use Rattle.command_outcomes.specs.declared.refusal.Refusal.{Refusal}
 use Rattle.command_outcomes.specs.declared.refusal.Refusal.TheVariants.{DirFault, BundleFault, SpawnFault, NoMemory}
 use Rattle.command_outcomes.specs.Ends.{is_own_end}
-use Rattle.command_outcomes.specs.Moments.{Outside, SpawnerSeen, Outcome, Answer, is_well, outcome_of}
+use Rattle.command_outcomes.specs.Moments.{Outside, SpawnerSeen, CommandOutcome, Answer, is_well, outcome_of}
 use Rattle.demo_line.specs.Numbers.{demo_line}
 use Rattle.rkt_cli.specs.declared.line.Line.{Line}
 use Rattle.rkt_cli.specs.declared.line.Line.TheVariants as line
@@ -17,20 +17,20 @@ use Rattle.rkt_cli.specs.Lookups.{Acts}
 use Rattle.rkt_cli.specs.Runs.{CommandRan, Performs}
 
 -- it is refused for want of memory alone
-never_dir : (count : ℕ) (o : Outcome) {X : Type 0} → EndsDemo count o → IsErrOf o DirFault → X
+never_dir : (count : ℕ) (o : CommandOutcome) {X : Type 0} → EndsDemo count o → IsErrOf o DirFault → X
 never_dir count o (inl e) is = cc
 never_dir count o (inr e) is = cc
 
-never_bundle : (count : ℕ) (o : Outcome) {X : Type 0} → EndsDemo count o → IsErrOf o BundleFault → X
+never_bundle : (count : ℕ) (o : CommandOutcome) {X : Type 0} → EndsDemo count o → IsErrOf o BundleFault → X
 never_bundle count o (inl e) is = cc
 never_bundle count o (inr e) is = cc
 
-may_end : (count : ℕ) (o : Outcome) → EndsDemo count o → IfErr o (λ r. may (Demo count) r ≡ true)
+may_end : (count : ℕ) (o : CommandOutcome) → EndsDemo count o → IfErr o (λ r. may (Demo count) r ≡ true)
 may_end count (Ok text) ends = tt
 may_end count (Err r) (inl e) = cc
 may_end count (Err r) (inr e) = let same : r ≡ NoMemory = cc in subst (λ (q : Refusal). may (Demo count) q ≡ true) (sym same) refl
 
-demo_ran : (count : ℕ) (now : ℕ) (draw : Draw) (old : Outside) (o : Outcome) → EndsDemo count o → CommandRan (Demo count) now draw old old o
+demo_ran : (count : ℕ) (now : ℕ) (draw : Draw) (old : Outside) (o : CommandOutcome) → EndsDemo count o → CommandRan (Demo count) now draw old old o
 demo_ran count now draw old o ends = record {
   same = refl;
   local = refl;
@@ -63,7 +63,7 @@ demo_acts l count now draw old s answer is ends well =
     ))
 
 -- what it came to
-pub does_demo : (count : ℕ) (now : ℕ) (draw : Draw) (intent : Option Intent) (old new : Outside) (o : Outcome) → Performs (Demo count) now draw intent old new o → EndsDemo count o
+pub does_demo : (count : ℕ) (now : ℕ) (draw : Draw) (intent : Option Intent) (old new : Outside) (o : CommandOutcome) → Performs (Demo count) now draw intent old new o → EndsDemo count o
 does_demo count now draw None old new o p = p.ran.says
 does_demo count now draw (Some intent) old new o (inl s) = s.ran.says
 does_demo count now draw (Some intent) old new o (inr n) = inr n.is
@@ -72,6 +72,6 @@ pub demo_text : (count : ℕ) (text : List ℕ) → EndsDemo count (Ok text) →
 demo_text count text (inl e) = let same : text ≡ demo_line count = cc in same
 demo_text count text (inr e) = cc
 
-pub demo_own : (count : ℕ) (o : Outcome) → EndsDemo count o → is_own_end o ≡ true → o ≡ Ok (demo_line count)
+pub demo_own : (count : ℕ) (o : CommandOutcome) → EndsDemo count o → is_own_end o ≡ true → o ≡ Ok (demo_line count)
 demo_own count o (inl e) own = e
 demo_own count o (inr e) own = let clash : true ≡ false = sym own ∙ ap is_own_end e in cc

@@ -12,18 +12,18 @@ use Rattle.dir_files.specs.AreaLocks.{IsBusyElsewhere}
 use Rattle.lifecycle.specs.Executions.{IsConforming}
 use Rattle.lifecycle.proofs.Draws.{conforming_left}
 use Rattle.bundle_image.specs.declared.image.BundleImage.{BundleImage}
-use Rattle.image_store.specs.Imports.{IsRefused, ComesInTurn}
-use Rattle.image_store.specs.Moves.{MovedNothing}
+use Rattle.image_store.specs.Imports.{IsImportRefused, RefusalComesInTurn}
+use Rattle.image_store.specs.Moves.{MovedNoImage}
 use Rattle.image_store.proofs.Moving.{is_move, nothing_by, nothing_more}
 use Rattle.rkt_cli.specs.Tasks.{ImageImport}
 use Rattle.command_outcomes.specs.declared.refusal.Refusal.{Refusal}
 use Rattle.command_outcomes.specs.declared.refusal.Refusal.TheVariants.{Busy, NoMemory}
-use Rattle.command_outcomes.specs.Moments.{BundleSeen, Outside, Outcome}
-use Rattle.command_outcomes.specs.Conforming.{shown_at}
+use Rattle.command_outcomes.specs.Moments.{BundleSeen, Outside, CommandOutcome}
+use Rattle.command_outcomes.specs.Conforming.{dir_at_moment}
 use Rattle.commands.specs.Command.{intent_for}
 use Rattle.rkt_cli.specs.Commands.{intent_of}
 use Rattle.rkt_cli.specs.Runs.{InProcess, Performs}
-use Rattle.commands.specs.ImageImport.{source_of, IsStored, PrintsKey, StoresImage, IsAreaHeld, IsHeldFrom, RefusesImage, ImageImportSays}
+use Rattle.commands.specs.ImageImport.{source_of, IsStored, PrintsKey, StoresImage, IsAreaHeld, IsHeldFromImport, RefusesImage, ImageImportSays}
 use Rattle.commands.proofs.Parts.{within_wider, held_wider}
 use Rattle.commands.proofs.ImportParts.{Span, refused_wider, turn_wider, imported_wider}
 use Rattle.rkt_cli.proofs.Listed.{process_part}
@@ -35,28 +35,28 @@ use Rattle.commands.proofs.ImageImports.{is_memory}
 still : (a b : ℕ) → b ≡ a → a ≤ b
 still a b same = omega arith
 
-module _ {path : List ℕ} {now : ℕ} {draw : Draw} {intent : Intent} {old new : Outside} {o : Outcome} (s : InProcess (ImageImport path) now draw intent old new o) where
-  process_span : Span old.dir.observed (shown_at old.dir) (shown_at s.begun.dir) (shown_at s.ended.dir) (shown_at new.dir)
+module _ {path : List ℕ} {now : ℕ} {draw : Draw} {intent : Intent} {old new : Outside} {o : CommandOutcome} (s : InProcess (ImageImport path) now draw intent old new o) where
+  process_span : Span old.dir.observed (dir_at_moment old.dir) (dir_at_moment s.begun.dir) (dir_at_moment s.ended.dir) (dir_at_moment new.dir)
   process_span = record { part = λ t. process_part s t; before = s.risen; after = still s.ended.dir.faults new.dir.faults s.faults }
 
   -- its begin and its finish move nothing
-  moved_wider : old.dir.observed ≡ true → MovedNothing s.begun.dir.process s.begun.dir.trace s.ended.dir.trace → MovedNothing old.dir.process old.dir.trace new.dir.trace
+  moved_wider : old.dir.observed ≡ true → MovedNoImage s.begun.dir.process s.begun.dir.trace s.ended.dir.trace → MovedNoImage old.dir.process old.dir.trace new.dir.trace
   moved_wider t x =
       let asks : Request → Bool = λ r. not (is_move r) in
       let off = λ (r : Request) (h : not (is_move r) ≡ true). not_true (is_move r) h in
       nothing_more (nothing_by asks off (begin_part s t asks refl (λ r h. no_looks (ImageImport path) refl r h)))
-      (nothing_more (subst (λ (me : ℕ). MovedNothing me s.begun.dir.trace s.ended.dir.trace) s.me x) (nothing_by asks off (finish_part s t asks refl)))
+      (nothing_more (subst (λ (me : ℕ). MovedNoImage me s.begun.dir.trace s.ended.dir.trace) s.me x) (nothing_by asks off (finish_part s t asks refl)))
 
   refused_in_process : (r : Refusal) → RefusesImage path s.begun s.ended r → RefusesImage path old new r
   refused_in_process r x = record {
     error = x.error;
     is = x.is;
     cause = refused_wider process_span (source_of path old.bundle) x.error
-        (subst (λ (b : BundleSeen). IsRefused old.dir.observed (source_of path b) x.error (shown_at s.begun.dir) (shown_at s.ended.dir)) s.bundle_before
-        (subst (λ (told : Bool). IsRefused told (source_of path s.begun.bundle) x.error (shown_at s.begun.dir) (shown_at s.ended.dir)) s.told x.cause));
+        (subst (λ (b : BundleSeen). IsImportRefused old.dir.observed (source_of path b) x.error (dir_at_moment s.begun.dir) (dir_at_moment s.ended.dir)) s.bundle_before
+        (subst (λ (told : Bool). IsImportRefused told (source_of path s.begun.bundle) x.error (dir_at_moment s.begun.dir) (dir_at_moment s.ended.dir)) s.told x.cause));
     turn = turn_wider process_span (source_of path old.bundle) x.error
-        (subst (λ (b : BundleSeen). ComesInTurn old.dir.observed (source_of path b) x.error (shown_at s.begun.dir) (shown_at s.ended.dir)) s.bundle_before
-        (subst (λ (told : Bool). ComesInTurn told (source_of path s.begun.bundle) x.error (shown_at s.begun.dir) (shown_at s.ended.dir)) s.told x.turn));
+        (subst (λ (b : BundleSeen). RefusalComesInTurn old.dir.observed (source_of path b) x.error (dir_at_moment s.begun.dir) (dir_at_moment s.ended.dir)) s.bundle_before
+        (subst (λ (told : Bool). RefusalComesInTurn told (source_of path s.begun.bundle) x.error (dir_at_moment s.begun.dir) (dir_at_moment s.ended.dir)) s.told x.turn));
     still = λ t. moved_wider t (x.still (s.told ∙ t));
   }
 
@@ -87,7 +87,7 @@ import_stored path now draw old new text (inl s) t conforming = stored_in_proces
 import_stored path now draw old new text (inr n) t conforming = let e = n.is in cc
 
 -- why it was refused
-says_why : (path : List ℕ) (now : ℕ) (draw : Draw) (old new : Outside) (r : Refusal) → is_memory r ≡ false → ImageImportSays path now draw.uuid old new (Err r) → RefusesImage path old new r × IsHeldFrom draw.uuid r old.dir new.dir
+says_why : (path : List ℕ) (now : ℕ) (draw : Draw) (old new : Outside) (r : Refusal) → is_memory r ≡ false → ImageImportSays path now draw.uuid old new (Err r) → RefusesImage path old new r × IsHeldFromImport draw.uuid r old.dir new.dir
 says_why path now draw old new NoMemory other says = cc
 says_why path now draw old new r other says = says
 
@@ -100,6 +100,6 @@ pub import_busy : (path : List ℕ) (now : ℕ) (draw : Draw) (old new : Outside
     old.dir.observed ≡ true → IsAreaHeld area old.dir new.dir
 import_busy path now draw old new area (inl s) t =
     held_wider (process_part s t) (IsBusyElsewhere old.dir.process area Shared)
-    (subst (λ (me : ℕ). HeldBetween (shown_at s.begun.dir) (shown_at s.ended.dir) (IsBusyElsewhere me area Shared)) s.me
+    (subst (λ (me : ℕ). HeldBetween (dir_at_moment s.begun.dir) (dir_at_moment s.ended.dir) (IsBusyElsewhere me area Shared)) s.me
     (s.ran.says.1 area refl (s.told ∙ t) (intent_for kind.ImageImport [] now draw) (imports path now draw (intent_for kind.ImageImport [] now draw) refl) (begun_knows s t)))
 import_busy path now draw old new area (inr n) t = let e = n.is in cc

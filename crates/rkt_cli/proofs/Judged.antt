@@ -1,7 +1,6 @@
 -- The first bytes of a file are judged as the whole is.
-use Rattle.std.proofs.Common.{arith, ◌≡◌, ◌+◌, ℕ, Bool, true, false, nat_le, List, length, take, Option, Some, None, option_map, codes, refl, sym, ap, ◌∙◌}
-use Rattle.std.proofs.lemmas.Bool.Decides.{nat_tests}
-use Rattle.std.proofs.lemmas.Grind.{common_steps}
+use Rattle.std.proofs.Common.{◌≡◌, ℕ, Bool, true, false, nat_le, List, length, take, Option, Some, None, option_map, codes, refl, sym, ap, ◌∙◌}
+use Rattle.plain_laws.proofs.Fronts.{take_short, take_long}
 use Rattle.ac_types.specs.declared.fault.FaultKind.TheVariants.{TooLong}
 use Rattle.ac_types.specs.Outcomes.{fails}
 use Rattle.manifests.specs.DocumentData.{any_manifest}
@@ -11,12 +10,6 @@ use Rattle.commands.specs.Validate.{file_outcome, manifest_outcome, most_read}
 too_long : (bytes : List ℕ) → nat_le (length bytes) 1048576 ≡ false → any_manifest bytes ≡ fails (codes "$") TooLong
 unfolding any_manifest document
 too_long bytes long = rw long
-
-take_short : (n : ℕ) (bytes : List ℕ) → nat_le (length bytes) n ≡ true → take (n + 1) bytes ≡ bytes
-take_short n bytes short = grind (arith, nat_tests, common_steps)
-
-take_long : (n : ℕ) (bytes : List ℕ) → nat_le (length bytes) n ≡ false → nat_le (length (take (n + 1) bytes)) n ≡ false
-take_long n bytes long = grind (arith, nat_tests, common_steps)
 
 short_enough : (bytes : List ℕ) → nat_le (length bytes) 1048576 ≡ true → take most_read bytes ≡ bytes
 short_enough bytes short = take_short 1048576 bytes short

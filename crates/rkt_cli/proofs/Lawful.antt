@@ -11,25 +11,23 @@ use Rattle.dir_model.specs.Calls.{CallStep, IsRun, Extends, event, is_begin, is_
 use Rattle.dir_model.specs.Pods.{pod_text}
 use Rattle.dir_model.specs.Quiet.{Quiet}
 use Rattle.dir_model.proofs.Chains.{and_more, extends_wider}
-use Rattle.dir_model.proofs.Lists.{same_self}
+use Rattle.dir_model.proofs.Lists.{same_self, same_number}
 use Rattle.dir_rules.specs.declared.standing.Standing.{Standing}
 use Rattle.dir_rules.specs.Conforms.{Conforms, nothing_seen, seen_of}
 use Rattle.dir_rules.specs.Standing.{nothing_standing, standing_from, standing_of, standing_replied, stood}
 use Rattle.dir_rules.proofs.Standings.{standing_is}
 use Rattle.dir_rules.proofs.Tied.{others_unseen, seen_after-append}
 use Rattle.dir_rules.proofs.Unborn.{refused_unseen}
-use Rattle.folder_contents.proofs.Knowledge.{same_intent}
 use Rattle.lifecycle.specs.Executions.{IsConforming, IsDrawnOnce}
-use Rattle.lifecycle.proofs.Draws.{standing_split}
-use Rattle.lifecycle.proofs.Handles.{nat_same}
-use Rattle.command_outcomes.specs.Moments.{DirSeen, Outside, Moment, Outcome}
+use Rattle.lifecycle.proofs.Draws.{standing_split, same_intent}
+use Rattle.command_outcomes.specs.Moments.{DirSeen, Outside, Moment, CommandOutcome}
 use Rattle.rkt_cli.specs.Tasks.{Task}
 use Rattle.rkt_cli.specs.Tasks.{Status, PodList, CatManifest, Validate, ImageList, ImageImport, ImageRm, ImageGc, Prepare, RunPrepared, Run, Rm, Gc, Metadata, Demo}
 use Rattle.pod_lookup.specs.Looks.{lists_stages}
 use Rattle.commands.proofs.Starts.{look_extends, look_lists}
 use Rattle.rkt_cli.specs.Commands.{approach_in, asks, intent_of}
 use Rattle.rkt_cli.specs.Histories.{IsNewDraw, StaysLawful}
-use Rattle.rkt_cli.specs.Runs.{InProcess, NeverBegan, Performs, RunIs, RunOf}
+use Rattle.rkt_cli.specs.Runs.{InProcess, NeverBegan, Performs, IsRunOfTask, RunsTaskOrNothing}
 use Rattle.rkt_cli.proofs.Conforming.{performed_keeps}
 use Rattle.rkt_cli.proofs.Sessions.{act_part, began_alone, finish_part, quiet_first}
 
@@ -103,7 +101,7 @@ its_draw (Gc grace expire) now draw intent is = with_draw draw _ intent (record 
 its_draw (Metadata address count) now draw intent is = with_draw draw _ intent (record { identity = refl; token = refl }) is
 its_draw (Demo count) now draw intent is = cc
 
-same_intents : (a b : Intent) → ◌≡◌ {A = Option Intent} (Some a) (Some b) → a ≡ b
+pub same_intents : (a b : Intent) → ◌≡◌ {A = Option Intent} (Some a) (Some b) → a ≡ b
 same_intents a b is = cc
 
 -- a process that began at once has that intent in the end
@@ -130,7 +128,7 @@ module _ (me : ℕ) (old new : List Event) (quiet : Quiet me old new) (conformin
   rules_after own p = by (me == p) refl
     where
       by : (b : Bool) → (me == p) ≡ b → Conforms p new
-      by true same = subst (λ (q : ℕ). Conforms q new) (nat_same me p same) own
+      by true same = subst (λ (q : ℕ). Conforms q new) (same_number me p same) own
       by false apart = ap (λ s. s.kept) (seen_same p apart) ∙ conforming.rules p
 
   -- whose intent is this process's, drawn like no other's before
@@ -140,13 +138,13 @@ module _ (me : ℕ) (old new : List Event) (quiet : Quiet me old new) (conformin
     before p a apart has = sym (ap (λ s. s.intent) (stands_same p apart)) ∙ has
 
     mine : (p : ℕ) (a : Intent) → (me == p) ≡ true → (standing_of p new).intent ≡ Some a → a ≡ intent
-    mine p a same has = same_intents a intent (sym has ∙ subst (λ (q : ℕ). (standing_of q new).intent ≡ Some intent) (nat_same me p same) began)
+    mine p a same has = same_intents a intent (sym has ∙ subst (λ (q : ℕ). (standing_of q new).intent ≡ Some intent) (same_number me p same) began)
 
     once_after : IsDrawnOnce drawn new
     once_after p q a b x y same = by (me == p) (me == q) refl refl
       where
         by : (c d : Bool) → (me == p) ≡ c → (me == q) ≡ d → p ≡ q
-        by true true first second = sym (nat_same me p first) ∙ nat_same me q second
+        by true true first second = sym (same_number me p first) ∙ same_number me q second
         by true false first second = absurd (fresh q b (before q b second y) (sym same ∙ ap drawn (mine p a first x)))
         by false true first second = absurd (fresh p a (before p a first x) (same ∙ ap drawn (mine q b second y)))
         by false false first second = once p q a b (before p a first x) (before q b second y) same
@@ -160,7 +158,7 @@ module _ (me : ℕ) (old new : List Event) (quiet : Quiet me old new) (conformin
     tokens = once_after intent began (λ i. i.token) conforming.tokens (λ p b has same. fresh.token p b has (same ∙ its.token));
   }
 
-module _ (task : Task) (now : ℕ) (draw : Draw) (old new : Outside) (o : Outcome) (t : old.dir.observed ≡ true) (quiet : Quiet old.dir.process old.dir.trace new.dir.trace) (conforming : IsConforming old.dir.trace) where
+module _ (task : Task) (now : ℕ) (draw : Draw) (old new : Outside) (o : CommandOutcome) (t : old.dir.observed ≡ true) (quiet : Quiet old.dir.process old.dir.trace new.dir.trace) (conforming : IsConforming old.dir.trace) where
   abbrev me : ℕ
   me = old.dir.process
 
@@ -180,7 +178,7 @@ module _ (task : Task) (now : ℕ) (draw : Draw) (old new : Outside) (o : Outcom
   stands_refused intent n p = by (me == p) refl
     where
       by : (b : Bool) → (me == p) ≡ b → standing_of p new.dir.trace ≡ standing_of p old.dir.trace
-      by true same = subst (λ (q : ℕ). standing_of q new.dir.trace ≡ standing_of q old.dir.trace) (nat_same me p same) (sym (standing_is me new.dir.trace) ∙ (ap (λ s. s.standing) (refused_unseen (n.step t)) ∙ standing_is me old.dir.trace))
+      by true same = subst (λ (q : ℕ). standing_of q new.dir.trace ≡ standing_of q old.dir.trace) (same_number me p same) (sym (standing_is me new.dir.trace) ∙ (ap (λ s. s.standing) (refused_unseen (n.step t)) ∙ standing_is me old.dir.trace))
       by false apart = stands_same me old.dir.trace new.dir.trace quiet conforming p apart
 
   once_still : (intent : Intent) → NeverBegan intent old new o → (drawn : Intent → List ℕ) → IsDrawnOnce drawn old.dir.trace → IsDrawnOnce drawn new.dir.trace
@@ -199,9 +197,9 @@ module _ (task : Task) (now : ℕ) (draw : Draw) (old new : Outside) (o : Outcom
   lawful_performed (Some intent) said fresh (inl s) = lawful_process intent said fresh s
   lawful_performed (Some intent) said fresh (inr n) = lawful_refused intent n
 
-pub stays_lawful : {task : Task} {now : ℕ} {draw : Draw} {old new : Moment} {status : ℕ} → RunIs task now draw old new status → old.outside.dir.observed ≡ true → StaysLawful draw old.outside.dir new.outside.dir
+pub stays_lawful : {task : Task} {now : ℕ} {draw : Draw} {old new : Moment} {status : ℕ} → IsRunOfTask task now draw old new status → old.outside.dir.observed ≡ true → StaysLawful draw old.outside.dir new.outside.dir
 stays_lawful {task} {now} {draw} {old} {new} {status} run t quiet conforming fresh = by run.ran
   where
-    by : RunOf task now draw old new run.plain → IsConforming new.outside.dir.trace
+    by : RunsTaskOrNothing task now draw old new run.plain → IsConforming new.outside.dir.trace
     by (inr n) = subst (λ (x : Outside). IsConforming x.dir.trace) (sym n.outside) conforming
     by (inl r) = lawful_performed task now draw old.outside new.outside r.outcome t quiet conforming (intent_of task now draw) refl fresh r.performs

@@ -16,8 +16,8 @@ use Rattle.phase_read.specs.declared.found.LookError.TheVariants as lookup
 use Rattle.command_outcomes.specs.declared.refusal.Refusal.{Refusal}
 use Rattle.command_outcomes.specs.declared.refusal.Refusal.TheVariants.{LinkFault, NoMemory}
 use Rattle.command_outcomes.specs.declared.told.Told.{Told}
-use Rattle.command_outcomes.specs.Texts.{status_of}
-use Rattle.command_outcomes.specs.Moments.{Answer, DirSeen, Outside, Outcome, SinkSeen, dir_seen, is_well, outcome_of}
+use Rattle.command_outcomes.specs.Texts.{exit_status_of}
+use Rattle.command_outcomes.specs.Moments.{Answer, DirSeen, Outside, CommandOutcome, SinkSeen, dir_seen, is_well, outcome_of}
 use Rattle.commands.specs.Command.{intent_for}
 use Rattle.commands.specs.MetadataService.{ServesAs, service_outcome, service_refusal}
 use Rattle.demo_line.specs.Numbers.{demo_line}
@@ -26,12 +26,13 @@ use Rattle.rkt_cli.specs.declared.line.Line.TheVariants as line
 use Rattle.rkt_cli.specs.Commands.{intent_in, may}
 use Rattle.rkt_cli.specs.DemoCommand.{EndsDemo}
 use Rattle.rkt_cli.specs.Links.{LinksBetween, LinksIn, LinksOf, service_answer, service_status}
-use Rattle.rkt_cli.specs.Lookups.{ComesToPod, FindsPod, lookup_refusal}
+use Rattle.rkt_cli.specs.Lookups.{ComesToPod, FindsPodByWord, lookup_refusal}
 use Rattle.rkt_cli.specs.Runs.{CommandRan, End, Printed, end_of_writing, status_at}
-use Rattle.rkt_cli.specs.Tasks.{task_of, takes_links, word_of}
+use Rattle.rkt_cli.specs.Tasks.{task_of, takes_links, pod_word_of}
 use Rattle.rkt_cli.proofs.Acting.{refused_status}
 use Rattle.rkt_cli.proofs.Causes.{refused_answer}
 use Rattle.rkt_cli.proofs.Ends.{absurd_number, from_command}
+use Rattle.rkt_cli.proofs.Lawful.{same_intents}
 
 -- ---- a command
 
@@ -41,7 +42,7 @@ link_none (line.Metadata address count) pod none own = let clash : true ≡ fals
 link_none l pod none own = let clash : false ≡ true = own in cc
 
 pub no_link : (l : Line) (pod : PodId) (now : ℕ) (draw : Draw) (old new : Outside) (answer : Answer) {X : Type 0} → takes_links l ≡ false → CommandRan (task_of l pod) now draw old new (outcome_of answer) → IsErrOf answer LinkFault → X
-no_link l pod now draw old new answer none ran is = link_none l pod none (subst (λ (o : Outcome). IfErr o (λ r. may (task_of l pod) r ≡ true)) (ap outcome_of is) ran.refusals)
+no_link l pod now draw old new answer none ran is = link_none l pod none (subst (λ (o : CommandOutcome). IfErr o (λ r. may (task_of l pod) r ≡ true)) (ap outcome_of is) ran.refusals)
 
 -- or asks anything of it
 pub links_same : (l : Line) (draw : Draw) (answer : Answer) (x : ListenerAt) (a b : DirAt) → takes_links l ≡ false → LinksBetween l draw answer x x a b
@@ -53,13 +54,13 @@ told_of t b = Ok (record { text = t; well = b })
 
 answer_is : (served : Served) (answer : Answer) → outcome_of answer ≡ service_outcome served → is_well answer ≡ true → answer ≡ service_answer served
 answer_is (Ok done) (Ok told) is well =
-    let text : told.text ≡ [] = (let e : ◌≡◌ {A = Outcome} (Ok told.text) (Ok []) = is in cc) in
+    let text : told.text ≡ [] = (let e : ◌≡◌ {A = CommandOutcome} (Ok told.text) (Ok []) = is in cc) in
     ap (λ (t : List ℕ). told_of t told.well) text ∙ ap (λ (b : Bool). told_of [] b) well
-answer_is (Ok done) (Err r) is well = let e : ◌≡◌ {A = Outcome} (Err r) (Ok []) = is in cc
+answer_is (Ok done) (Err r) is well = let e : ◌≡◌ {A = CommandOutcome} (Err r) (Ok []) = is in cc
 answer_is (Err e) answer is well = refused_answer answer (service_refusal e) is
 
 -- the service
-pub links_served : (l : Line) (draw : Draw) (address said : List ℕ) (count : ℕ) (o : Outcome) (answer : Answer) (old new : ListenerAt) (a b : DirAt) → l ≡ line.Metadata address count → said ≡ address → outcome_of answer ≡ o → is_well answer ≡ true →
+pub links_served : (l : Line) (draw : Draw) (address said : List ℕ) (count : ℕ) (o : CommandOutcome) (answer : Answer) (old new : ListenerAt) (a b : DirAt) → l ≡ line.Metadata address count → said ≡ address → outcome_of answer ≡ o → is_well answer ≡ true →
     ServesAs draw.key said count o old new a b → LinksBetween l draw answer old new a b
 links_served l draw address said count o answer old new a b is same_address same well x =
     subst (λ (y : Line). LinksBetween y draw answer old new a b) (sym is)
@@ -67,16 +68,13 @@ links_served l draw address said count o answer old new a b is same_address same
 
 -- ---- its process
 
-same_intents : (i j : Intent) → ◌≡◌ {A = Option Intent} (Some i) (Some j) → i ≡ j
-same_intents i j is = cc
-
 module _ (observed : Bool) (l : Line) (now : ℕ) (draw : Draw) (intent : Intent) (a b m : DirAt) (said : intent_in l now draw ≡ Some intent) (begins : DirCall observed a (Begin intent) Done b)
-    (comes : ComesToPod (word_of l) (dir_seen observed b) (dir_seen observed m)) (t : observed ≡ true) where
+    (comes : ComesToPod (pod_word_of l) (dir_seen observed b) (dir_seen observed m)) (t : observed ≡ true) where
   -- its command was performed, and it finished
   pub links_whole : (c d : DirAt) (answer : Answer) (old new : ListenerAt) → c.process ≡ m.process → DirCall observed c Finish Done d → LinksBetween l draw answer old new m c → LinksOf l now draw answer old new a d
   links_whole c d answer old new same finish x = by l said comes x
     where
-      by : (k : Line) → intent_in k now draw ≡ Some intent → ComesToPod (word_of k) (dir_seen observed b) (dir_seen observed m) → LinksBetween k draw answer old new m c → LinksOf k now draw answer old new a d
+      by : (k : Line) → intent_in k now draw ≡ Some intent → ComesToPod (pod_word_of k) (dir_seen observed b) (dir_seen observed m) → LinksBetween k draw answer old new m c → LinksOf k now draw answer old new a d
       by (line.Metadata address count) its came x =
           let mine : m.process ≡ a.process = came.same ∙ begins.same in
           let is : intent ≡ intent_for kind.Metadata [] now draw = sym (same_intents (intent_for kind.Metadata [] now draw) intent its) in
@@ -102,7 +100,7 @@ links_never (line.Metadata address count) now draw x a b = inr (refl, refl)
 links_never l now draw x a b = refl
 
 -- it found no pod, which the service doesn't look for
-pub links_vain : (l : Line) (now : ℕ) (draw : Draw) (refusal : Refusal) (b m : DirSeen) (x : ListenerAt) (a d : DirAt) → FindsPod (word_of l) draw b m (Err refusal) → LinksOf l now draw (Err refusal) x x a d
+pub links_vain : (l : Line) (now : ℕ) (draw : Draw) (refusal : Refusal) (b m : DirSeen) (x : ListenerAt) (a d : DirAt) → FindsPodByWord (pod_word_of l) draw b m (Err refusal) → LinksOf l now draw (Err refusal) x x a d
 links_vain (line.Metadata address count) now draw refusal b m x a d vain = cc
 links_vain l now draw refusal b m x a d vain = refl
 
@@ -112,7 +110,7 @@ no_link_found (lookup.Ambiguous first second) is = cc
 no_link_found lookup.DirFault is = cc
 no_link_found lookup.NoMemory is = cc
 
-pub vain_link : (word : Option (List ℕ)) (draw : Draw) (b m : DirSeen) (refusal : Refusal) {X : Type 0} → FindsPod word draw b m (Err refusal) → IsErrOf {T = Told} (Err refusal) LinkFault → X
+pub vain_link : (word : Option (List ℕ)) (draw : Draw) (b m : DirSeen) (refusal : Refusal) {X : Type 0} → FindsPodByWord word draw b m (Err refusal) → IsErrOf {T = Told} (Err refusal) LinkFault → X
 vain_link None draw b m refusal vain is = cc
 vain_link (Some word) draw b m refusal vain is = no_link_found vain.error (sym vain.is ∙ (let same : refusal ≡ LinkFault = cc in same))
 
@@ -126,17 +124,17 @@ pub links_demo : (l : Line) (count : ℕ) (now : ℕ) (draw : Draw) (answer : An
 links_demo l count now draw answer x a b is = subst (λ (y : Line). LinksOf y now draw answer x x a b) (sym is) refl
 
 pub demo_link : (count : ℕ) (answer : Answer) {X : Type 0} → EndsDemo count (outcome_of answer) → IsErrOf answer LinkFault → X
-demo_link count answer (inl e) is = let clash : ◌≡◌ {A = Outcome} (Err LinkFault) (Ok (demo_line count)) = sym (ap outcome_of is) ∙ e in cc
-demo_link count answer (inr e) is = let clash : ◌≡◌ {A = Outcome} (Err LinkFault) (Err NoMemory) = sym (ap outcome_of is) ∙ e in cc
+demo_link count answer (inl e) is = let clash : ◌≡◌ {A = CommandOutcome} (Err LinkFault) (Ok (demo_line count)) = sym (ap outcome_of is) ∙ e in cc
+demo_link count answer (inr e) is = let clash : ◌≡◌ {A = CommandOutcome} (Err LinkFault) (Err NoMemory) = sym (ap outcome_of is) ∙ e in cc
 
 -- ---- the run
 
 abbrev failing : Refusal → End
 failing q = Err q
 
-is_link : (r : Refusal) → status_of r ≡ 13 → r ≡ LinkFault
+is_link : (r : Refusal) → exit_status_of r ≡ 13 → r ≡ LinkFault
 is_link LinkFault is = refl
-is_link r is = absurd_number (status_of r) 13 is refl
+is_link r is = absurd_number (exit_status_of r) 13 is refl
 
 -- its status is that of the listener's fault for that alone
 pub link_answered : (answer : Answer) (end : Result Bool Refusal) (status : ℕ) (old new : SinkSeen) → status ≡ status_at end → Printed (outcome_of answer) old new (end_of_writing end) → status ≡ 13 → IsErrOf answer LinkFault

@@ -1,25 +1,22 @@
 -- From an answer to a pod's word to how a process came to its pod.
-use Rattle.std.proofs.Common.{arith, ◌≡◌, ◌==◌, ℕ, Bool, true, false, cond, List, length, Some, Ok, Err, IsOk, IsErrOf, refl, ap, subst}
-use Rattle.std.proofs.lemmas.Bool.Decides.{nat_tests}
+use Rattle.std.proofs.Common.{◌≡◌, ◌==◌, ℕ, Bool, true, false, cond, List, length, Some, Ok, Err, IsOk, IsErrOf, refl, ap, subst}
 use Rattle.dir_model.specs.declared.pod.PodId.{PodId}
 use Rattle.dir_model.specs.Causes.{Rose}
 use Rattle.dir_model.specs.Pods.{pod_text}
+use Rattle.dir_model.proofs.PodTexts.{whole_back}
 use Rattle.dir_rules.specs.declared.seen.Seen.{Seen}
 use Rattle.dir_trait.specs.DirCalls.{DirAt}
 use Rattle.dir_trait.specs.Knowledge.{Knows}
 use Rattle.phase_read.specs.declared.found.LookError.{LookError}
 use Rattle.phase_read.specs.declared.found.LookError.TheVariants as lookup
-use Rattle.pod_lookup.specs.Choice.{IfAmbiguous, IsChoice, NamesMeant}
+use Rattle.pod_lookup.specs.Choice.{IfAmbiguous, IsLookupAnswer, NamesMeant}
 use Rattle.pod_lookup.specs.Looks.{OnlyLooksFor, lists_stages}
 use Rattle.pod_lookup.specs.Resolved.{AreTheLeast, Existed, FindsTheOne, IsChosen, IsNoneOf, IsSequential, IsShown}
-use Rattle.command_outcomes.specs.Conforming.{begun, shown_at}
+use Rattle.command_outcomes.specs.Conforming.{seen_at_begin, dir_at_moment}
 use Rattle.command_outcomes.specs.Moments.{DirSeen, dir_seen}
 use Rattle.commands.specs.Opening.{directly, looking, Looks}
 use Rattle.rkt_cli.specs.Lookups.{ComesToPod, FindsMeant, MeansNone, lookup_refusal}
 use Rattle.command_outcomes.specs.declared.refusal.Refusal.{Refusal}
-
-equal_lengths : (n : ℕ) → (n == 36) ≡ true → n ≡ 36
-equal_lengths n is = grind (arith, nat_tests)
 
 module _ (observed : Bool) (word : List ℕ) (old new : DirAt) where
   abbrev before : DirSeen
@@ -36,13 +33,13 @@ module _ (observed : Bool) (word : List ℕ) (old new : DirAt) where
     local = only.local;
     looks = λ t. looks t (length word == 36) refl;
     knows = λ t intent k.
-        let x = only.known t (begun intent) (record { tied = k.tied; handles = k.handles }) in
-        let y : Knows new (begun intent) = subst (λ (s : Seen). Knows new s) (x.bare refl) x.knows in
+        let x = only.known t (seen_at_begin intent) (record { tied = k.tied; handles = k.handles }) in
+        let y : Knows new (seen_at_begin intent) = subst (λ (s : Seen). Knows new s) (x.bare refl) x.knows in
         record { tied = y.tied; handles = y.handles };
   }
     where
       looks : observed ≡ true → (b : Bool) → (length word == 36) ≡ b → Looks (cond b directly looking) old.process old.trace new.trace
-      looks t true is = ap (λ (d : DirAt). d.trace) (unseen (equal_lengths (length word) is))
+      looks t true is = ap (λ (d : DirAt). d.trace) (unseen (whole_back (length word) is))
       looks t false is = only.extends t
 
   -- to the pod
@@ -52,10 +49,10 @@ module _ (observed : Bool) (word : List ℕ) (old new : DirAt) where
       (record { begins = meant; whole = whole }, λ t. record { shown = λ part. let x = chosen part t in (x.pods, x.found, x.is); existed = λ part. existed part t; the_one = one t; quiet = quiet t })
 
   -- or to none
-  shown_so : {names : List (List ℕ)} {pod : PodId} → IsShown word names old new pod → IsShown word names (shown_at before) (shown_at after) pod
+  shown_so : {names : List (List ℕ)} {pod : PodId} → IsShown word names old new pod → IsShown word names (dir_at_moment before) (dir_at_moment after) pod
   shown_so x = record { meant = x.meant; among = x.among; shown = x.shown; existed = x.existed }
 
-  least_so : {a b : PodId} → AreTheLeast word a b old new → AreTheLeast word a b (shown_at before) (shown_at after)
+  least_so : {a b : PodId} → AreTheLeast word a b old new → AreTheLeast word a b (dir_at_moment before) (dir_at_moment after)
   least_so x = record { names = x.names; listed = x.listed; first = shown_so x.first; second = shown_so x.second; rise = x.rise; least = x.least }
 
   why : (error : LookError) → (IsErrOf {T = PodId} (Err error) lookup.DirFault → Rose old.faults new.faults) → (IsErrOf {T = PodId} (Err error) lookup.NoPod → observed ≡ true → IsNoneOf word old new) →
@@ -67,11 +64,11 @@ module _ (observed : Bool) (word : List ℕ) (old new : DirAt) where
 
   apart : (error : LookError) (b : Bool) → (length word == 36) ≡ b → (length word ≡ 36 → IsOk {T = PodId} {E = LookError} (Err error)) → cond b directly looking ≡ looking
   apart error false is whole = refl
-  apart error true is whole = let clash : false ≡ true = whole (equal_lengths (length word) is) in cc
+  apart error true is whole = let clash : false ≡ true = whole (whole_back (length word) is) in cc
 
   pub came_to_none : (error : LookError) (refusal : Refusal) → refusal ≡ lookup_refusal error → (IsErrOf {T = PodId} (Err error) lookup.DirFault → Rose old.faults new.faults) → (IsErrOf {T = PodId} (Err error) lookup.NoPod → observed ≡ true → IsNoneOf word old new) →
       IfAmbiguous (Err error) (λ a b. observed ≡ true → AreTheLeast word a b old new) → (length word ≡ 36 → IsOk {T = PodId} {E = LookError} (Err error)) → NamesMeant word (Err error) →
-      ((length word ≡ 36 → ⊥) → IsChoice (Err error) → observed ≡ true → IsChosen word (Err error) old new) → (IsChoice (Err error) → observed ≡ true → FindsTheOne word (Err error) old new) → (IsChoice (Err error) → observed ≡ true → IsSequential word (Err error) old new) →
+      ((length word ≡ 36 → ⊥) → IsLookupAnswer (Err error) → observed ≡ true → IsChosen word (Err error) old new) → (IsLookupAnswer (Err error) → observed ≡ true → FindsTheOne word (Err error) old new) → (IsLookupAnswer (Err error) → observed ≡ true → IsSequential word (Err error) old new) →
       FindsMeant word before after (Err refusal)
   came_to_none error refusal is cause none several whole names chosen one quiet = record {
     error = error;

@@ -14,7 +14,7 @@ use Rattle.rkt_cli.specs.declared.line.Line.{Line}
 use Rattle.rkt_cli.specs.Commands.{command_in, intent_of}
 use Rattle.rkt_cli.specs.Phases.{HadIn, NamesPhases, NamesTruePhases}
 use Rattle.rkt_cli.specs.Promises.{IsRunOf, RefusedFor}
-use Rattle.rkt_cli.specs.Runs.{Performs, RunIs}
+use Rattle.rkt_cli.specs.Runs.{Performs, IsRunOfTask}
 use Rattle.rkt_cli.specs.Tasks.{Task, Status, PodList, CatManifest, Validate, ImageList, ImageImport, ImageRm, ImageGc, Prepare, RunPrepared, Run, Rm, Gc, Metadata, Demo}
 use Rattle.rkt_cli.proofs.PodRemovals.{gc_done}
 use Rattle.rkt_cli.proofs.Promises.{ended, output_as}
@@ -63,7 +63,7 @@ module _ (now : ℕ) (draw : Draw) (old new : Moment) (t : old.outside.dir.obser
   refusal_named (Metadata address count) r cause = tt
   refusal_named (Demo count) r cause = tt
 
-  named : {task : Task} {status : ℕ} → RunIs task now draw old new status → NamesTruePhases (command_in task) status old new
+  named : {task : Task} {status : ℕ} → IsRunOfTask task now draw old new status → NamesTruePhases (command_in task) status old new
   named {task} {status} run = record {
     written = output_as run (λ text. (command_in task).names (Ok text) (HadIn old new)) (text_named task);
     refused = elim (ended run) [

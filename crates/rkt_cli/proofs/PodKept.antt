@@ -19,7 +19,7 @@ use Rattle.lifecycle.specs.Executions.{IsConforming}
 use Rattle.lifecycle.proofs.Draws.{conforming_left}
 use Rattle.folder_contents.specs.Entries.{entries_in}
 use Rattle.folder_contents.specs.Handing.{then_moved}
-use Rattle.folder_contents.specs.UnderGate.{takes}
+use Rattle.folder_contents.specs.UnderGate.{is_taken_from}
 use Rattle.folder_contents.proofs.Along.{happens}
 use Rattle.folder_contents.proofs.Spots.{one_location}
 use Rattle.folder_contents.proofs.Unmoved.{unmoved}
@@ -48,23 +48,23 @@ module _ (draw : PodId) where
       by false b true d e f h = subst (λ (z : Spot). spot_eq z spot ≡ false) (sym (one_location from (pod_at Prepare draw) f)) refl
       by false b false d e f h = cc
 
-  asked_leaves : (request : Request) (reply : Reply) → asks request ≡ true → takes spot request reply ≡ false
+  asked_leaves : (request : Request) (reply : Reply) → asks request ≡ true → is_taken_from spot request reply ≡ false
   asked_leaves (MoveFolder from to) Done h = moves_away from to h
   asked_leaves (RemoveFolder gone) reply h = cc
   asked_leaves request reply h = refl
 
-  kill_leaves : (request : Request) (reply : Reply) → is_kill request ≡ true → takes spot request reply ≡ false
+  kill_leaves : (request : Request) (reply : Reply) → is_kill request ≡ true → is_taken_from spot request reply ≡ false
   kill_leaves (MoveFolder from to) reply h = cc
   kill_leaves (RemoveFolder gone) reply h = cc
   kill_leaves request reply h = refl
 
-  own_leaves : (me : ℕ) (e : Event) → e.process ≡ me → (is_foreign me e || asks e.request) ≡ true → takes spot e.request e.reply ≡ false
+  own_leaves : (me : ℕ) (e : Event) → e.process ≡ me → (is_foreign me e || asks e.request) ≡ true → is_taken_from spot e.request e.reply ≡ false
   own_leaves me e mine asked =
       by (is_kill e.request) (asks e.request) refl refl
       (ap (λ b. (not b || is_kill e.request) || asks e.request) (sym (same_self me))
       ∙ (ap (λ (q : ℕ). (not (q == me) || is_kill e.request) || asks e.request) (sym mine) ∙ asked))
     where
-      by : (kill own : Bool) → is_kill e.request ≡ kill → asks e.request ≡ own → (kill || own) ≡ true → takes spot e.request e.reply ≡ false
+      by : (kill own : Bool) → is_kill e.request ≡ kill → asks e.request ≡ own → (kill || own) ≡ true → is_taken_from spot e.request e.reply ≡ false
       by true own k m h = kill_leaves e.request e.reply k
       by false true k m h = asked_leaves e.request e.reply m
       by false false k m h = cc

@@ -15,22 +15,22 @@ use Rattle.dir_model.proofs.Chains.{step_extends}
 use Rattle.dir_model.proofs.Moments.{at_before}
 use Rattle.dir_rules.specs.Conforms.{IsTied}
 use Rattle.dir_trait.specs.DirCalls.{DirAt, HeldBetween}
+use Rattle.dir_trait.specs.Effects.{OnlyAsks}
 use Rattle.dir_files.specs.AreaLocks.{IsBusyElsewhere, IsFreeElsewhere}
-use Rattle.folder_building.specs.Work.{Worked}
 use Rattle.lifecycle.specs.Executions.{IsConforming}
 use Rattle.lifecycle.proofs.Draws.{conforming_left}
 use Rattle.pod_build.specs.Causes.{IsMadeByPlan}
 use Rattle.pod_build.specs.Preparations.{Began}
-use Rattle.pod_build.specs.Progress.{at_work, handed}
+use Rattle.pod_build.specs.Progress.{seen_making, handed}
 use Rattle.rkt_cli.specs.Tasks.{Task}
 use Rattle.rkt_cli.specs.Tasks.{Prepare}
 use Rattle.command_outcomes.specs.declared.refusal.Refusal.{Refusal}
 use Rattle.command_outcomes.specs.declared.refusal.Refusal.TheVariants.{Busy, DirFault, NoMemory}
-use Rattle.command_outcomes.specs.Conforming.{shown_at}
-use Rattle.command_outcomes.specs.Moments.{BundleSeen, Outside, Outcome}
+use Rattle.command_outcomes.specs.Conforming.{dir_at_moment}
+use Rattle.command_outcomes.specs.Moments.{BundleSeen, Outside, CommandOutcome}
 use Rattle.command_outcomes.proofs.Seen.{seen_at, beside}
 use Rattle.commands.specs.PrepareRefusals.{prepare_refusal}
-use Rattle.commands.specs.Prepare.{pod_line, prepares_pod, IsFaithful, BringsPod, LeavesFolder, RefusesPod, IsAreaHeld, IsHeldFrom, Syncs, HasBrought, HasSynced, KeepsFolder, HasKeptFolder, PrepareSays}
+use Rattle.commands.specs.Prepare.{pod_line, prepares_pod, IsFaithful, BringsAndSyncsPod, LeavesFolder, RefusesPod, IsAreaHeld, IsHeldFromPrepare, SyncsPreparedArea, HasBrought, HasSynced, KeepsFolder, HasKeptFolder, PrepareSays}
 use Rattle.commands.proofs.Whole.{refuses_whole, faithful_wider, made_whole}
 use Rattle.commands.proofs.Parts.{Part, held_wider}
 use Rattle.commands.specs.Command.{intent_for}
@@ -60,7 +60,7 @@ prepare_may wants NoMemory known = known
 prepare_may wants DirFault known = known
 prepare_may wants r known = known
 
-pub prepare_ran : (line : Task) (now : ℕ) (draw : Draw) (wants : Wants) (observed : Bool) (a b : DirAt) (bundle : BundleSeen) (o : Outcome) → line ≡ Prepare wants → Worked observed (prepares_pod draw.uuid) a b →
+pub prepare_ran : (line : Task) (now : ℕ) (draw : Draw) (wants : Wants) (observed : Bool) (a b : DirAt) (bundle : BundleSeen) (o : CommandOutcome) → line ≡ Prepare wants → OnlyAsks observed (prepares_pod draw.uuid) a b →
     (IsErrOf o DirFault → Rose a.faults b.faults) → IfErr o (λ r. prepare_refusal r ≡ true) → PrepareSays wants now draw (seen_at observed a) (seen_at observed b) o →
     CommandRan line now draw (beside (seen_at observed a) bundle) (beside (seen_at observed b) bundle) o
 prepare_ran line now draw wants observed a b bundle o is worked cause known says = ran (Prepare wants) prepare_refusal refl (prepare_may wants) line now draw observed a b bundle o is refl worked cause known says
@@ -71,38 +71,38 @@ is_fault NoMemory = true
 is_fault DirFault = true
 is_fault r = false
 
-says_why : (wants : Wants) (now : ℕ) (draw : Draw) (old new : Outside) (r : Refusal) → is_fault r ≡ false → PrepareSays wants now draw old.dir new.dir (Err r) → RefusesPod wants now draw old.dir new.dir r × IsHeldFrom now draw r old.dir new.dir
+says_why : (wants : Wants) (now : ℕ) (draw : Draw) (old new : Outside) (r : Refusal) → is_fault r ≡ false → PrepareSays wants now draw old.dir new.dir (Err r) → RefusesPod wants now draw old.dir new.dir r × IsHeldFromPrepare now draw r old.dir new.dir
 says_why wants now draw old new NoMemory other says = let clash : true ≡ false = other in cc
 says_why wants now draw old new DirFault other says = let clash : true ≡ false = other in cc
 says_why wants now draw old new r other says = (says.1, says.2)
 
-module _ {wants : Wants} {now : ℕ} {draw : Draw} {intent : Intent} {old new : Outside} {o : Outcome} (s : InProcess (Prepare wants) now draw intent old new o) where
+module _ {wants : Wants} {now : ℕ} {draw : Draw} {intent : Intent} {old new : Outside} {o : CommandOutcome} (s : InProcess (Prepare wants) now draw intent old new o) where
   refused_in_process : (r : Refusal) → RefusesPod wants now draw s.begun.dir s.ended.dir r → RefusesPod wants now draw old.dir new.dir r
   refused_in_process r x = refuses_whole any_call s.told s.me s.ran.same (λ t. begin_any s t)
       (λ t. step_extends any_call s.ended.dir.process s.ended.dir.trace Finish Done new.dir.trace refl (s.finishes t)) x
 
   -- the pod was brought to prepared, and then the sync was answered so
-  module _ (said : Began Prepared draw now intent) (t : old.dir.observed ≡ true) {reply : Reply} (x : BringsPod wants now draw reply s.begun.dir s.ended.dir) where
+  module _ (said : Began Prepared draw now intent) (t : old.dir.observed ≡ true) {reply : Reply} (x : BringsAndSyncsPod wants now draw reply s.begun.dir s.ended.dir) where
     sync_part : Extends any_call s.begun.dir.process x.brought.trace s.ended.dir.trace
     sync_part = step_extends any_call s.begun.dir.process x.brought.trace (SyncArea Prepared) reply s.ended.dir.trace refl (x.synced (s.told ∙ t))
 
     -- no other process held the lock of images when it took it
-    pub free_in_process : HeldBetween (shown_at old.dir) (shown_at new.dir) (IsFreeElsewhere old.dir.process Images Shared)
+    pub free_in_process : HeldBetween (dir_at_moment old.dir) (dir_at_moment new.dir) (IsFreeElsewhere old.dir.process Images Shared)
     free_in_process =
-        let made : HeldBetween (shown_at s.begun.dir) (shown_at s.ended.dir) (IsFreeElsewhere s.begun.dir.process Images Shared) = at_before (x.free (s.told ∙ t)) refl sync_part in
+        let made : HeldBetween (dir_at_moment s.begun.dir) (dir_at_moment s.ended.dir) (IsFreeElsewhere s.begun.dir.process Images Shared) = at_before (x.free (s.told ∙ t)) refl sync_part in
         held_wider (process_part s t) (IsFreeElsewhere old.dir.process Images Shared)
-        (subst (λ (me : ℕ). HeldBetween (shown_at s.begun.dir) (shown_at s.ended.dir) (IsFreeElsewhere me Images Shared)) s.me made)
+        (subst (λ (me : ℕ). HeldBetween (dir_at_moment s.begun.dir) (dir_at_moment s.ended.dir) (IsFreeElsewhere me Images Shared)) s.me made)
 
     -- by the plan that the store gave
-    pub planned_in_process : OfReferences wants.images (λ refs. IsMadeByPlan old.dir.observed refs wants.wishes draw now (shown_at old.dir) (shown_at new.dir))
+    pub planned_in_process : OfReferences wants.images (λ refs. IsMadeByPlan old.dir.observed refs wants.wishes draw now (dir_at_moment old.dir) (dir_at_moment new.dir))
     planned_in_process =
-        let brought : Part (shown_at s.begun.dir) (shown_at s.begun.dir) (shown_at x.brought) (shown_at s.ended.dir) =
+        let brought : Part (dir_at_moment s.begun.dir) (dir_at_moment s.begun.dir) (dir_at_moment x.brought) (dir_at_moment s.ended.dir) =
         record { earlier = []; later = sync_part.more; same = refl; begins = sym (append-nil s.begun.dir.trace); ends = sync_part.grown } in
-        let made = made_whole draw {b = shown_at s.begun.dir} {c = shown_at x.brought} (λ seen. brought) x.planned.2 in (
+        let made = made_whole draw {b = dir_at_moment s.begun.dir} {c = dir_at_moment x.brought} (λ seen. brought) x.planned.2 in (
           x.planned.0,
           x.planned.1,
-          made_whole draw {b = shown_at s.begun.dir} {c = shown_at s.ended.dir} (λ seen. process_part s t)
-              (subst (λ (seen : Bool). IsMadeByPlan seen x.planned.0 wants.wishes draw now (shown_at s.begun.dir) (shown_at s.ended.dir)) s.told made),
+          made_whole draw {b = dir_at_moment s.begun.dir} {c = dir_at_moment s.ended.dir} (λ seen. process_part s t)
+              (subst (λ (seen : Bool). IsMadeByPlan seen x.planned.0 wants.wishes draw now (dir_at_moment s.begun.dir) (dir_at_moment s.ended.dir)) s.told made),
         )
 
     pub faithful_in_process : IsConforming new.dir.trace → IsFaithful wants draw.uuid old.dir new.dir
@@ -118,12 +118,12 @@ module _ {wants : Wants} {now : ℕ} {draw : Draw} {intent : Intent} {old new : 
     pub brought_in_process : HasBrought draw.uuid reply old.dir new.dir
     brought_in_process =
         let k = x.knows (s.told ∙ t) intent said (begun_knows s t) in
-        meanwhile (Syncs draw.uuid reply) refl s t (record {
+        meanwhile (SyncsPreparedArea draw.uuid reply) refl s t (record {
           intent = intent;
           entries = k.0;
           mid = x.brought.trace;
           prepares = x.extends (s.told ∙ t);
-          knew = subst (λ (me : ℕ). IsTied me x.brought.trace (at_work intent [] (handed draw.uuid Prepared k.0))) x.same k.1.tied;
+          knew = subst (λ (me : ℕ). IsTied me x.brought.trace (seen_making intent [] (handed draw.uuid Prepared k.0))) x.same k.1.tied;
           synced = x.synced (s.told ∙ t);
         })
 
@@ -135,7 +135,7 @@ module _ {wants : Wants} {now : ℕ} {draw : Draw} {intent : Intent} {old new : 
         intent = intent;
         progress = x.progress;
         own = x.own;
-        knew = subst (λ (me : ℕ). IsTied me s.ended.dir.trace (at_work intent [] x.progress)) s.ran.same x.knows.tied;
+        knew = subst (λ (me : ℕ). IsTied me s.ended.dir.trace (seen_making intent [] x.progress)) s.ran.same x.knows.tied;
       }))
 
 -- what was printed
@@ -161,6 +161,6 @@ prepare_refused wants now draw None old new r other p = let clash : true ≡ fal
 pub prepare_busy : (wants : Wants) (now : ℕ) (draw : Draw) (old new : Outside) (area : Area) → Performs (Prepare wants) now draw (intent_of (Prepare wants) now draw) old new (Err (Busy area)) → old.dir.observed ≡ true → IsAreaHeld area old.dir new.dir
 prepare_busy wants now draw old new area (inl s) t =
     held_wider (process_part s t) (IsBusyElsewhere old.dir.process area Shared)
-    (subst (λ (me : ℕ). HeldBetween (shown_at s.begun.dir) (shown_at s.ended.dir) (IsBusyElsewhere me area Shared)) s.me
+    (subst (λ (me : ℕ). HeldBetween (dir_at_moment s.begun.dir) (dir_at_moment s.ended.dir) (IsBusyElsewhere me area Shared)) s.me
     (s.ran.says.2 area refl (s.told ∙ t) (prepare_intent now draw) (began now draw) (begun_knows s t)))
 prepare_busy wants now draw old new area (inr n) t = let e = n.is in cc

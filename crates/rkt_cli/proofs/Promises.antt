@@ -1,32 +1,34 @@
 -- From a run to what a caller is told of it.
-use Rattle.std.proofs.Common.{arith, ◌≤◌, ◌+◌, ◌≡◌, ◌⊎◌, inl, inr, ℕ, Bool, true, false, ◌||◌, ◌==◌, List, ◌++◌, Option, Some, None, Ok, Err, refl, sym, ap, subst, ◌∙◌}
+use Rattle.std.proofs.Common.{arith, ◌≤◌, ◌+◌, ◌≡◌, ◌⊎◌, inl, inr, ℕ, true, false, ◌||◌, ◌==◌, List, ◌++◌, Option, Some, None, Ok, Err, refl, sym, ap, subst, ◌∙◌}
+use Rattle.std.proofs.lemmas.Bool.{or_left, or_right}
 use Rattle.dir_model.specs.declared.intent.Draw.{Draw}
 use Rattle.dir_model.specs.declared.intent.Intent.{Intent}
 use Rattle.dir_model.specs.declared.request.Request.{Request}
 use Rattle.dir_model.specs.declared.request.Request.TheVariants.{Begin, Finish}
 use Rattle.dir_model.specs.Calls.{Extends, is_begin, is_finish}
 use Rattle.dir_model.proofs.Chains.{nothing_yet, step_extends}
+use Rattle.dir_model.proofs.Lists.{or_left_false}
 use Rattle.dir_trait.specs.Sinks.{WritesPart}
 use Rattle.dir_trait.proofs.Askings.{asks_nothing}
 use Rattle.command_outcomes.specs.declared.refusal.Refusal.TheVariants.{Usage, NoMemory}
-use Rattle.command_outcomes.specs.Texts.{status_of}
-use Rattle.command_outcomes.specs.Moments.{DirSeen, BundleSeen, Outside, Inside, SinkSeen, Moment, Outcome, Answer, outcome_of}
+use Rattle.command_outcomes.specs.Texts.{exit_status_of}
+use Rattle.command_outcomes.specs.Moments.{DirSeen, BundleSeen, Outside, Inside, SinkSeen, Moment, CommandOutcome, Answer, outcome_of}
 use Rattle.commands.specs.Answers.{inside_in}
 use Rattle.commands.specs.CatManifest.{cat_manifest_report}
 use Rattle.commands.specs.PodList.{list_report}
 use Rattle.commands.specs.Status.{status_report}
-use Rattle.commands.specs.Validate.{ReadsFile, most_read}
+use Rattle.commands.specs.Validate.{ReadsFileAlone, most_read}
 use Rattle.rkt_cli.specs.Tasks.{Task}
 use Rattle.rkt_cli.specs.Tasks.{Status, PodList, CatManifest, Validate, ImageList, ImageImport, ImageRm, ImageGc, Prepare, RunPrepared, Run, Rm, Gc, Metadata, Demo}
 use Rattle.rkt_cli.specs.Commands.{command_in, intent_of, looks, asks, runs_apps, ReadsOnly}
-use Rattle.rkt_cli.specs.Spawns.{CameBetween}
-use Rattle.rkt_cli.specs.Runs.{Performs, End, Unwritten, Printed, Reported, end_status, RunOfLine, RunOf, RunIs}
-use Rattle.rkt_cli.specs.Promises.{IsStatus, asks_all, Ends, EndsAs, IsRefused, Writes}
+use Rattle.rkt_cli.specs.Spawns.{AppsToldBetween}
+use Rattle.rkt_cli.specs.Runs.{Performs, End, Unwritten, Printed, Reported, end_status, RunOfLine, RunsTaskOrNothing, IsRunOfTask}
+use Rattle.rkt_cli.specs.Promises.{IsExitStatus, asks_all, Ends, EndsAs, IsRefused, WritesItsText}
 use Rattle.rkt_cli.proofs.AppsRan.{run_prepared_printed, run_printed}
 use Rattle.rkt_cli.proofs.Causes.{cause_of}
 use Rattle.rkt_cli.proofs.DemoRan.{demo_text, does_demo}
 use Rattle.rkt_cli.proofs.Ends.{absurd_number, end_at, is_of_output, output_known, refusal_known, refusal_status, refusal_plain, from_end, from_command}
-use Rattle.rkt_cli.proofs.Grades.{plain_at, graded_known, graded_none, graded_same, either_false}
+use Rattle.rkt_cli.proofs.Grades.{plain_at, graded_known, graded_none, graded_same}
 use Rattle.rkt_cli.proofs.Imports.{import_printed}
 use Rattle.rkt_cli.proofs.Listed.{list_printed}
 use Rattle.rkt_cli.proofs.Outcomes.{refusals_of, does_validate, file_prints}
@@ -40,16 +42,8 @@ use Rattle.rkt_cli.proofs.Sessions.{all_parts}
 abbrev TaskPrints : Task → Draw → BundleSeen → List ℕ → Type 0
 TaskPrints task draw bundle text = (command_in task).prints draw bundle text
 
-or_left : (a b : Bool) → a ≡ true → (a || b) ≡ true
-or_left true b h = refl
-or_left false b h = cc
-
-or_right : (a b : Bool) → b ≡ true → (a || b) ≡ true
-or_right true b h = refl
-or_right false b h = h
-
 -- the text that was printed is one that the command prints
-prints_of : (line : Task) (now : ℕ) (draw : Draw) (intent : Option Intent) (old new : Outside) (text : List ℕ) → Performs line now draw intent old new (Ok text) → (a b : Inside) (answer : Answer) → Ok text ≡ outcome_of answer → CameBetween line now draw intent a b answer → TaskPrints line draw old.bundle text
+prints_of : (line : Task) (now : ℕ) (draw : Draw) (intent : Option Intent) (old new : Outside) (text : List ℕ) → Performs line now draw intent old new (Ok text) → (a b : Inside) (answer : Answer) → Ok text ≡ outcome_of answer → AppsToldBetween line now draw intent a b answer → TaskPrints line draw old.bundle text
 prints_of (Status word pod) now draw intent old new text p a b answer is came = report_printed (status_report pod) (Status word pod) now draw old new refl text (λ i s. s.ran.says) intent p
 prints_of PodList now draw intent old new text p a b answer is came = report_printed list_report PodList now draw old new refl text (λ i s. s.ran.says) intent p
 prints_of (CatManifest word pod) now draw intent old new text p a b answer is came = report_printed (cat_manifest_report pod) (CatManifest word pod) now draw old new refl text (λ i s. s.ran.says) intent p
@@ -75,7 +69,7 @@ IsPlainOutput P status old new =
     ⊎ (((status ≡ 12) ⊎ (status ≡ 14)) × (text : List ℕ) × P text × WritesPart old text new)
     ⊎ ((((status == 0) || (status == 16)) ≡ false) × (new ≡ old))
 
-output_of : (P : List ℕ → Type 0) (o : Outcome) (old new : SinkSeen) (end : End) (status : ℕ) → ((text : List ℕ) → o ≡ Ok text → P text) → Printed o old new end → status ≡ end_status end → old.observed ≡ true → IsPlainOutput P status old.bytes new.bytes
+output_of : (P : List ℕ → Type 0) (o : CommandOutcome) (old new : SinkSeen) (end : End) (status : ℕ) → ((text : List ℕ) → o ≡ Ok text → P text) → Printed o old new end → status ≡ end_status end → old.observed ≡ true → IsPlainOutput P status old.bytes new.bytes
 output_of P (Err r) old new end status prints p is t = inr (inr (ap (λ (n : ℕ). (n == 0) || (n == 16)) (is ∙ ap end_status (p.refused.0)) ∙ refusal_plain r, p.refused.1 t))
 output_of P (Ok text) old new (Ok done) status prints p is t =
     let q = p.done refl in
@@ -84,34 +78,34 @@ output_of P (Ok text) old new (Ok done) status prints p is t =
 output_of P (Ok text) old new (Err r) status prints p is t = by (p.cause text refl)
   where
     by : Unwritten r old new → IsPlainOutput P status old.bytes new.bytes
-    by (inl x) = inr (inl (inl (is ∙ ap status_of x.0), text, prints text refl, p.part text refl t))
-    by (inr x) = inr (inl (inr (is ∙ ap status_of x.0), text, prints text refl, p.part text refl t))
+    by (inl x) = inr (inl (inl (is ∙ ap exit_status_of x.0), text, prints text refl, p.part text refl t))
+    by (inr x) = inr (inl (inr (is ∙ ap exit_status_of x.0), text, prints text refl, p.part text refl t))
 
 -- the status is one of those of the program
-status_known : (line : Task) (now : ℕ) (draw : Draw) (intent : Option Intent) (before after : Outside) (o : Outcome) (old new : SinkSeen) (end : End) → Performs line now draw intent before after o → Printed o old new end → IsStatus (end_status end)
+status_known : (line : Task) (now : ℕ) (draw : Draw) (intent : Option Intent) (before after : Outside) (o : CommandOutcome) (old new : SinkSeen) (end : End) → Performs line now draw intent before after o → Printed o old new end → IsExitStatus (end_status end)
 status_known line now draw intent before after o old new (Ok done) p printed = refl
 status_known line now draw intent before after o old new (Err r) p printed = by (from_end o old new (Err r) r printed refl)
   where
-    by : (o ≡ Err r) ⊎ Unwritten r old new → IsStatus (status_of r)
+    by : (o ≡ Err r) ⊎ Unwritten r old new → IsExitStatus (exit_status_of r)
     by (inl e) = refusal_known line r (refusals_of line now draw intent before after o r p e)
     by (inr (inl x)) = output_known r (ap is_of_output x.0)
     by (inr (inr x)) = output_known r (ap is_of_output x.0)
 
 -- what this process knows in the end
-over_of : (line : Task) (now : ℕ) (draw : Draw) (intent : Option Intent) (before after : Outside) (o : Outcome) (old new : SinkSeen) (end : End) (status : ℕ) → Performs line now draw intent before after o → Printed o old new end → status ≡ end_status end → EndsAs intent status before.dir.local after.dir.local
+over_of : (line : Task) (now : ℕ) (draw : Draw) (intent : Option Intent) (before after : Outside) (o : CommandOutcome) (old new : SinkSeen) (end : End) (status : ℕ) → Performs line now draw intent before after o → Printed o old new end → status ≡ end_status end → EndsAs intent status before.dir.local after.dir.local
 over_of line now draw None before after o old new end status p printed is = ap (λ (d : DirSeen). d.local) p.dir
 over_of line now draw (Some intent) before after o old new end status (inl s) printed is = inl s.local
-over_of line now draw (Some intent) before after o old new end status (inr n) printed is = inr (is ∙ ap end_status ((subst (λ (o : Outcome). Printed o old new end) n.is printed).refused.0), n.local)
+over_of line now draw (Some intent) before after o old new end status (inr n) printed is = inr (is ∙ ap end_status ((subst (λ (o : CommandOutcome). Printed o old new end) n.is printed).refused.0), n.local)
 
 nothing_given : (given : ℕ) → given ≤ given + most_read
 nothing_given given = omega arith
 
 pub reads_nothing : (line : Task) (old new : BundleSeen) → new ≡ old → ReadsOnly line old new
-reads_nothing (Validate path) old new same = subst (λ (x : BundleSeen). ReadsFile path old x) (sym same) (record { given = nothing_given old.given; asked = λ t. asks_nothing })
+reads_nothing (Validate path) old new same = subst (λ (x : BundleSeen). ReadsFileAlone path old x) (sym same) (record { given = nothing_given old.given; asked = λ t. asks_nothing })
 reads_nothing (ImageImport path) old new same = subst (λ (x : BundleSeen). old.faults ≤ x.faults) (sym same) (omega arith)
 reads_nothing line old new same = same
 
-reads_of : (line : Task) (now : ℕ) (draw : Draw) (intent : Option Intent) (old new : Outside) (o : Outcome) → Performs line now draw intent old new o → ReadsOnly line old.bundle new.bundle
+reads_of : (line : Task) (now : ℕ) (draw : Draw) (intent : Option Intent) (old new : Outside) (o : CommandOutcome) → Performs line now draw intent old new o → ReadsOnly line old.bundle new.bundle
 reads_of line now draw (Some intent) old new o (inl s) =
     subst (λ (b : BundleSeen). ReadsOnly line b new.bundle) s.bundle_before (subst (λ (b : BundleSeen). ReadsOnly line s.begun.bundle b) (sym s.bundle_after) s.ran.reads)
 reads_of line now draw (Some intent) old new o (inr n) = reads_nothing line old.bundle new.bundle n.bundle
@@ -119,11 +113,11 @@ reads_of line now draw None old new o p = p.ran.reads
 
 module _ (task : Task) (now : ℕ) (draw : Draw) (old new : Moment) (status : ℕ) where
   abbrev Is : Type 0
-  Is = RunOf task now draw old new status
+  Is = RunsTaskOrNothing task now draw old new status
 
-  statuses_of : Is → IsStatus status
-  statuses_of (inl r) = subst IsStatus (sym r.is) (status_known task now draw _ old.outside new.outside r.outcome old.out new.out r.end r.performs r.printed)
-  statuses_of (inr n) = subst IsStatus (sym n.is) refl
+  statuses_of : Is → IsExitStatus status
+  statuses_of (inl r) = subst IsExitStatus (sym r.is) (status_known task now draw _ old.outside new.outside r.outcome old.out new.out r.end r.performs r.printed)
+  statuses_of (inr n) = subst IsExitStatus (sym n.is) refl
 
   read_of : Is → status ≡ 1 → ⊥
   read_of (inr n) is = absurd_number 1 14 (sym is ∙ n.is) refl
@@ -169,8 +163,8 @@ module _ (task : Task) (now : ℕ) (draw : Draw) (old new : Moment) (status : �
   out_of P (inl r) prints t = output_of P r.outcome old.out new.out r.end status (prints r) r.printed r.is t
 
   -- what it performed
-  performed : (r : RunOfLine task now draw (intent_of task now draw) old new status) (o : Outcome) → r.outcome ≡ o → Performs task now draw (intent_of task now draw) old.outside new.outside o
-  performed r o is = subst (λ (x : Outcome). Performs task now draw (intent_of task now draw) old.outside new.outside x) is r.performs
+  performed : (r : RunOfLine task now draw (intent_of task now draw) old new status) (o : CommandOutcome) → r.outcome ≡ o → Performs task now draw (intent_of task now draw) old.outside new.outside o
+  performed r o is = subst (λ (x : CommandOutcome). Performs task now draw (intent_of task now draw) old.outside new.outside x) is r.performs
 
   its_text : (r : RunOfLine task now draw (intent_of task now draw) old new status) (text : List ℕ) → r.outcome ≡ Ok text → TaskPrints task draw old.outside.bundle text
   its_text r text is = prints_of task now draw (intent_of task now draw) old.outside new.outside text (performed r (Ok text) is) (inside_in old) (inside_in new) r.answer (sym is ∙ r.outcome_is) r.came
@@ -188,14 +182,14 @@ module _ (task : Task) (now : ℕ) (draw : Draw) (old new : Moment) (status : �
   reads_in (inl r) = reads_of task now draw (intent_of task now draw) old.outside new.outside r.outcome r.performs
 
 -- each of the clauses
-module _ {task : Task} {now : ℕ} {draw : Draw} {old new : Moment} {status : ℕ} (run : RunIs task now draw old new status) where
+module _ {task : Task} {now : ℕ} {draw : Draw} {old new : Moment} {status : ℕ} (run : IsRunOfTask task now draw old new status) where
   at : (n : ℕ) → status ≡ n → (n == 16) ≡ false → run.plain ≡ n
   at n is apart = plain_at task run.plain status n run.is is apart
 
   same_at : (n : ℕ) → run.plain ≡ n → (n == 0) ≡ false → status ≡ n
   same_at n is apart = graded_same task run.plain status n run.is is apart
 
-  pub statuses : IsStatus status
+  pub statuses : IsExitStatus status
   statuses = graded_known task run.plain status run.is (statuses_of task now draw old new run.plain run.ran)
 
   pub was_read : status ≡ 1 → ⊥
@@ -204,16 +198,16 @@ module _ {task : Task} {now : ℕ} {draw : Draw} {old new : Moment} {status : �
   pub extends : old.outside.dir.observed ≡ true → Extends (asks_all task now draw) old.outside.dir.process old.outside.dir.trace new.outside.dir.trace
   extends = extends_of task now draw old new run.plain run.ran
 
-  wrote : (P : List ℕ → Type 0) → IsPlainOutput P run.plain old.out.bytes new.out.bytes → Writes (runs_apps task) P status old.out.bytes new.out.bytes
+  wrote : (P : List ℕ → Type 0) → IsPlainOutput P run.plain old.out.bytes new.out.bytes → WritesItsText (runs_apps task) P status old.out.bytes new.out.bytes
   wrote P (inl x) = inl (graded_none task run.plain status run.is x.0, x.1, x.2, x.3)
   wrote P (inr (inl x)) = inr (inl (elim x.0 [ inl e ↦ inl (same_at 12 e refl) | inr e ↦ inr (same_at 14 e refl) ], x.1, x.2, x.3))
-  wrote P (inr (inr x)) = inr (inr (ap (λ (n : ℕ). (n == 0) || (n == 16)) (same_at run.plain refl (either_false (run.plain == 0) (run.plain == 16) x.0)) ∙ x.0, x.1))
+  wrote P (inr (inr x)) = inr (inr (ap (λ (n : ℕ). (n == 0) || (n == 16)) (same_at run.plain refl (or_left_false (run.plain == 0) (run.plain == 16) x.0)) ∙ x.0, x.1))
 
   -- a text of which this is so, if that is so of each that the task comes to
-  pub output_as : (P : List ℕ → Type 0) → ((text : List ℕ) → Performs task now draw (intent_of task now draw) old.outside new.outside (Ok text) → P text) → old.out.observed ≡ true → Writes (runs_apps task) P status old.out.bytes new.out.bytes
+  pub output_as : (P : List ℕ → Type 0) → ((text : List ℕ) → Performs task now draw (intent_of task now draw) old.outside new.outside (Ok text) → P text) → old.out.observed ≡ true → WritesItsText (runs_apps task) P status old.out.bytes new.out.bytes
   output_as P so t = wrote P (out_of task now draw old new run.plain P run.ran (λ r text is. so text (performed task now draw old new run.plain r (Ok text) is)) t)
 
-  pub output : old.out.observed ≡ true → Writes (runs_apps task) (TaskPrints task draw old.outside.bundle) status old.out.bytes new.out.bytes
+  pub output : old.out.observed ≡ true → WritesItsText (runs_apps task) (TaskPrints task draw old.outside.bundle) status old.out.bytes new.out.bytes
   output t = wrote (TaskPrints task draw old.outside.bundle) (out_of task now draw old new run.plain (TaskPrints task draw old.outside.bundle) run.ran (its_text task now draw old new run.plain) t)
 
   pub ended : Ends task now draw status old new
@@ -221,7 +215,7 @@ module _ {task : Task} {now : ℕ} {draw : Draw} {old new : Moment} {status : �
     where
       by : IsPlainEnd task now draw old new run.plain → Ends task now draw status old new
       by (inl x) = inl (graded_none task run.plain status run.is x.0, x.1)
-      by (inr x) = inr (record { refusal = x.refusal; is = same_at (status_of x.refusal) x.is (refusal_status x.refusal); said = x.said; cause = x.cause })
+      by (inr x) = inr (record { refusal = x.refusal; is = same_at (exit_status_of x.refusal) x.is (refusal_status x.refusal); said = x.said; cause = x.cause })
 
   pub over : EndsAs (intent_of task now draw) status old.outside.dir.local new.outside.dir.local
   over = ends (intent_of task now draw) (is_over task now draw old new run.plain run.ran)

@@ -21,40 +21,40 @@ use Rattle.dir_model.proofs.Chains.{extends_wider}
 use Rattle.dir_model.proofs.Quiet.{is_harmless, end_quiet}
 use Rattle.dir_model.specs.Quiet.{SameNamespace}
 use Rattle.commands.specs.Opening.{directly}
-use Rattle.commands.proofs.Starts.{look_lists, lists_is_harmless}
+use Rattle.commands.proofs.Starts.{look_lists}
 use Rattle.rkt_cli.specs.Commands.{approach_in}
-use Rattle.dir_trait.specs.Bundles.{file_bytes}
+use Rattle.dir_trait.specs.Bundles.{bytes_of_node}
 use Rattle.image_store.specs.Requests.{building_spot}
-use Rattle.image_removal.specs.Requests.{removes_at, sweeps}
+use Rattle.image_removal.specs.Requests.{removes_at, sweeps_store}
 use Rattle.image_removal.proofs.Begun.{begun_removes}
 use Rattle.phase_read.specs.Read.{is_pod_spot}
 use Rattle.rkt_cli.specs.Tasks.{Task}
 use Rattle.rkt_cli.specs.Tasks.{Status, PodList, CatManifest, Validate, ImageList, ImageImport, ImageRm, ImageGc, Prepare, RunPrepared, Run, Rm, Gc, Metadata, Demo}
 use Rattle.command_outcomes.specs.declared.refusal.Refusal.{Refusal}
 use Rattle.command_outcomes.specs.declared.refusal.Refusal.TheVariants.{Busy, NoImage, NoPod, WrongPhase, NoManifest, PodBusy, DirFault, BundleFault, NoMemory, Damaged, Stray}
-use Rattle.command_outcomes.specs.Moments.{BundleSeen, DirSeen, Outside, Moment, Outcome}
+use Rattle.command_outcomes.specs.Moments.{BundleSeen, DirSeen, Outside, Moment, CommandOutcome}
 use Rattle.command_outcomes.specs.Ends.{is_own_end, IsUnchanged}
 use Rattle.commands.specs.CatManifest.{cat_manifest_report}
 use Rattle.commands.specs.PodList.{list_report}
-use Rattle.commands.proofs.ReportsKept.{inspects_change, lines_stable, manifest_stable, service_calm, service_changes, status_stable, surveys_change, visits_change}
+use Rattle.commands.proofs.ReportsKept.{inspects_change, lines_stable, manifest_stable, service_changes, status_stable, surveys_change, visits_change}
 use Rattle.pod_report.proofs.Going.{visits_survey}
 use Rattle.rkt_cli.proofs.DemoRan.{demo_own}
 use Rattle.rkt_cli.proofs.Reported.{report_leaves, report_quiet}
 use Rattle.rkt_cli.proofs.ServiceRan.{service_quiet}
 use Rattle.commands.specs.Status.{status_report}
 use Rattle.pod_report.proofs.QuietSurvey.{inspect_calm, survey_calm}
-use Rattle.commands.specs.ImageList.{image_list_refusal, ListsQuietly}
+use Rattle.commands.specs.ImageList.{image_list_refusal, ListsImagesQuietly}
 use Rattle.commands.specs.ImageImport.{IsAreaHeld, ImportsQuietly, RefusesQuietly, is_building_place}
 use Rattle.commands.specs.NextState.{LeavesBeside, is_nowhere}
 use Rattle.commands.specs.ImageRm.{image_rm_refusal, is_removal_place, FindsBusy, RemovesQuietly}
 use Rattle.commands.specs.ImageGc.{is_swept_place, SweepsQuietly}
-use Rattle.command_outcomes.specs.Conforming.{begun, shown_at}
+use Rattle.command_outcomes.specs.Conforming.{seen_at_begin, dir_at_moment}
 use Rattle.commands.specs.Answers.{inside_in, IsAnswer}
 use Rattle.commands.specs.Command.{intent_for}
 use Rattle.commands.specs.GcCommand.{gc_intent}
 use Rattle.rkt_cli.specs.Commands.{uses_dir, runs_apps, intent_of, asks, ComesQuietly, LeavesQuietly}
 use Rattle.rkt_cli.specs.Promises.{AnswersTask, Undisturbed, Works, IsPlainAnswer}
-use Rattle.rkt_cli.specs.Runs.{CommandRan, Performs, InProcess, Apart, Printed, RunOf, RunOfLine, RunIs, end_status}
+use Rattle.rkt_cli.specs.Runs.{CommandRan, Performs, InProcess, Apart, Printed, RunsTaskOrNothing, RunOfLine, IsRunOfTask, end_status}
 use Rattle.rkt_cli.proofs.Grades.{graded_same}
 use Rattle.rkt_cli.proofs.Judged.{judged_whole}
 use Rattle.command_outcomes.proofs.Seen.{rose_wider}
@@ -77,10 +77,12 @@ use Rattle.commands.proofs.ImagesKept.{images_kept}
 use Rattle.commands.proofs.ImportComes.{comes_stored, refuses_quietly}
 use Rattle.commands.proofs.ImportRefusals.{refusal_lawful}
 use Rattle.commands.specs.Prepare.{prepares_pod, RefusesPod, IsAreaHeld as IsPodAreaHeld}
-use Rattle.commands.specs.PrepareQuiet.{PreparesQuietly, is_pod_place}
+use Rattle.commands.specs.PrepareQuiet.{PreparesQuietly, is_making_spot}
 use Rattle.commands.specs.PrepareTable.{NothingRefuses, RefusesByState}
 use Rattle.commands.specs.References.{AreReferences}
 use Rattle.ac_types.specs.declared.image_ref.ImageRef.{ImageRef}
+use Rattle.pod_lookup.proofs.QuietLook.{lists_harmless}
+use Rattle.metadata.proofs.Calm.{looks_calm}
 use Rattle.rkt_cli.proofs.PodKept.{pod_stands}
 use Rattle.rkt_cli.proofs.PodRan.{prepare_intent, began, free_in_process, planned_in_process, prepare_faithful, prepare_refused}
 use Rattle.rkt_cli.proofs.Removals.{removal_done, removal_none, removal_stray, sweep_done, sweep_stray}
@@ -102,14 +104,14 @@ use Rattle.rkt_cli.proofs.Sessions.{all_parts, all_in_process, begin_part, no_lo
 use Rattle.commands.specs.Wants.{Wants}
 
 -- undisturbed it came to an end of its own, or memory ran out
-own_end : (line : Task) (now : ℕ) (draw : Draw) (old new : Outside) (o : Outcome) → CommandRan line now draw old new o → Undisturbed line old new → (o ≡ Err NoMemory) ⊎ (is_own_end o ≡ true)
+own_end : (line : Task) (now : ℕ) (draw : Draw) (old new : Outside) (o : CommandOutcome) → CommandRan line now draw old new o → Undisturbed line old new → (o ≡ Err NoMemory) ⊎ (is_own_end o ≡ true)
 own_end line now draw old new (Ok text) d u = inr refl
 own_end line now draw old new (Err NoMemory) d u = inl refl
 own_end line now draw old new (Err DirFault) d u = absurd (u.works d.refusals (d.cause refl))
 own_end line now draw old new (Err BundleFault) d u = absurd (u.bundle_works d.refusals (d.bundle_cause refl))
 own_end line now draw old new (Err r) d u = inr refl
 
-module _ (line : Task) (now : ℕ) (draw : Draw) (intent : Intent) (old new : Outside) (o : Outcome) (s : InProcess line now draw intent old new o) (u : Undisturbed line old new) where
+module _ (line : Task) (now : ℕ) (draw : Draw) (intent : Intent) (old new : Outside) (o : CommandOutcome) (s : InProcess line now draw intent old new o) (u : Undisturbed line old new) where
   abbrev t : old.dir.observed ≡ true
   t = u.observed s.uses
 
@@ -120,7 +122,7 @@ module _ (line : Task) (now : ℕ) (draw : Draw) (intent : Intent) (old new : Ou
   looked_same : SameNamespace old.dir.process (state_after old.dir.trace).namespace (state_after s.begun.dir.trace).namespace
   looked_same =
       let q = u.alone s.uses in
-      end_quiet (begin_part s t is_harmless refl (λ r h. lists_is_harmless r (look_lists (approach_in line) r h))) (quiet_begin s t q) (idle s t q)
+      end_quiet (begin_part s t is_harmless refl (λ r h. lists_harmless r (look_lists (approach_in line) r h))) (quiet_begin s t q) (idle s t q)
 
   quiet_between : Quiet s.begun.dir.process s.begun.dir.trace s.ended.dir.trace
   quiet_between = subst (λ (p : ℕ). Quiet p s.begun.dir.trace s.ended.dir.trace) (sym s.me) (quiet_act s t (u.alone s.uses))
@@ -143,7 +145,7 @@ module _ (line : Task) (now : ℕ) (draw : Draw) (intent : Intent) (old new : Ou
   unchanged : ((r : Request) → asks line now draw r ≡ true → is_harmless r ≡ true) → IsUnchanged (state_after old.dir.trace) (state_after new.dir.trace)
   unchanged harmless =
       let q = u.alone s.uses in
-      let same = end_quiet (all_parts s t is_harmless refl (λ r h. lists_is_harmless r (look_lists (approach_in line) r h)) harmless refl) q (idle s t q) in
+      let same = end_quiet (all_parts s t is_harmless refl (λ r h. lists_harmless r (look_lists (approach_in line) r h)) harmless refl) q (idle s t q) in
       record { folders = same.folders; owned = same.owned }
 
   tame_unchanged : approach_in line ≡ directly → ((r : Request) → asks line now draw r ≡ true → is_tame r ≡ true) → IsUnchanged (state_after old.dir.trace) (state_after new.dir.trace)
@@ -165,17 +167,17 @@ busy_before : (now : ℕ) (draw : Draw) (intent : Intent) (old new : Outside) (a
 busy_before now draw intent old new area s u =
     let t = u.observed refl in
     let me = s.begun.dir.process in
-    let held = s.ran.says (s.told ∙ t) (begun intent) (begun_knows s t) refl in
+    let held = s.ran.says (s.told ∙ t) (seen_at_begin intent) (begun_knows s t) refl in
     let ext : Extends is_tame me s.begun.dir.trace s.ended.dir.trace = extends_wider lists_is_tame (s.ran.extends (s.told ∙ t)) in
     let found = at_tame (IsBusyElsewhere me Images Shared) held ext (quiet_between ImageList now draw intent old new (Err (Busy area)) s u) (idle_act ImageList now draw intent old new (Err (Busy area)) s u) in
     let first : IsBusyElsewhere me Images Shared (state_after s.begun.dir.trace) = found.1.others (is_against Images Shared) found.2 in
     subst (λ (p : ℕ). IsBusyElsewhere p Images Shared (state_after old.dir.trace)) s.me (subst (λ (x : DirState). IsBusyElsewhere me Images Shared x) (state ImageList now draw intent old new (Err (Busy area)) s u refl) first)
 
 -- its own requests
-list_extends : (now : ℕ) (draw : Draw) (intent : Intent) (old new : Outside) (o : Outcome) → InProcess ImageList now draw intent old new o → Undisturbed ImageList old new → Extends is_tame old.dir.process old.dir.trace new.dir.trace
+list_extends : (now : ℕ) (draw : Draw) (intent : Intent) (old new : Outside) (o : CommandOutcome) → InProcess ImageList now draw intent old new o → Undisturbed ImageList old new → Extends is_tame old.dir.process old.dir.trace new.dir.trace
 list_extends now draw intent old new o s u = all_parts s (u.observed refl) is_tame refl (λ r h. no_looks ImageList refl r h) lists_is_tame refl
 
-list_quiet : (now : ℕ) (draw : Draw) (intent : Intent) (old new : Outside) (o : Outcome) → InProcess ImageList now draw intent old new o → Undisturbed ImageList old new → is_own_end o ≡ true → ListsQuietly old.dir new.dir o
+list_quiet : (now : ℕ) (draw : Draw) (intent : Intent) (old new : Outside) (o : CommandOutcome) → InProcess ImageList now draw intent old new o → Undisturbed ImageList old new → is_own_end o ≡ true → ListsImagesQuietly old.dir new.dir o
 list_quiet now draw intent old new (Ok text) s u own =
     let read = listed_in_process s s.ran.says.0 in
     (read, prints_store old.dir new.dir (u.observed refl) (list_extends now draw intent old new (Ok text) s u) (u.alone refl) text read)
@@ -194,7 +196,7 @@ import_held_before : (path : List ℕ) (now : ℕ) (draw : Draw) (intent : Inten
 import_held_before path now draw intent old new area s u held =
     let t = u.observed refl in
     let me = s.begun.dir.process in
-    let o : Outcome = Err (Busy area) in
+    let o : CommandOutcome = Err (Busy area) in
     let ext : Extends (is_modest (building_spot draw.uuid)) me s.begun.dir.trace s.ended.dir.trace = extends_wider (imports_is_modest (building_spot draw.uuid)) (s.ran.extends (s.told ∙ t)) in
     let found = at_modest (building_spot draw.uuid) (IsBusyElsewhere me area Shared) held ext (quiet_between (ImageImport path) now draw intent old new o s u) (idle_act (ImageImport path) now draw intent old new o s u) in
     let first : IsBusyElsewhere me area Shared (state_after s.begun.dir.trace) = found.1.others (is_against area Shared) found.2 in
@@ -202,7 +204,7 @@ import_held_before path now draw intent old new area s u held =
     (subst (λ (x : DirState). IsBusyElsewhere me area Shared x) (state (ImageImport path) now draw intent old new o s u refl) first)
 
 -- its own requests
-import_extends : (path : List ℕ) (now : ℕ) (draw : Draw) (intent : Intent) (old new : Outside) (o : Outcome) → InProcess (ImageImport path) now draw intent old new o → Undisturbed (ImageImport path) old new →
+import_extends : (path : List ℕ) (now : ℕ) (draw : Draw) (intent : Intent) (old new : Outside) (o : CommandOutcome) → InProcess (ImageImport path) now draw intent old new o → Undisturbed (ImageImport path) old new →
     Extends (is_modest (building_spot draw.uuid)) old.dir.process old.dir.trace new.dir.trace
 import_extends path now draw intent old new o s u = all_parts s (u.observed refl) (is_modest (building_spot draw.uuid)) refl (λ r h. cc) (imports_is_modest (building_spot draw.uuid)) refl
 
@@ -211,7 +213,7 @@ import_refuses : (path : List ℕ) (now : ℕ) (draw : Draw) (intent : Intent) (
 import_refuses path now draw intent old new r other s u =
     refuses_quietly path draw.uuid old new r (u.observed refl) (import_extends path now draw intent old new (Err r) s u) (u.alone refl) (import_refused path now draw (Some intent) old new r other (inl s))
 
-import_quiet : (path : List ℕ) (now : ℕ) (draw : Draw) (intent : Intent) (old new : Outside) (o : Outcome) (said : intent_of (ImageImport path) now draw ≡ Some intent) → InProcess (ImageImport path) now draw intent old new o →
+import_quiet : (path : List ℕ) (now : ℕ) (draw : Draw) (intent : Intent) (old new : Outside) (o : CommandOutcome) (said : intent_of (ImageImport path) now draw ≡ Some intent) → InProcess (ImageImport path) now draw intent old new o →
     Undisturbed (ImageImport path) old new → is_own_end o ≡ true → ImportsQuietly path now draw.uuid old new o
 import_quiet path now draw intent old new (Ok text) said s u own = (
   import_printed path now draw (Some intent) old new text (inl s),
@@ -234,7 +236,7 @@ import_quiet path now draw intent old new (Err Stray) said s u own =
     (x, λ conforming. refusal_lawful path old new Stray x.why refl (u.observed refl) conforming)
 import_quiet path now draw intent old new (Err r) said s u own = import_refuses path now draw intent old new r refl s u
 
-import_owned : (path : List ℕ) (now : ℕ) (draw : Draw) (intent : Intent) (old new : Outside) (o : Outcome) → InProcess (ImageImport path) now draw intent old new o → Undisturbed (ImageImport path) old new →
+import_owned : (path : List ℕ) (now : ℕ) (draw : Draw) (intent : Intent) (old new : Outside) (o : CommandOutcome) → InProcess (ImageImport path) now draw intent old new o → Undisturbed (ImageImport path) old new →
     (folder : ℕ) → is_owned (state_after new.dir.trace).namespace folder ≡ is_owned (state_after old.dir.trace).namespace folder
 import_owned path now draw intent old new o s u = (end_modest (building_spot draw.uuid) (import_extends path now draw intent old new o s u) (u.alone refl) (idle s (u.observed refl) (u.alone refl))).owned
 
@@ -251,18 +253,18 @@ removal_held : (key : StoreKey) (now : ℕ) (draw : Draw) (old new : Outside) (a
 removal_held key now draw old new area s u =
     let t = u.observed refl in
     let me = s.begun.dir.process in
-    let o : Outcome = Err (Busy area) in
+    let o : CommandOutcome = Err (Busy area) in
     let intent = removal_intent now draw in
-    let found : FindsBusy me s.begun.dir.trace s.ended.dir.trace = s.ran.says.0 (s.told ∙ t) (begun intent) (begun_knows s t) (begun_removes intent draw.uuid refl refl) in
+    let found : FindsBusy me s.begun.dir.trace s.ended.dir.trace = s.ran.says.0 (s.told ∙ t) (seen_at_begin intent) (begun_knows s t) (begun_removes intent draw.uuid refl refl) in
     let first : IsBusyElsewhere me Images Exclusive (state_after s.begun.dir.trace) = held_before (is_against Images Exclusive) found.held (quiet_between (ImageRm key) now draw intent old new o s u) in
     subst (λ (p : ℕ). IsBusyElsewhere p Images Exclusive (state_after old.dir.trace)) s.me
     (subst (λ (x : DirState). IsBusyElsewhere me Images Exclusive x) (state (ImageRm key) now draw intent old new o s u refl) first)
 
-removal_extends : (key : StoreKey) (now : ℕ) (draw : Draw) (intent : Intent) (old new : Outside) (o : Outcome) → InProcess (ImageRm key) now draw intent old new o → Undisturbed (ImageRm key) old new →
+removal_extends : (key : StoreKey) (now : ℕ) (draw : Draw) (intent : Intent) (old new : Outside) (o : CommandOutcome) → InProcess (ImageRm key) now draw intent old new o → Undisturbed (ImageRm key) old new →
     Extends (in_process (removes_at key draw.uuid)) old.dir.process old.dir.trace new.dir.trace
 removal_extends key now draw intent old new o s u = all_in_process s (u.observed refl)
 
-removal_quiet : (key : StoreKey) (now : ℕ) (draw : Draw) (old new : Outside) (o : Outcome) → InProcess (ImageRm key) now draw (removal_intent now draw) old new o → Undisturbed (ImageRm key) old new → is_own_end o ≡ true →
+removal_quiet : (key : StoreKey) (now : ℕ) (draw : Draw) (old new : Outside) (o : CommandOutcome) → InProcess (ImageRm key) now draw (removal_intent now draw) old new o → Undisturbed (ImageRm key) old new → is_own_end o ≡ true →
     RemovesQuietly key draw.uuid old.dir new.dir o
 removal_quiet key now draw old new (Ok text) s u own =
     let done = removal_done key now draw old new text (inl s) (u.observed refl) in
@@ -279,11 +281,11 @@ removal_quiet key now draw old new (Err BundleFault) s u own = let clash : false
 removal_quiet key now draw old new (Err r) s u own = let clash : false ≡ true = s.ran.refusals in cc
 
 -- and `image gc`
-sweep_quiet : (now : ℕ) (draw : Draw) (old new : Outside) (o : Outcome) → InProcess ImageGc now draw (intent_for kind.ImageGc [] now draw) old new o → Undisturbed ImageGc old new → is_own_end o ≡ true →
+sweep_quiet : (now : ℕ) (draw : Draw) (old new : Outside) (o : CommandOutcome) → InProcess ImageGc now draw (intent_for kind.ImageGc [] now draw) old new o → Undisturbed ImageGc old new → is_own_end o ≡ true →
     SweepsQuietly old.dir new.dir o
 sweep_quiet now draw old new (Ok text) s u own =
     let done = sweep_done now draw old new text (inl s) (u.observed refl) in
-    let ext : Extends (in_process sweeps) old.dir.process old.dir.trace new.dir.trace = all_in_process s (u.observed refl) in
+    let ext : Extends (in_process sweeps_store) old.dir.process old.dir.trace new.dir.trace = all_in_process s (u.observed refl) in
     (done, prints_lines ext (u.alone refl) done.swept text done.is, incoming_left ext (u.alone refl) done.swept, removed_left ext (u.alone refl) done.swept)
 sweep_quiet now draw old new (Err Stray) s u own = sweep_stray now draw old new (inl s) (u.observed refl)
 sweep_quiet now draw old new (Err NoMemory) s u own = let clash : false ≡ true = own in cc
@@ -300,7 +302,7 @@ prepare_held : (wants : Wants) (now : ℕ) (draw : Draw) (old new : Outside) (ar
 prepare_held wants now draw old new area s u =
     let t = u.observed refl in
     let me = s.begun.dir.process in
-    let o : Outcome = Err (Busy area) in
+    let o : CommandOutcome = Err (Busy area) in
     let intent = prepare_intent now draw in
     let held : IsPodAreaHeld area s.begun.dir s.ended.dir = s.ran.says.2 area refl (s.told ∙ t) intent (began now draw) (begun_knows s t) in
     let first : IsBusyElsewhere me area Shared (state_after s.begun.dir.trace) = held_before (is_against area Shared) held (quiet_between (Prepare wants) now draw intent old new o s u) in
@@ -308,7 +310,7 @@ prepare_held wants now draw old new area s u =
     (subst (λ (x : DirState). IsBusyElsewhere me area Shared x) (state (Prepare wants) now draw intent old new o s u refl) first)
 
 -- its own requests
-prepare_extends : (wants : Wants) (now : ℕ) (draw : Draw) (intent : Intent) (old new : Outside) (o : Outcome) → InProcess (Prepare wants) now draw intent old new o → Undisturbed (Prepare wants) old new →
+prepare_extends : (wants : Wants) (now : ℕ) (draw : Draw) (intent : Intent) (old new : Outside) (o : CommandOutcome) → InProcess (Prepare wants) now draw intent old new o → Undisturbed (Prepare wants) old new →
     Extends (in_process (prepare_asks draw)) old.dir.process old.dir.trace new.dir.trace
 prepare_extends wants now draw intent old new o s u = all_in_process s (u.observed refl)
 
@@ -319,7 +321,7 @@ prepare_by_state wants now draw old new r s u held why =
     let ext = prepare_extends wants now draw (prepare_intent now draw) old new (Err r) s u in
     let conforms = process_conforms (Prepare wants) now draw old new (Err r) (u.observed refl) (prepare_intent now draw) s in
     refuses_by_state wants now draw old.dir new.dir r (u.observed refl) (prepare_keeps draw.uuid ext (u.alone refl))
-    (taken_before draw.uuid (in_process (prepares_pod draw.uuid)) (prepare_elsewhere draw.uuid) (shown_at old.dir) (shown_at new.dir) ext (u.alone refl) conforms)
+    (taken_before draw.uuid (in_process (prepares_pod draw.uuid)) (prepare_elsewhere draw.uuid) (dir_at_moment old.dir) (dir_at_moment new.dir) ext (u.alone refl) conforms)
     (λ at. free_before (is_against Images Shared) at ext (u.alone refl)) held why
 
 -- where it was prepared, nobody else held the lock of images before, and nothing refused its references
@@ -333,11 +335,11 @@ prepare_unrefused : (wants : Wants) (now : ℕ) (draw : Draw) (old new : Outside
 prepare_unrefused wants now draw old new text s u =
     let ext = prepare_extends wants now draw (prepare_intent now draw) old new (Ok text) s u in
     let conforms = process_conforms (Prepare wants) now draw old new (Ok text) (u.observed refl) (prepare_intent now draw) s in
-    words_unrefused wants now draw (shown_at old.dir) (shown_at new.dir) old.dir.observed (u.observed refl) (prepare_keeps draw.uuid ext (u.alone refl))
-    (taken_before draw.uuid (in_process (prepares_pod draw.uuid)) (prepare_elsewhere draw.uuid) (shown_at old.dir) (shown_at new.dir) ext (u.alone refl) conforms)
+    words_unrefused wants now draw (dir_at_moment old.dir) (dir_at_moment new.dir) old.dir.observed (u.observed refl) (prepare_keeps draw.uuid ext (u.alone refl))
+    (taken_before draw.uuid (in_process (prepares_pod draw.uuid)) (prepare_elsewhere draw.uuid) (dir_at_moment old.dir) (dir_at_moment new.dir) ext (u.alone refl) conforms)
     (prepare_free wants now draw old new text s u) (planned_in_process s (began now draw) (u.observed refl) s.ran.says.1)
 
-prepare_quiet : (wants : Wants) (now : ℕ) (draw : Draw) (old new : Outside) (o : Outcome) → InProcess (Prepare wants) now draw (prepare_intent now draw) old new o → Undisturbed (Prepare wants) old new → is_own_end o ≡ true →
+prepare_quiet : (wants : Wants) (now : ℕ) (draw : Draw) (old new : Outside) (o : CommandOutcome) → InProcess (Prepare wants) now draw (prepare_intent now draw) old new o → Undisturbed (Prepare wants) old new → is_own_end o ≡ true →
     PreparesQuietly wants now draw old.dir new.dir o
 prepare_quiet wants now draw old new (Ok text) s u own = (
   s.ran.says.0,
@@ -351,7 +353,7 @@ prepare_quiet wants now draw old new (Ok text) s u own = (
         (
           x.2,
           pod_stands draw.uuid ext (u.alone refl) conforming x.2,
-          chosen_of (shown_at old.dir) (shown_at new.dir) x.2 (prepare_keeps draw.uuid ext (u.alone refl)) unborn,
+          chosen_of (dir_at_moment old.dir) (dir_at_moment new.dir) x.2 (prepare_keeps draw.uuid ext (u.alone refl)) unborn,
           prepare_unrefused wants now draw old new text s u x.0 x.1,
         ),
       ),
@@ -371,7 +373,7 @@ prepare_quiet wants now draw old new (Err r) s u own =
     (why, prepare_by_state wants now draw old new r s u (λ area is. cc) why)
 
 -- `rm` and `gc`
-rm_quiet : {word : List ℕ} (pod : PodId) (now : ℕ) (draw : Draw) (old new : Outside) (o : Outcome) → InProcess (Rm word pod) now draw (rm_intent word now draw) old new o → Undisturbed (Rm word pod) old new → is_own_end o ≡ true → RemovesPodQuietly pod old.dir new.dir o
+rm_quiet : {word : List ℕ} (pod : PodId) (now : ℕ) (draw : Draw) (old new : Outside) (o : CommandOutcome) → InProcess (Rm word pod) now draw (rm_intent word now draw) old new o → Undisturbed (Rm word pod) old new → is_own_end o ≡ true → RemovesPodQuietly pod old.dir new.dir o
 rm_quiet {word = word} pod now draw old new o s u own = by o s own
   where
     t : old.dir.observed ≡ true
@@ -380,10 +382,10 @@ rm_quiet {word = word} pod now draw old new o s u own = by o s own
     quiet : Quiet old.dir.process old.dir.trace new.dir.trace
     quiet = u.alone refl
 
-    ext : {word : List ℕ} (o : Outcome) → InProcess (Rm word pod) now draw (rm_intent word now draw) old new o → Extends (in_process (removes pod now)) old.dir.process old.dir.trace new.dir.trace
+    ext : {word : List ℕ} (o : CommandOutcome) → InProcess (Rm word pod) now draw (rm_intent word now draw) old new o → Extends (in_process (removes pod now)) old.dir.process old.dir.trace new.dir.trace
     ext o s = all_in_process s t
 
-    by : {word : List ℕ} (o : Outcome) → InProcess (Rm word pod) now draw (rm_intent word now draw) old new o → is_own_end o ≡ true → RemovesPodQuietly pod old.dir new.dir o
+    by : {word : List ℕ} (o : CommandOutcome) → InProcess (Rm word pod) now draw (rm_intent word now draw) old new o → is_own_end o ≡ true → RemovesPodQuietly pod old.dir new.dir o
     by {word = word} (Ok text) s own =
         rm_removed_quietly pod now old.dir new.dir (ext (Ok text) s) quiet (idle s t quiet) text (rm_printed word pod now draw (Some (rm_intent word now draw)) old new text (inl s)) (rm_done word pod now draw (Some (rm_intent word now draw)) old new text (inl s) t)
     by {word = word} (Err NoPod) s own = rm_none_quietly pod now old.dir new.dir (ext (Err NoPod) s) quiet (idle s t quiet) (rm_none word pod now draw (Some (rm_intent word now draw)) old new t (inl s))
@@ -400,7 +402,7 @@ rm_quiet {word = word} pod now draw old new o s u own = by o s own
     by (Err BundleFault) s own = let clash : false ≡ true = own in cc
     by (Err r) s own = let clash : false ≡ true = s.ran.refusals in cc
 
-gc_quiet : {grace : ℕ} {expire : ℕ} (now : ℕ) (draw : Draw) (old new : Outside) (o : Outcome) → InProcess (Gc grace expire) now draw (gc_intent grace expire now draw) old new o → Undisturbed (Gc grace expire) old new → is_own_end o ≡ true →
+gc_quiet : {grace : ℕ} {expire : ℕ} (now : ℕ) (draw : Draw) (old new : Outside) (o : CommandOutcome) → InProcess (Gc grace expire) now draw (gc_intent grace expire now draw) old new o → Undisturbed (Gc grace expire) old new → is_own_end o ≡ true →
     SweepsPodsQuietly (times_of now grace expire) old.dir new.dir o
 gc_quiet {grace = grace} {expire = expire} now draw old new (Ok text) s u own =
     let t = u.observed refl in
@@ -413,7 +415,7 @@ gc_quiet now draw old new (Err BundleFault) s u own = let clash : false ≡ true
 gc_quiet now draw old new (Err r) s u own = let clash : false ≡ true = s.ran.refusals in cc
 
 -- each command
-comes_of : (line : Task) (now : ℕ) (draw : Draw) (intent : Intent) (old new : Moment) (o : Outcome) → intent_of line now draw ≡ Some intent → InProcess line now draw intent old.outside new.outside o → Undisturbed line old.outside new.outside → is_own_end o ≡ true → RunsQuietly line now draw (inside_in old) (inside_in new) o → ComesQuietly line now draw old new o
+comes_of : (line : Task) (now : ℕ) (draw : Draw) (intent : Intent) (old new : Moment) (o : CommandOutcome) → intent_of line now draw ≡ Some intent → InProcess line now draw intent old.outside new.outside o → Undisturbed line old.outside new.outside → is_own_end o ≡ true → RunsQuietly line now draw (inside_in old) (inside_in new) o → ComesQuietly line now draw old new o
 comes_of (Status word pod) now draw intent old new o said s u own ran = report_quiet s u (status_report pod) (λ me s t w. status_stable me s t w pod) s.ran.says own
 comes_of PodList now draw intent old new o said s u own ran = report_quiet s u list_report lines_stable s.ran.says own
 comes_of (CatManifest word pod) now draw intent old new o said s u own ran = report_quiet s u (cat_manifest_report pod) (λ me s t w. manifest_stable me s t w pod) s.ran.says own
@@ -435,11 +437,11 @@ comes_of (Gc grace expire) now draw intent old new o said s u own ran =
 comes_of (Metadata address count) now draw intent old new o said s u own ran = service_quiet address count o s.ran.says s.ran.refusals own
 comes_of (Demo count) now draw intent old new o said s u own ran = let clash : false ≡ true = s.uses in cc
 
-comes_apart : (line : Task) (now : ℕ) (draw : Draw) (old new : Moment) (o : Outcome) → Apart line now draw old.outside new.outside o → Undisturbed line old.outside new.outside → is_own_end o ≡ true → ComesQuietly line now draw old new o
+comes_apart : (line : Task) (now : ℕ) (draw : Draw) (old new : Moment) (o : CommandOutcome) → Apart line now draw old.outside new.outside o → Undisturbed line old.outside new.outside → is_own_end o ≡ true → ComesQuietly line now draw old new o
 comes_apart (Status word pod) now draw old new o p u own = let clash : true ≡ false = p.apart in cc
 comes_apart PodList now draw old new o p u own = let clash : true ≡ false = p.apart in cc
 comes_apart (CatManifest word pod) now draw old new o p u own = let clash : true ≡ false = p.apart in cc
-comes_apart (Validate path) now draw old new o p u own = let s = p.ran.says own in s.is ∙ judged_whole path s.found (file_bytes (old.outside.bundle.tree path)) (s.told (u.bundle_observed refl))
+comes_apart (Validate path) now draw old new o p u own = let s = p.ran.says own in s.is ∙ judged_whole path s.found (bytes_of_node (old.outside.bundle.tree path)) (s.told (u.bundle_observed refl))
 comes_apart ImageList now draw old new o p u own = let clash : true ≡ false = p.apart in cc
 comes_apart (ImageImport path) now draw old new o p u own = let clash : true ≡ false = p.apart in cc
 comes_apart (ImageRm key) now draw old new o p u own = let clash : true ≡ false = p.apart in cc
@@ -453,7 +455,7 @@ comes_apart (Metadata address count) now draw old new o p u own = let clash : tr
 comes_apart (Demo count) now draw old new o p u own = demo_own count o p.ran.says own
 
 -- what each command leaves
-leaves_quietly : (line : Task) (now : ℕ) (draw : Draw) (intent : Intent) (old new : Outside) (o : Outcome) → InProcess line now draw intent old new o → Undisturbed line old new → LeavesQuietly line old.dir.process draw (state_after old.dir.trace) (state_after new.dir.trace)
+leaves_quietly : (line : Task) (now : ℕ) (draw : Draw) (intent : Intent) (old new : Outside) (o : CommandOutcome) → InProcess line now draw intent old new o → Undisturbed line old new → LeavesQuietly line old.dir.process draw (state_after old.dir.trace) (state_after new.dir.trace)
 leaves_quietly (Status word pod) now draw intent old new o s u = record {
   same = report_leaves s u (inspect_calm pod);
   beside = beside (Status word pod) now draw intent old new o s u is_nowhere (inspects_change pod);
@@ -477,18 +479,18 @@ leaves_quietly (ImageImport path) now draw intent old new o s u = record {
 }
 leaves_quietly (ImageRm key) now draw intent old new o s u = beside (ImageRm key) now draw intent old new o s u (is_removal_place key draw.uuid) (removal_changes key draw.uuid)
 leaves_quietly ImageGc now draw intent old new o s u = beside ImageGc now draw intent old new o s u is_swept_place sweep_changes
-leaves_quietly (Prepare wants) now draw intent old new o s u = beside (Prepare wants) now draw intent old new o s u (is_pod_place draw.uuid) (prepare_changes draw.uuid)
+leaves_quietly (Prepare wants) now draw intent old new o s u = beside (Prepare wants) now draw intent old new o s u (is_making_spot draw.uuid) (prepare_changes draw.uuid)
 leaves_quietly (RunPrepared word pod address) now draw intent old new o s u = beside (RunPrepared word pod address) now draw intent old new o s u (is_pod_spot pod) (claim_changes pod)
 leaves_quietly (Run wants address) now draw intent old new o s u = beside (Run wants address) now draw intent old new o s u (is_pod_spot draw.uuid) (run_changes draw.uuid)
 leaves_quietly (Rm word pod) now draw intent old new o s u = beside (Rm word pod) now draw intent old new o s u (is_pod_spot pod) (rm_changes pod now)
 leaves_quietly (Gc grace expire) now draw intent old new o s u = beside (Gc grace expire) now draw intent old new o s u is_pods_place (gc_changes now)
 leaves_quietly (Metadata address count) now draw intent old new o s u = record {
-  same = report_leaves s u service_calm;
+  same = report_leaves s u looks_calm;
   beside = beside (Metadata address count) now draw intent old new o s u is_nowhere service_changes;
 }
 leaves_quietly (Demo count) now draw intent old new o s u = let clash : false ≡ true = s.uses in cc
 
-leaves_apart : (line : Task) (now : ℕ) (draw : Draw) (old new : Outside) (o : Outcome) → Apart line now draw old new o → LeavesQuietly line old.dir.process draw (state_after old.dir.trace) (state_after new.dir.trace)
+leaves_apart : (line : Task) (now : ℕ) (draw : Draw) (old new : Outside) (o : CommandOutcome) → Apart line now draw old new o → LeavesQuietly line old.dir.process draw (state_after old.dir.trace) (state_after new.dir.trace)
 leaves_apart (Status word pod) now draw old new o p = let clash : true ≡ false = p.apart in cc
 leaves_apart PodList now draw old new o p = let clash : true ≡ false = p.apart in cc
 leaves_apart (CatManifest word pod) now draw old new o p = let clash : true ≡ false = p.apart in cc
@@ -505,12 +507,12 @@ leaves_apart (Gc grace expire) now draw old new o p = let clash : true ≡ false
 leaves_apart (Metadata address count) now draw old new o p = let clash : true ≡ false = p.apart in cc
 leaves_apart (Demo count) now draw old new o p = ap (λ (d : DirSeen). state_after d.trace) p.dir
 
-abbrev IsQuiet : Task → ℕ → Draw → Moment → Moment → Outcome → Type 0
+abbrev IsQuiet : Task → ℕ → Draw → Moment → Moment → CommandOutcome → Type 0
 IsQuiet line now draw old new o =
     (o ≡ Err NoMemory)
     ⊎ (ComesQuietly line now draw old new o × LeavesQuietly line old.outside.dir.process draw (state_after old.outside.dir.trace) (state_after new.outside.dir.trace))
 
-performs_quiet : (line : Task) (now : ℕ) (draw : Draw) (intent : Option Intent) (old new : Moment) (o : Outcome) → intent_of line now draw ≡ intent → Performs line now draw intent old.outside new.outside o → Undisturbed line old.outside new.outside →
+performs_quiet : (line : Task) (now : ℕ) (draw : Draw) (intent : Option Intent) (old new : Moment) (o : CommandOutcome) → intent_of line now draw ≡ intent → Performs line now draw intent old.outside new.outside o → Undisturbed line old.outside new.outside →
     ((OwnsNothing old.outside.dir.process (state_after old.outside.dir.trace).namespace) → RunsQuietly line now draw (inside_in old) (inside_in new) o) → IsQuiet line now draw old new o
 performs_quiet line now draw (Some intent) old new o said (inr n) u ran = inl n.is
 performs_quiet line now draw (Some intent) old new o said (inl s) u ran =
@@ -527,7 +529,7 @@ runs_use (Run wants address) runs = refl
 runs_use line runs = cc
 
 -- and what it comes to is said, or memory ran out
-said_quiet : (o : Outcome) (old new : Moment) (status : ℕ) → WasAnswered o status old new → Works old.out new.out → (status ≡ 14) ⊎ IsAnswer o status old new
+said_quiet : (o : CommandOutcome) (old new : Moment) (status : ℕ) → WasAnswered o status old new → Works old.out new.out → (status ≡ 14) ⊎ IsAnswer o status old new
 said_quiet o old new status (inl e) works = inl e
 said_quiet o old new status (inr (inl x)) works = absurd (works x.2)
 said_quiet o old new status (inr (inr x)) works = inr x
@@ -536,17 +538,17 @@ module _ (now : ℕ) (draw : Draw) (old new : Moment) (status : ℕ) where
   -- what is told of a run of apps
   ran_quietly : (line : Task) → (r : RunOfLine line now draw (intent_of line now draw) old new status) → Undisturbed line old.outside new.outside →
       OwnsNothing old.outside.dir.process (state_after old.outside.dir.trace).namespace → RunsQuietly line now draw (inside_in old) (inside_in new) r.outcome
-  ran_quietly line r u idle = subst (λ (o : Outcome). RunsQuietly line now draw (inside_in old) (inside_in new) o) (sym r.outcome_is)
+  ran_quietly line r u idle = subst (λ (o : CommandOutcome). RunsQuietly line now draw (inside_in old) (inside_in new) o) (sym r.outcome_is)
       (runs_quietly line now draw (inside_in old) (inside_in new) r.answer (λ runs. u.observed (runs_use line runs)) (λ runs. u.alone (runs_use line runs)) (λ runs. idle) r.came)
 
-  quiet_of : (task : Task) → RunOf task now draw old new status → Undisturbed task old.outside new.outside → Works old.out new.out → (status ≡ 14) ⊎ IsPlainAnswer task now draw status old new
+  quiet_of : (task : Task) → RunsTaskOrNothing task now draw old new status → Undisturbed task old.outside new.outside → Works old.out new.out → (status ≡ 14) ⊎ IsPlainAnswer task now draw status old new
   quiet_of task (inr n) u works = inl n.is
   quiet_of task (inl r) u works = by (performs_quiet task now draw (intent_of task now draw) old new r.outcome refl r.performs u (ran_quietly task r u))
     where
       by : IsQuiet task now draw old new r.outcome → (status ≡ 14) ⊎ IsPlainAnswer task now draw status old new
-      by (inl e) = inl (r.is ∙ ap end_status ((subst (λ (o : Outcome). Printed o old.out new.out r.end) e r.printed).refused.0))
+      by (inl e) = inl (r.is ∙ ap end_status ((subst (λ (o : CommandOutcome). Printed o old.out new.out r.end) e r.printed).refused.0))
       by (inr (comes, left)) = elim (said_quiet r.outcome old new status (answered r.outcome old new r.end status r.printed r.reported r.is) works) [ inl x ↦ inl x | inr x ↦ inr (r.outcome, comes, x, left) ]
 
-pub quiet : {task : Task} {now : ℕ} {draw : Draw} {old new : Moment} {status : ℕ} → RunIs task now draw old new status → Undisturbed task old.outside new.outside → Works old.out new.out → (status ≡ 14) ⊎ AnswersTask task now draw status old new
+pub quiet : {task : Task} {now : ℕ} {draw : Draw} {old new : Moment} {status : ℕ} → IsRunOfTask task now draw old new status → Undisturbed task old.outside new.outside → Works old.out new.out → (status ≡ 14) ⊎ AnswersTask task now draw status old new
 quiet {task} {now} {draw} {old} {new} {status} run u works =
     elim (quiet_of now draw old new run.plain task run.ran u works) [ inl e ↦ inl (graded_same task run.plain status 14 run.is e refl) | inr x ↦ inr (run.plain, run.is, x) ]

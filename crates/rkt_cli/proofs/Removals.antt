@@ -9,19 +9,19 @@ use Rattle.dir_model.specs.declared.intent.Intent.{Intent}
 use Rattle.dir_model.specs.declared.intent.Kind.TheVariants as kind
 use Rattle.dir_model.specs.Calls.{is_begin, is_finish, Extends}
 use Rattle.image_removal.specs.declared.pass.SweepLine.{SweepLine}
-use Rattle.image_removal.specs.Causes.{StrayRemoval, FoundNone}
+use Rattle.image_removal.specs.Causes.{StrayRemoval, FoundNoImage}
 use Rattle.image_removal.proofs.Begun.{begun_removes, begun_sweeps}
 use Rattle.rkt_cli.specs.Tasks.{Task}
 use Rattle.rkt_cli.specs.Tasks.{ImageRm, ImageGc}
 use Rattle.command_outcomes.specs.declared.refusal.Refusal.TheVariants.{Busy, NoImage, Stray, DirFault}
-use Rattle.command_outcomes.specs.Moments.{Outside, Outcome}
-use Rattle.command_outcomes.specs.Conforming.{begun}
+use Rattle.command_outcomes.specs.Moments.{Outside, CommandOutcome}
+use Rattle.command_outcomes.specs.Conforming.{seen_at_begin}
 use Rattle.commands.specs.Command.{intent_for}
 use Rattle.rkt_cli.specs.Commands.{intent_of}
 use Rattle.rkt_cli.specs.Runs.{InProcess, Performs}
 use Rattle.command_outcomes.specs.Meanwhile.{Meanwhile}
-use Rattle.commands.specs.ImageRm.{removed_text, Removes, FindsBusy, HasRemoved, HasFoundNone, HasMetStray}
-use Rattle.commands.specs.ImageGc.{sweep_texts, Sweeps, StrayInSweep, HasSwept, HasMetStrayInSweep, EndsEarly, HasEndedEarly}
+use Rattle.commands.specs.ImageRm.{removed_image_text, RemovesStoredImage, FindsBusy, HasRemoved, HasFoundNone, HasMetStray}
+use Rattle.commands.specs.ImageGc.{sweep_texts, SweepsImages, StrayInSweep, HasSwept, HasMetStrayInSweep, EndsEarly, HasEndedEarly}
 use Rattle.rkt_cli.proofs.Sessions.{begin_part, finish_part, no_looks}
 use Rattle.rkt_cli.proofs.Conforming.{begun_knows}
 use Rattle.commands.specs.Opening.{directly, OnceFound}
@@ -32,7 +32,7 @@ use Rattle.lifecycle.proofs.Draws.{conforming_left}
 use Rattle.lifecycle.specs.Executions.{IsConforming}
 
 -- what was so of the command is so of the process between its begin and its finish
-pub meanwhile : {task : Task} {now : ℕ} {draw : Draw} {intent : Intent} {old new : Outside} {o : Outcome} (P : ℕ → List Event → List Event → Type 0) → approach_in task ≡ directly → (s : InProcess task now draw intent old new o) → old.dir.observed ≡ true →
+pub meanwhile : {task : Task} {now : ℕ} {draw : Draw} {intent : Intent} {old new : Outside} {o : CommandOutcome} (P : ℕ → List Event → List Event → Type 0) → approach_in task ≡ directly → (s : InProcess task now draw intent old new o) → old.dir.observed ≡ true →
     P s.begun.dir.process s.begun.dir.trace s.ended.dir.trace → Meanwhile P old.dir.process old.dir.trace new.dir.trace
 meanwhile {task = task} P direct s t so = record {
   begun = s.begun.dir.trace;
@@ -43,7 +43,7 @@ meanwhile {task = task} P direct s t so = record {
 }
 
 -- and where the process may have looked for its pod
-pub once_found : {task : Task} {now : ℕ} {draw : Draw} {intent : Intent} {old new : Outside} {o : Outcome} (P : ℕ → List Event → List Event → Type 0) (s : InProcess task now draw intent old new o) → old.dir.observed ≡ true →
+pub once_found : {task : Task} {now : ℕ} {draw : Draw} {intent : Intent} {old new : Outside} {o : CommandOutcome} (P : ℕ → List Event → List Event → Type 0) (s : InProcess task now draw intent old new o) → old.dir.observed ≡ true →
     P s.begun.dir.process s.begun.dir.trace s.ended.dir.trace → OnceFound P old.dir.process old.dir.trace new.dir.trace
 once_found P s t so = record {
   begun = s.begun.dir.trace;
@@ -54,7 +54,7 @@ once_found P s t so = record {
 }
 
 -- `image rm`: what was printed
-pub removal_printed : (key : StoreKey) (now : ℕ) (draw : Draw) (intent : Option Intent) (old new : Outside) (text : List ℕ) → Performs (ImageRm key) now draw intent old new (Ok text) → text ≡ removed_text key
+pub removal_printed : (key : StoreKey) (now : ℕ) (draw : Draw) (intent : Option Intent) (old new : Outside) (text : List ℕ) → Performs (ImageRm key) now draw intent old new (Ok text) → text ≡ removed_image_text key
 removal_printed key now draw (Some intent) old new text (inl s) = s.ran.says.0.is
 removal_printed key now draw (Some intent) old new text (inr n) = let e = n.is in cc
 removal_printed key now draw None old new text p = let clash : true ≡ false = p.apart in cc
@@ -64,7 +64,7 @@ pub removal_done : (key : StoreKey) (now : ℕ) (draw : Draw) (old new : Outside
     HasRemoved key draw.uuid old.dir new.dir
 removal_done key now draw old new text (inl s) t =
     let intent = intent_for kind.ImageRm [] now draw in
-    meanwhile (Removes key draw.uuid) refl s t (s.ran.says.0.removed (s.told ∙ t) (begun intent) (begun_knows s t) (begun_removes intent draw.uuid refl refl))
+    meanwhile (RemovesStoredImage key draw.uuid) refl s t (s.ran.says.0.removed (s.told ∙ t) (seen_at_begin intent) (begun_knows s t) (begun_removes intent draw.uuid refl refl))
 removal_done key now draw old new text (inr n) t = let e = n.is in cc
 
 -- or why not
@@ -72,7 +72,7 @@ pub removal_busy : (key : StoreKey) (now : ℕ) (draw : Draw) (old new : Outside
     Meanwhile FindsBusy old.dir.process old.dir.trace new.dir.trace
 removal_busy key now draw old new area (inl s) t =
     let intent = intent_for kind.ImageRm [] now draw in
-    meanwhile FindsBusy refl s t (s.ran.says.0 (s.told ∙ t) (begun intent) (begun_knows s t) (begun_removes intent draw.uuid refl refl))
+    meanwhile FindsBusy refl s t (s.ran.says.0 (s.told ∙ t) (seen_at_begin intent) (begun_knows s t) (begun_removes intent draw.uuid refl refl))
 removal_busy key now draw old new area (inr n) t = let e = n.is in cc
 
 pub removal_unnamed : (key : StoreKey) (now : ℕ) (draw : Draw) (intent : Option Intent) (old new : Outside) (named : List ℕ) → Performs (ImageRm key) now draw intent old new (Err (NoImage named)) → named ≡ id_text key.bytes
@@ -82,7 +82,7 @@ removal_unnamed key now draw None old new named p = let clash : true ≡ false =
 
 pub removal_none : (key : StoreKey) (now : ℕ) (draw : Draw) (intent : Option Intent) (old new : Outside) (named : List ℕ) → Performs (ImageRm key) now draw intent old new (Err (NoImage named)) → old.dir.observed ≡ true →
     HasFoundNone key draw.uuid old.dir new.dir
-removal_none key now draw (Some intent) old new named (inl s) t = meanwhile (FoundNone key draw.uuid) refl s t (s.ran.says.0.found (s.told ∙ t))
+removal_none key now draw (Some intent) old new named (inl s) t = meanwhile (FoundNoImage key draw.uuid) refl s t (s.ran.says.0.found (s.told ∙ t))
 removal_none key now draw (Some intent) old new named (inr n) t = let e = n.is in cc
 removal_none key now draw None old new named p t = let clash : true ≡ false = p.apart in cc
 
@@ -95,7 +95,7 @@ pub removal_stray : (key : StoreKey) (now : ℕ) (draw : Draw) (old new : Outsid
 removal_stray key now draw old new (inl s) t =
     let intent = intent_for kind.ImageRm [] now draw in (
       meanwhile (StrayRemoval key draw.uuid) refl s t (s.ran.says.0.0 (s.told ∙ t)),
-      never_in_part (finish_part s t is_finish refl) (s.ran.says.0.1 (s.told ∙ t) (begun intent) (begun_knows s t) (begun_removes intent draw.uuid refl refl)),
+      never_in_part (finish_part s t is_finish refl) (s.ran.says.0.1 (s.told ∙ t) (seen_at_begin intent) (begun_knows s t) (begun_removes intent draw.uuid refl refl)),
     )
 removal_stray key now draw old new (inr n) t = let e = n.is in cc
 
@@ -112,7 +112,7 @@ sweep_done now draw old new text (inl s) t =
     record {
       lines = s.ran.says.lines;
       is = s.ran.says.is;
-      swept = meanwhile (Sweeps s.ran.says.lines) refl s t (s.ran.says.swept (s.told ∙ t) (begun intent) (begun_knows s t) (begun_sweeps intent refl));
+      swept = meanwhile (SweepsImages s.ran.says.lines) refl s t (s.ran.says.swept (s.told ∙ t) (seen_at_begin intent) (begun_knows s t) (begun_sweeps intent refl));
     }
 sweep_done now draw old new text (inr n) t = let e = n.is in cc
 
@@ -120,7 +120,7 @@ pub sweep_stray : (now : ℕ) (draw : Draw) (old new : Outside) → Performs Ima
 sweep_stray now draw old new (inl s) t =
     let intent = intent_for kind.ImageGc [] now draw in (
       meanwhile StrayInSweep refl s t (s.ran.says.0 (s.told ∙ t)),
-      never_in_part (finish_part s t is_finish refl) (s.ran.says.1 (s.told ∙ t) (begun intent) (begun_knows s t) (begun_sweeps intent refl)),
+      never_in_part (finish_part s t is_finish refl) (s.ran.says.1 (s.told ∙ t) (seen_at_begin intent) (begun_knows s t) (begun_sweeps intent refl)),
     )
 sweep_stray now draw old new (inr n) t = let e = n.is in cc
 

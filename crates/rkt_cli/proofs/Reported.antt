@@ -17,16 +17,17 @@ use Rattle.dir_model.specs.Trace.{state_after}
 use Rattle.dir_model.proofs.Chains.{and_more, extends_wider, nothing_yet}
 use Rattle.dir_model.proofs.Quiet.{is_harmless, end_quiet, quiet_within}
 use Rattle.dir_trait.specs.DirCalls.{DirAt}
-use Rattle.folder_building.specs.Work.{Worked}
+use Rattle.dir_trait.specs.Effects.{OnlyAsks}
 use Rattle.lifecycle.specs.Executions.{IsConforming}
 use Rattle.lifecycle.proofs.Draws.{conforming_left}
 use Rattle.pod_lookup.specs.Looks.{lists_stages}
+use Rattle.pod_lookup.proofs.QuietLook.{lists_harmless}
 use Rattle.pod_report.specs.Requests.{HasNoPodOpen, OnlyAsksFor, inspects, surveys, visits}
 use Rattle.pod_report.proofs.QuietSurvey.{SameWorld, is_calm, same_world}
 use Rattle.command_outcomes.specs.declared.refusal.Refusal.{Refusal}
 use Rattle.command_outcomes.specs.declared.refusal.Refusal.TheVariants.{DirFault, NoManifest, NoMemory, NoPod, Stray}
 use Rattle.command_outcomes.specs.Ends.{is_own_end, IsUnchanged}
-use Rattle.command_outcomes.specs.Moments.{BundleSeen, Outside, Outcome}
+use Rattle.command_outcomes.specs.Moments.{BundleSeen, Outside, CommandOutcome}
 use Rattle.command_outcomes.proofs.Seen.{seen_at, beside}
 use Rattle.commands.specs.CatManifest.{cat_manifest_refusal, cat_manifest_report}
 use Rattle.commands.specs.PodList.{list_refusal, list_report}
@@ -34,7 +35,7 @@ use Rattle.commands.specs.Status.{status_refusal, status_report}
 use Rattle.commands.specs.Opening.{OnceFound}
 use Rattle.commands.specs.Report.{Report, ReportSays}
 use Rattle.commands.proofs.ReportsKept.{IsStable, IsWider}
-use Rattle.commands.proofs.Starts.{look_extends, look_lists, lists_is_harmless}
+use Rattle.commands.proofs.Starts.{look_extends, look_lists}
 use Rattle.rkt_cli.specs.Commands.{approach_in, asks, may, uses_dir}
 use Rattle.rkt_cli.specs.Promises.{Undisturbed}
 use Rattle.rkt_cli.specs.Runs.{CommandRan, InProcess, Performs}
@@ -49,7 +50,7 @@ use Rattle.rkt_cli.proofs.Sessions.{act_part, any_call, begin_any, begin_part, f
 pub none_open : (m : Local) → m.holdings ≡ [] → HasNoPodOpen m
 none_open m none name = ap (λ (hs : List Holding). list_any (λ h. is_own_of name h.target) hs) none
 
-pub worked : {observed : Bool} {asked : Request → Bool} {a b : DirAt} → OnlyAsksFor observed asked a b → Worked observed asked a b
+pub worked : {observed : Bool} {asked : Request → Bool} {a b : DirAt} → OnlyAsksFor observed asked a b → OnlyAsks observed asked a b
 worked only = record { same = only.same; faults = only.faults; local = only.local; extends = only.extends }
 
 list_own : (r : Refusal) → list_refusal r ≡ true → may PodList r ≡ true
@@ -73,7 +74,7 @@ status_own word pod DirFault h = refl
 status_own word pod NoMemory h = refl
 status_own word pod r h = let clash : false ≡ true = h in cc
 
-module _ (task : Task) (now : ℕ) (draw : Draw) (observed : Bool) (a b : DirAt) (bundle : BundleSeen) (o : Outcome) where
+module _ (task : Task) (now : ℕ) (draw : Draw) (observed : Bool) (a b : DirAt) (bundle : BundleSeen) (o : CommandOutcome) where
   pub list_ran : task ≡ PodList → OnlyAsksFor observed surveys a b → (IsErrOf o DirFault → Rose a.faults b.faults) → IfErr o (λ r. list_refusal r ≡ true) → ReportSays list_report (seen_at observed a) (seen_at observed b) o →
       CommandRan task now draw (beside (seen_at observed a) bundle) (beside (seen_at observed b) bundle) o
   list_ran is only cause all says = ran PodList list_refusal refl list_own task now draw observed a b bundle o is refl (worked only) cause all says
@@ -88,7 +89,7 @@ module _ (task : Task) (now : ℕ) (draw : Draw) (observed : Bool) (a b : DirAt)
 
 -- ---- what it told of the whole process
 
-module _ {task : Task} {now : ℕ} {draw : Draw} {intent : Intent} {old new : Outside} {o : Outcome} (s : InProcess task now draw intent old new o) where
+module _ {task : Task} {now : ℕ} {draw : Draw} {intent : Intent} {old new : Outside} {o : CommandOutcome} (s : InProcess task now draw intent old new o) where
   ended_conforming : old.dir.observed ≡ true → IsConforming new.dir.trace → IsConforming s.ended.dir.trace
   ended_conforming t conforming = let last = finish_part s t any_call refl in conforming_left s.ended.dir.trace last.more (subst IsConforming last.grown conforming)
 
@@ -101,14 +102,14 @@ module _ {task : Task} {now : ℕ} {draw : Draw} {intent : Intent} {old new : Ou
       (subst (λ (me : ℕ). r.tells me s.begun.dir.trace s.ended.dir.trace o) s.me inner)
 
 module _ (r : Report) (task : Task) (now : ℕ) (draw : Draw) (old new : Outside) (uses : uses_dir task ≡ true) where
-  pub report_told : (o : Outcome) → is_own_end o ≡ true → IsWider r → ((intent : Intent) (s : InProcess task now draw intent old new o) → ReportSays r s.begun.dir s.ended.dir o) → (intent : Option Intent) → Performs task now draw intent old new o →
+  pub report_told : (o : CommandOutcome) → is_own_end o ≡ true → IsWider r → ((intent : Intent) (s : InProcess task now draw intent old new o) → ReportSays r s.begun.dir s.ended.dir o) → (intent : Option Intent) → Performs task now draw intent old new o →
       old.dir.observed ≡ true → IsConforming new.dir.trace → r.tells old.dir.process old.dir.trace new.dir.trace o
   report_told o own wider says None p t conforming = let clash : true ≡ false = sym uses ∙ p.apart in cc
   report_told o own wider says (Some intent) (inl s) t conforming = told_in_process s r wider (says intent s) own t conforming
   report_told o own wider says (Some intent) (inr n) t conforming = let clash : true ≡ false = sym own ∙ ap is_own_end n.is in cc
 
   -- what it saw itself
-  pub report_seen : (o : Outcome) → is_own_end o ≡ true → ((intent : Intent) (s : InProcess task now draw intent old new o) → ReportSays r s.begun.dir s.ended.dir o) → (intent : Option Intent) → Performs task now draw intent old new o →
+  pub report_seen : (o : CommandOutcome) → is_own_end o ≡ true → ((intent : Intent) (s : InProcess task now draw intent old new o) → ReportSays r s.begun.dir s.ended.dir o) → (intent : Option Intent) → Performs task now draw intent old new o →
       old.dir.observed ≡ true → OnceFound (λ me a b. r.sees me a b o) old.dir.process old.dir.trace new.dir.trace
   report_seen o own says None p t = let clash : true ≡ false = sym uses ∙ p.apart in cc
   report_seen o own says (Some intent) (inl s) t = once_found (λ me a b. r.sees me a b o) s t ((says intent s).seen (s.told ∙ t))
@@ -131,7 +132,7 @@ lists_calm r h = cc
 world_after : {me : ℕ} {a b : List Event} → Extends is_calm me a b → Quiet me a b → OwnsNothing me (state_after a).namespace → SameWorld me (state_after a) (state_after b)
 world_after {me} {a} {b} ext quiet owns = subst (λ (h : List Event). SameWorld me (state_after a) (state_after h)) (sym ext.grown) (same_world ext quiet owns ext.more [] (ext.grown ∙ sym (append-nil _)))
 
-module _ {task : Task} {now : ℕ} {draw : Draw} {intent : Intent} {old new : Outside} {o : Outcome} (s : InProcess task now draw intent old new o) (u : Undisturbed task old new) where
+module _ {task : Task} {now : ℕ} {draw : Draw} {intent : Intent} {old new : Outside} {o : CommandOutcome} (s : InProcess task now draw intent old new o) (u : Undisturbed task old new) where
   abbrev t : old.dir.observed ≡ true
   t = u.observed s.uses
 
@@ -142,7 +143,7 @@ module _ {task : Task} {now : ℕ} {draw : Draw} {intent : Intent} {old new : Ou
   q = u.alone s.uses
 
   begun_names : SameNamespace me (state_after old.dir.trace).namespace (state_after s.begun.dir.trace).namespace
-  begun_names = end_quiet (begin_part s t is_harmless refl (λ r h. lists_is_harmless r (look_lists (approach_in task) r h))) (quiet_begin s t q) (idle s t q)
+  begun_names = end_quiet (begin_part s t is_harmless refl (λ r h. lists_harmless r (look_lists (approach_in task) r h))) (quiet_begin s t q) (idle s t q)
 
   owns_first : OwnsNothing me (state_after (s.begins t).first).namespace
   owns_first = subst (λ (x : DirState). OwnsNothing me x.namespace) (sym (state_first s t q)) (idle s t q)

@@ -21,17 +21,17 @@ use Rattle.pod_locks.specs.Work.{Grew}
 use Rattle.command_outcomes.specs.declared.refusal.Refusal.{Refusal}
 use Rattle.command_outcomes.specs.declared.refusal.Refusal.TheVariants.{NoMemory}
 use Rattle.command_outcomes.specs.declared.told.Told.{Told}
-use Rattle.command_outcomes.specs.Conforming.{shown_at, begun as just_begun}
-use Rattle.command_outcomes.specs.Moments.{DirSeen, Inside, Answer, Outcome, outcome_of, dir_seen}
+use Rattle.command_outcomes.specs.Conforming.{dir_at_moment, seen_at_begin as just_begun}
+use Rattle.command_outcomes.specs.Moments.{DirSeen, Inside, Answer, CommandOutcome, outcome_of, dir_seen}
 use Rattle.commands.specs.RunRefusals.{claim_refusal}
 use Rattle.lifecycle.specs.Executions.{IsConforming}
 use Rattle.pod_build.specs.Preparations.{Began}
-use Rattle.pod_build.specs.Progress.{at_work, nothing_made}
+use Rattle.pod_build.specs.Progress.{seen_making, nothing_made}
 use Rattle.commands.specs.AppsTold.{WithinProcess}
 use Rattle.commands.specs.RunPrepared.{runs_prepared, ClaimsAndRuns, IsUnclaimed, RunPreparedSays}
 use Rattle.commands.specs.Run.{makes_and_runs, MakesAndRuns, NewRunSays, RunIsTold}
 use Rattle.commands.specs.Prepare.{pod_line}
-use Rattle.commands.specs.RunQuiet.{HasPassed, HasMadeAndLeft, TellsItsEnds, UnclaimedFor, IsUnmadeFor, held_before, made_by}
+use Rattle.commands.specs.RunQuiet.{HasPassed, HasMadeAndLeft, TellsItsEnds, UnclaimedFor, IsUnmadeFor, held_before, entries_made}
 use Rattle.commands.specs.RunTable.{IsRefusedFor, RunsAll, StoppedFor}
 use Rattle.commands.proofs.Claimed.{may_begin}
 use Rattle.commands.proofs.EndsQuiet.{unborn_before}
@@ -46,7 +46,7 @@ use Rattle.commands.specs.Command.{intent_for}
 use Rattle.commands.specs.RunCommand.{LeavesMade}
 use Rattle.commands.specs.RunPreparedCommand.{PassesQuietly}
 use Rattle.rkt_cli.specs.Commands.{runs_apps, intent_of}
-use Rattle.rkt_cli.specs.Spawns.{CameBetween}
+use Rattle.rkt_cli.specs.Spawns.{AppsToldBetween}
 use Rattle.commands.specs.Wants.{Wants}
 use Rattle.commands.specs.Opening.{Approach, directly, approach_of, looks_by, Opens}
 use Rattle.commands.proofs.Starts.{look_lists, open_extends, opening_extends}
@@ -123,7 +123,7 @@ module _ {approach : Approach} {asks : Request → Bool} {P : Inside → Inside 
     finish = subst (λ (h : List Event). CallStep d.process h Finish Done b.dir.trace) to_is (subst (λ (p : ℕ). CallStep p x.ended.trace Finish Done b.dir.trace) me_is finish_call)
 
     pub knows_there : Knows d (just_begun intent)
-    knows_there = let k = subst (λ (z : DirSeen). Knows (shown_at z) (just_begun intent)) (sym begins) (x.knows t) in record { tied = k.tied; handles = k.handles }
+    knows_there = let k = subst (λ (z : DirSeen). Knows (dir_at_moment z) (just_begun intent)) (sym begins) (x.knows t) in record { tied = k.tied; handles = k.handles }
 
 module _ (word address : List ℕ) (pod : PodId) (now : ℕ) (draw : Draw) (a b : Inside) (answer : Answer) (t : a.dir.observed ≡ true) (quiet : Quiet a.dir.process a.dir.trace b.dir.trace) (idle : OwnsNothing a.dir.process (state_after a.dir.trace).namespace) where
   abbrev its_intent : Intent
@@ -200,7 +200,7 @@ module _ (word address : List ℕ) (pod : PodId) (now : ℕ) (draw : Draw) (a b 
       by (inl c) = passed_stopped r x c
       by (inr c) = unclaimed x c
 
-  pub passes : CameBetween (RunPrepared word pod address) now draw (Some its_intent) a b answer → PassesQuietly pod address a b (outcome_of answer)
+  pub passes : AppsToldBetween (RunPrepared word pod address) now draw (Some its_intent) a b answer → PassesQuietly pod address a b (outcome_of answer)
   passes (inl x) = passed_in answer x
   passes (inr x) = subst (λ (z : Answer). PassesQuietly pod address a b (outcome_of z)) (sym x.0) tt
 
@@ -232,7 +232,7 @@ module _ (address : List ℕ) (wants : Wants) (now : ℕ) (draw : Draw) (a b : I
     began : Began area.Run draw now new_intent
     began = record { leads = refl; drawn = refl; token = refl; moment = refl }
 
-    knows : Knows d (at_work new_intent [] nothing_made)
+    knows : Knows d (seen_making new_intent [] nothing_made)
     knows = let k = knows_there x t d d' x.came.begins x.came.ends in record { tied = k.tied; handles = k.handles }
 
     made_until : (m : MakesAndRuns x.begun.observed a.spawner.observed wants address now draw d d' a.spawner.shown b.spawner.shown answer) → IsConforming b.dir.trace → MadeUntil wants d.process draw.uuid a.dir.trace m.made.trace b.dir.trace
@@ -249,10 +249,10 @@ module _ (address : List ℕ) (wants : Wants) (now : ℕ) (draw : Draw) (a b : I
 
   abbrev MadeEnds : List ℕ → ℕ → Type 0
   MadeEnds text p =
-      (x : HasMadeAndLeft wants p draw.uuid a.dir.trace b.dir.trace) × (y : TellsItsEnds draw.uuid (pod_line draw.uuid) b.dir.trace text) × RunsAll draw.uuid address (made_by x.2.0) y.ends a.spawner b.spawner
+      (x : HasMadeAndLeft wants p draw.uuid a.dir.trace b.dir.trace) × (y : TellsItsEnds draw.uuid (pod_line draw.uuid) b.dir.trace text) × RunsAll draw.uuid address (entries_made x.2.0) y.ends a.spawner b.spawner
 
   abbrev MadeWhy : Refusal → ℕ → Type 0
-  MadeWhy r p = IsRefusedFor draw.uuid r b.dir.trace (λ error. (x : HasMadeAndLeft wants p draw.uuid a.dir.trace b.dir.trace) × StoppedFor draw.uuid address (made_by x.2.0) error a.spawner b.spawner)
+  MadeWhy r p = IsRefusedFor draw.uuid r b.dir.trace (λ error. (x : HasMadeAndLeft wants p draw.uuid a.dir.trace b.dir.trace) × StoppedFor draw.uuid address (entries_made x.2.0) error a.spawner b.spawner)
 
   made_in : (told : Told) → MadeIn (Ok told) → LeavesMade wants address now draw a b (Ok told.text)
   made_in told x = by x.came.so
@@ -292,21 +292,21 @@ module _ (address : List ℕ) (wants : Wants) (now : ℕ) (draw : Draw) (a b : I
       by (inr (inl u)) = elim (unmade_refusal a.dir b.dir x.told (sees x) (sym (mine x)) (stays x t (d x) (d' x) x.came.begins x.came.ends) (whole_ext x t) quiet (begins x) (ends x) new_intent (began x) (knows x) r u) [ inl is ↦ inl is | inr why ↦ inr (inr why) ]
       by (inr (inr u)) = inl (same_refusal r NoMemory u.is)
 
-  pub made : (answer : Answer) → CameBetween (Run wants address) now draw (Some new_intent) a b answer → LeavesMade wants address now draw a b (outcome_of answer)
+  pub made : (answer : Answer) → AppsToldBetween (Run wants address) now draw (Some new_intent) a b answer → LeavesMade wants address now draw a b (outcome_of answer)
   made (Ok told) (inl x) = made_in told x
   made (Ok told) (inr x) = ok_not_err told NoMemory x.0
   made (Err r) (inl x) = of_why r (refused_in r x)
   made (Err r) (inr x) = of_why r (inl (same_refusal r NoMemory x.0))
 
 -- what a command that starts apps comes to
-abbrev pub RunsQuietly : Task → ℕ → Draw → Inside → Inside → Outcome → Type 0
+abbrev pub RunsQuietly : Task → ℕ → Draw → Inside → Inside → CommandOutcome → Type 0
 RunsQuietly (RunPrepared word pod address) now draw a b o = PassesQuietly pod address a b o
 RunsQuietly (Run wants address) now draw a b o = LeavesMade wants address now draw a b o
 RunsQuietly line now draw a b o = Unit {0}
 
 -- of each command
 pub runs_quietly : (line : Task) (now : ℕ) (draw : Draw) (a b : Inside) (answer : Answer) → (runs_apps line ≡ true → a.dir.observed ≡ true) → (runs_apps line ≡ true → Quiet a.dir.process a.dir.trace b.dir.trace) →
-    (runs_apps line ≡ true → OwnsNothing a.dir.process (state_after a.dir.trace).namespace) → CameBetween line now draw (intent_of line now draw) a b answer → RunsQuietly line now draw a b (outcome_of answer)
+    (runs_apps line ≡ true → OwnsNothing a.dir.process (state_after a.dir.trace).namespace) → AppsToldBetween line now draw (intent_of line now draw) a b answer → RunsQuietly line now draw a b (outcome_of answer)
 runs_quietly (RunPrepared word pod address) now draw a b answer t quiet idle came = passes word address pod now draw a b answer (t refl) (quiet refl) (idle refl) came
 runs_quietly (Run wants address) now draw a b answer t quiet idle came = made address wants now draw a b (t refl) (quiet refl) answer came
 runs_quietly line now draw a b answer t quiet idle came = tt

@@ -17,7 +17,7 @@ use Rattle.lifecycle.proofs.Draws.{conforming_left}
 use Rattle.listener.specs.Connections.{ListenerAt}
 use Rattle.metadata.specs.Service.{Served, ServesAt, ServesThese}
 use Rattle.pod_report.proofs.QuietSurvey.{SameWorld, is_calm}
-use Rattle.running_views.specs.Laws.{IsAlone}
+use Rattle.running_views.specs.Laws.{ReadsUndisturbed}
 use Rattle.running_views.specs.Replies.{ServesIn}
 use Rattle.running_views.proofs.Same.{same_told, serves_same}
 use Rattle.running_views.proofs.ServedBefore.{served_before, these_calm}
@@ -59,7 +59,7 @@ module _ {address : List ℕ} {count now : ℕ} {draw : Draw} {served : Served} 
     world : SameWorld me (state_after from.trace) (state_after x.begun.trace)
     world = record { names = names; entries = ap (λ (s : DirState). s.entries) state_begun ∙ append-nil _ }
 
-    alone : IsAlone x.begun x.ended
+    alone : ReadsUndisturbed x.begun x.ended
     alone = record {
       quiet = subst (λ (p : ℕ). Quiet p x.begun.trace x.ended.trace) (sym x.me) (quiet_within quiet begins finishes calm.more calm.grown);
       idle = subst (λ (p : ℕ). OwnsNothing p (state_after x.begun.trace).namespace) (sym x.me) names.mine;

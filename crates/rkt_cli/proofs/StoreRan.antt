@@ -7,17 +7,17 @@ use Rattle.dir_model.specs.declared.intent.Kind.TheVariants as kind
 use Rattle.dir_model.specs.Causes.{Rose}
 use Rattle.dir_rules.specs.Standing.{is_image_rm, is_image_remover}
 use Rattle.dir_trait.specs.DirCalls.{DirAt}
-use Rattle.folder_building.specs.Work.{Worked}
+use Rattle.dir_trait.specs.Effects.{OnlyAsks}
 use Rattle.image_store.specs.Requests.{building_spot, imports_at}
 use Rattle.image_store.specs.Work.{IsImport}
-use Rattle.image_removal.specs.Requests.{removes_at, sweeps}
-use Rattle.image_removal.specs.Work.{MayRemove, MaySweep, Stays}
+use Rattle.image_removal.specs.Requests.{removes_at, sweeps_store}
+use Rattle.image_removal.specs.Work.{MayRemoveImage, MaySweepStore, Stays}
 use Rattle.image_removal.specs.Work as work
 use Rattle.image_removal.proofs.Begun.{begun_removes, begun_sweeps}
 use Rattle.command_outcomes.specs.declared.refusal.Refusal.{Refusal}
 use Rattle.command_outcomes.specs.declared.refusal.Refusal.TheVariants.{DirFault, BundleFault, NoMemory}
-use Rattle.command_outcomes.specs.Moments.{BundleSeen, Outcome}
-use Rattle.command_outcomes.specs.Conforming.{begun, StaysConforming}
+use Rattle.command_outcomes.specs.Moments.{BundleSeen, CommandOutcome}
+use Rattle.command_outcomes.specs.Conforming.{seen_at_begin, StaysConforming}
 use Rattle.command_outcomes.proofs.Seen.{seen_at, beside}
 use Rattle.commands.specs.Kept.{KeepsRefused}
 use Rattle.commands.specs.ImageImport.{image_import_refusal, ImageImportSays}
@@ -41,12 +41,12 @@ import_may path DirFault known = known
 import_may path BundleFault known = known
 import_may path r known = known
 
-import_end : (path : List ℕ) (o : Outcome) → IfErr o (λ r. image_import_refusal r ≡ true) → IfErr o (λ r. may (ImageImport path) r ≡ true)
+import_end : (path : List ℕ) (o : CommandOutcome) → IfErr o (λ r. image_import_refusal r ≡ true) → IfErr o (λ r. may (ImageImport path) r ≡ true)
 import_end path (Ok text) known = known
 import_end path (Err r) known = import_may path r known
 
-pub import_ran : (line : Task) (now : ℕ) (draw : Draw) (path : List ℕ) (observed : Bool) (a b : DirAt) (before after : BundleSeen) (o : Outcome) → line ≡ ImageImport path →
-    Worked observed (imports_at (building_spot draw.uuid)) a b → (IsErrOf o DirFault → Rose a.faults b.faults) → before.faults ≤ after.faults → (IsErrOf o BundleFault → Rose before.faults after.faults) →
+pub import_ran : (line : Task) (now : ℕ) (draw : Draw) (path : List ℕ) (observed : Bool) (a b : DirAt) (before after : BundleSeen) (o : CommandOutcome) → line ≡ ImageImport path →
+    OnlyAsks observed (imports_at (building_spot draw.uuid)) a b → (IsErrOf o DirFault → Rose a.faults b.faults) → before.faults ≤ after.faults → (IsErrOf o BundleFault → Rose before.faults after.faults) →
     IfErr o (λ r. image_import_refusal r ≡ true) → ImageImportSays path now draw.uuid (beside (seen_at observed a) before) (beside (seen_at observed b) after) o →
     CommandRan line now draw (beside (seen_at observed a) before) (beside (seen_at observed b) after) o
 import_ran line now draw path observed a b before after o is worked cause faults bundle_cause known says =
@@ -71,10 +71,10 @@ removes : (key : StoreKey) (now : ℕ) (draw : Draw) (intent : Intent) → inten
 removes key now draw intent is = subst (λ (i : Intent). (is_image_rm i.kind ≡ true) × (i.draw ≡ draw.uuid)) (let e : intent_for kind.ImageRm [] now draw ≡ intent = cc in e) (refl, refl)
 
 pub removal_conforming : (key : StoreKey) (now : ℕ) (draw : Draw) (intent : Intent) (observed : Bool) (a b : DirAt) → intent_of (ImageRm key) now draw ≡ Some intent →
-    Stays (MayRemove draw.uuid) work.StaysConforming a b → StaysConforming intent (seen_at observed a) (seen_at observed b)
+    Stays (MayRemoveImage draw.uuid) work.KeepsStandingAndRules a b → StaysConforming intent (seen_at observed a) (seen_at observed b)
 removal_conforming key now draw intent observed a b is stays k =
     let began = removes key now draw intent is in
-    let s = stays (begun intent) (record { tied = k.tied; handles = k.handles }) (begun_removes intent draw.uuid began.0 began.1) in
+    let s = stays (seen_at_begin intent) (record { tied = k.tied; handles = k.handles }) (begun_removes intent draw.uuid began.0 began.1) in
     record { known = s.known; knows = record { tied = s.knows.tied; handles = s.knows.handles }; kept = s.kept }
 
 -- and so does one that sweeps
@@ -82,9 +82,9 @@ sweeping : (now : ℕ) (draw : Draw) (intent : Intent) → intent_of ImageGc now
 sweeping now draw intent is = subst (λ (i : Intent). is_image_remover i.kind ≡ true) (let e : intent_for kind.ImageGc [] now draw ≡ intent = cc in e) refl
 
 pub sweep_conforming : (now : ℕ) (draw : Draw) (intent : Intent) (observed : Bool) (a b : DirAt) → intent_of ImageGc now draw ≡ Some intent →
-    Stays MaySweep work.StaysConforming a b → StaysConforming intent (seen_at observed a) (seen_at observed b)
+    Stays MaySweepStore work.KeepsStandingAndRules a b → StaysConforming intent (seen_at observed a) (seen_at observed b)
 sweep_conforming now draw intent observed a b is stays k =
-    let s = stays (begun intent) (record { tied = k.tied; handles = k.handles }) (begun_sweeps intent (sweeping now draw intent is)) in
+    let s = stays (seen_at_begin intent) (record { tied = k.tied; handles = k.handles }) (begun_sweeps intent (sweeping now draw intent is)) in
     record { known = s.known; knows = record { tied = s.knows.tied; handles = s.knows.handles }; kept = s.kept }
 
 -- what each of the two owes
@@ -98,12 +98,12 @@ sweep_may NoMemory known = known
 sweep_may DirFault known = known
 sweep_may r known = known
 
-pub removal_ran : (line : Task) (now : ℕ) (draw : Draw) (key : StoreKey) (observed : Bool) (a b : DirAt) (bundle : BundleSeen) (o : Outcome) → line ≡ ImageRm key → Worked observed (removes_at key draw.uuid) a b →
+pub removal_ran : (line : Task) (now : ℕ) (draw : Draw) (key : StoreKey) (observed : Bool) (a b : DirAt) (bundle : BundleSeen) (o : CommandOutcome) → line ≡ ImageRm key → OnlyAsks observed (removes_at key draw.uuid) a b →
     (IsErrOf o DirFault → Rose a.faults b.faults) → IfErr o (λ r. image_rm_refusal r ≡ true) → ImageRmSays key draw.uuid (seen_at observed a) (seen_at observed b) o → KeepsRefused (seen_at observed a) (seen_at observed b) o →
     CommandRan line now draw (beside (seen_at observed a) bundle) (beside (seen_at observed b) bundle) o
 removal_ran line now draw key observed a b bundle o is worked cause known says kept = ran (ImageRm key) image_rm_refusal refl (removal_may key) line now draw observed a b bundle o is refl worked cause known (says, kept)
 
-pub sweep_ran : (line : Task) (now : ℕ) (draw : Draw) (observed : Bool) (a b : DirAt) (bundle : BundleSeen) (o : Outcome) → line ≡ ImageGc → Worked observed sweeps a b →
+pub sweep_ran : (line : Task) (now : ℕ) (draw : Draw) (observed : Bool) (a b : DirAt) (bundle : BundleSeen) (o : CommandOutcome) → line ≡ ImageGc → OnlyAsks observed sweeps_store a b →
     (IsErrOf o DirFault → Rose a.faults b.faults) → IfErr o (λ r. image_gc_refusal r ≡ true) → ImageGcSays (seen_at observed a) (seen_at observed b) o →
     CommandRan line now draw (beside (seen_at observed a) bundle) (beside (seen_at observed b) bundle) o
 sweep_ran line now draw observed a b bundle o is worked cause known says = ran ImageGc image_gc_refusal refl sweep_may line now draw observed a b bundle o is refl worked cause known says

@@ -7,8 +7,8 @@ use Rattle.dir_model.specs.declared.intent.Intent.{Intent}
 use Rattle.dir_model.specs.declared.pod.PodId.{PodId}
 use Rattle.command_outcomes.specs.declared.refusal.Refusal.TheVariants.{BadManifest, BundleFault, DirFault, NoFile, NoMemory}
 use Rattle.command_outcomes.specs.Ends.{is_own_end}
-use Rattle.command_outcomes.specs.Moments.{DirSeen, Outside, Moment, Outcome}
-use Rattle.command_outcomes.specs.Texts.{status_of}
+use Rattle.command_outcomes.specs.Moments.{DirSeen, Outside, Moment, CommandOutcome}
+use Rattle.command_outcomes.specs.Texts.{exit_status_of}
 use Rattle.command_outcomes.specs.declared.refusal.Refusal.{Refusal}
 use Rattle.folder_removal.specs.Removal.{KeptFolders}
 use Rattle.folder_removal.proofs.Keeping.{kept_by, kept_call, kept_more}
@@ -17,9 +17,9 @@ use Rattle.commands.specs.Answers.{IsAnswer, WritesOf}
 use Rattle.commands.specs.GcCommand.{TellsGc}
 use Rattle.commands.specs.ImageGcCommand.{TellsImageGc}
 use Rattle.commands.specs.ImageImportCommand.{IsBundleJudgement, TellsImport}
-use Rattle.commands.specs.ImageListCommand.{TellsImages}
+use Rattle.commands.specs.ImageListCommand.{TellsImageLines}
 use Rattle.commands.specs.ImageRmCommand.{TellsImageRm}
-use Rattle.commands.specs.MetadataCommand.{WritesNothing}
+use Rattle.commands.specs.MetadataCommand.{WritesNoOutput}
 use Rattle.commands.specs.PrepareCommand.{TellsPrepare}
 use Rattle.commands.specs.RmCommand.{TellsRm}
 use Rattle.commands.specs.CatManifest.{cat_manifest_report}
@@ -34,7 +34,7 @@ use Rattle.rkt_cli.specs.DemoCommand.{EndsDemo, TellsDemo}
 use Rattle.rkt_cli.specs.Tasks.{Task}
 use Rattle.rkt_cli.specs.Tasks.{Status, PodList, CatManifest, Validate, ImageList, ImageImport, ImageRm, ImageGc, Prepare, RunPrepared, Run, Rm, Gc, Metadata, Demo}
 use Rattle.rkt_cli.specs.Commands.{command_in, intent_of, runs_apps, uses_dir}
-use Rattle.rkt_cli.specs.Runs.{InProcess, Performs, Printed, Reported, End, Unwritten, end_status, RunOf, RunIs}
+use Rattle.rkt_cli.specs.Runs.{InProcess, Performs, Printed, Reported, End, Unwritten, end_status, RunsTaskOrNothing, IsRunOfTask}
 use Rattle.rkt_cli.proofs.BundleJudged.{import_judged}
 use Rattle.rkt_cli.proofs.Completing.{rm_ends, claim_ends}
 use Rattle.rkt_cli.proofs.DemoRan.{does_demo}
@@ -47,7 +47,7 @@ use Rattle.rkt_cli.proofs.PodLeft.{pod_left, sweep_left}
 use Rattle.rkt_cli.proofs.PodRan.{prepare_faithful, prepare_printed, prepare_synced}
 use Rattle.rkt_cli.proofs.PodRemovals.{gc_done, rm_done, rm_printed}
 use Rattle.commands.specs.ImageGc.{HasEndedEarly}
-use Rattle.commands.specs.ImageRm.{removed_text, HasRemoved}
+use Rattle.commands.specs.ImageRm.{removed_image_text, HasRemoved}
 use Rattle.rkt_cli.proofs.Removals.{removal_done, removal_printed, sweep_done, sweep_failed}
 use Rattle.rkt_cli.proofs.ServiceRan.{service_printed}
 use Rattle.commands.proofs.RmQuiet.{rm_removed}
@@ -68,13 +68,13 @@ IsJudged path status old new =
     ⊎ ((status ≡ 12) × IsOk (sequential_validate path old.outside.bundle.tree))
     ⊎ IsAnswer (sequential_validate path old.outside.bundle.tree) status old new
 
-judged_own : (path : List ℕ) (now : ℕ) (draw : Draw) (intent : Option Intent) (o : Outcome) (old new : Moment) (end : End) (status : ℕ) → is_own_end o ≡ true → old.outside.bundle.observed ≡ true → Performs (Validate path) now draw intent old.outside new.outside o → Printed o old.out new.out end → Reported end old.err new.err → status ≡ end_status end → IsJudged path status old new
+judged_own : (path : List ℕ) (now : ℕ) (draw : Draw) (intent : Option Intent) (o : CommandOutcome) (old new : Moment) (end : End) (status : ℕ) → is_own_end o ≡ true → old.outside.bundle.observed ≡ true → Performs (Validate path) now draw intent old.outside new.outside o → Printed o old.out new.out end → Reported end old.err new.err → status ≡ end_status end → IsJudged path status old new
 judged_own path now draw intent o old new end status own t p printed said is =
-    subst (λ (x : Outcome). (status ≡ 10) ⊎ (status ≡ 14) ⊎ ((status ≡ 12) × IsOk x) ⊎ IsAnswer x status old new) (validate_told path old.outside.bundle o (does_validate path now draw intent old.outside new.outside o own p) t)
+    subst (λ (x : CommandOutcome). (status ≡ 10) ⊎ (status ≡ 14) ⊎ ((status ≡ 12) × IsOk x) ⊎ IsAnswer x status old new) (validate_told path old.outside.bundle o (does_validate path now draw intent old.outside new.outside o own p) t)
     (elim (answered o old new end status printed said is) [ inl e ↦ inr (inl e) | inr (inl x) ↦ inr (inr (inl (x.0, x.1))) | inr (inr x) ↦ inr (inr (inr x)) ])
 
 -- a file was judged, or the bundle failed, the line wasn't written or memory ran out
-judgement_of : (path : List ℕ) (now : ℕ) (draw : Draw) (intent : Option Intent) (o : Outcome) (old new : Moment) (end : End) (status : ℕ) → old.outside.bundle.observed ≡ true → Performs (Validate path) now draw intent old.outside new.outside o → Printed o old.out new.out end → Reported end old.err new.err → status ≡ end_status end → IsJudged path status old new
+judgement_of : (path : List ℕ) (now : ℕ) (draw : Draw) (intent : Option Intent) (o : CommandOutcome) (old new : Moment) (end : End) (status : ℕ) → old.outside.bundle.observed ≡ true → Performs (Validate path) now draw intent old.outside new.outside o → Printed o old.out new.out end → Reported end old.err new.err → status ≡ end_status end → IsJudged path status old new
 judgement_of path now draw intent (Err NoMemory) old new end status t p printed said is = inr (inl (is ∙ ap end_status printed.refused.0))
 judgement_of path now draw intent (Err BundleFault) old new end status t p printed said is = inl (is ∙ ap end_status printed.refused.0)
 judgement_of path now draw intent (Err DirFault) old new end status t p printed said is = let clash : false ≡ true = refusals_of (Validate path) now draw intent old.outside new.outside (Err DirFault) DirFault p refl in cc
@@ -94,21 +94,21 @@ kept_opening o = kept_by spares (open_extends o)
 -- of a run with this status, if all apps had ended with 0
 module _ (now : ℕ) (draw : Draw) (old new : Moment) (status : ℕ) where
   abbrev Ran : Task → Type 0
-  Ran line = RunOf line now draw old new status
+  Ran line = RunsTaskOrNothing line now draw old new status
 
   -- where the status is 0, the line ran and its text was written
   wrote : (line : Task) (P : List ℕ → Type 0) → ((text : List ℕ) → Performs line now draw (intent_of line now draw) old.outside new.outside (Ok text) → P text) → Ran line → status ≡ 0 → WritesOf P old new
   wrote line P so (inr n) zero = absurd_number 0 14 (sym zero ∙ n.is) refl
   wrote line P so (inl r) zero =
       let done = r.printed.done (end_at r.end status 0 r.is zero refl) in
-      (done.0, so done.0 (subst (λ (o : Outcome). Performs line now draw (intent_of line now draw) old.outside new.outside o) done.1 r.performs), done.2)
+      (done.0, so done.0 (subst (λ (o : CommandOutcome). Performs line now draw (intent_of line now draw) old.outside new.outside o) done.1 r.performs), done.2)
 
   abbrev me : ℕ
   me = old.outside.dir.process
 
   -- a removal that wasn't done
   abbrev Keeps : Task → Type 0
-  Keeps line = (intent : Intent) (o : Outcome) (s : InProcess line now draw intent old.outside new.outside o) → KeepsRefused s.begun.dir s.ended.dir o
+  Keeps line = (intent : Intent) (o : CommandOutcome) (s : InProcess line now draw intent old.outside new.outside o) → KeepsRefused s.begun.dir s.ended.dir o
 
   kept_refused : (line : Task) → Keeps line → old.outside.dir.observed ≡ true → (intent : Option Intent) (r : Refusal) → Performs line now draw intent old.outside new.outside (Err r) → KeptFolders me old.outside.dir.trace new.outside.dir.trace
   kept_refused line keeps t (Some intent) r (inl s) = kept_more (kept_opening (s.begins t)) s.me (kept_more (keeps intent (Err r) s (s.told ∙ t)) s.ran.same (kept_call refl (s.finishes t)))
@@ -119,19 +119,19 @@ module _ (now : ℕ) (draw : Draw) (old new : Moment) (status : ℕ) where
   kept_told line keeps t (inr n) = inr (inr (inr (subst (λ (x : Outside). KeptFolders me old.outside.dir.trace x.dir.trace) (sym n.outside) (record { more = []; grown = sym (append-nil _); kept = tt }))))
   kept_told line keeps t (inl r) = by r.end refl
     where
-      unwritten : (q : Refusal) → status ≡ status_of q → Unwritten q old.out new.out → RemovesNoneUnlessDone status old new
-      unwritten q is (inl x) = inr (inl (is ∙ ap status_of x.0))
-      unwritten q is (inr x) = inr (inr (inl (is ∙ ap status_of x.0, x.1)))
+      unwritten : (q : Refusal) → status ≡ exit_status_of q → Unwritten q old.out new.out → RemovesNoneUnlessDone status old new
+      unwritten q is (inl x) = inr (inl (is ∙ ap exit_status_of x.0))
+      unwritten q is (inr x) = inr (inr (inl (is ∙ ap exit_status_of x.0, x.1)))
 
       by : (end : End) → r.end ≡ end → RemovesNoneUnlessDone status old new
       by (Ok done) same = inl (r.is ∙ ap end_status same)
       by (Err q) same = elim (from_end r.outcome old.out new.out r.end q r.printed same) [
-        | inl e ↦ inr (inr (inr (kept_refused line keeps t (intent_of line now draw) q (subst (λ (o : Outcome). Performs line now draw (intent_of line now draw) old.outside new.outside o) e r.performs))))
+        | inl e ↦ inr (inr (inr (kept_refused line keeps t (intent_of line now draw) q (subst (λ (o : CommandOutcome). Performs line now draw (intent_of line now draw) old.outside new.outside o) e r.performs))))
         | inr x ↦ unwritten q (r.is ∙ ap end_status same) x
       ]
 
   -- a report: what it saw, and what that tells
-  report_tells : (rep : Report) (task : Task) → uses_dir task ≡ true → IsWider rep → ((o : Outcome) (i : Intent) (s : InProcess task now draw i old.outside new.outside o) → ReportSays rep s.begun.dir s.ended.dir o) → Ran task → WritesReport rep status old new
+  report_tells : (rep : Report) (task : Task) → uses_dir task ≡ true → IsWider rep → ((o : CommandOutcome) (i : Intent) (s : InProcess task now draw i old.outside new.outside o) → ReportSays rep s.begun.dir s.ended.dir o) → Ran task → WritesReport rep status old new
   report_tells rep task uses wider says r = record {
     seen = λ t. wrote task _ (λ text p. report_seen rep task now draw old.outside new.outside uses (Ok text) refl (says (Ok text)) (intent_of task now draw) p t) r;
     told = λ t conforming. wrote task _ (λ text p. report_told rep task now draw old.outside new.outside uses (Ok text) refl wider (says (Ok text)) (intent_of task now draw) p t conforming) r;
@@ -141,7 +141,7 @@ module _ (now : ℕ) (draw : Draw) (old new : Moment) (status : ℕ) where
   validate_tells path (inr n) t = inr (inl n.is)
   validate_tells path (inl r) t = judgement_of path now draw (intent_of (Validate path) now draw) r.outcome old new r.end status t r.performs r.printed r.reported r.is
 
-  list_tells : Ran ImageList → TellsImages status old new
+  list_tells : Ran ImageList → TellsImageLines status old new
   list_tells r = record {
     read = λ t. wrote ImageList _ (λ text p. list_printed now draw (intent_of ImageList now draw) old.outside new.outside text p) r;
     stood = λ t conforming. wrote ImageList _ (λ text p. list_stood now draw (intent_of ImageList now draw) old.outside new.outside text p t conforming) r;
@@ -154,7 +154,7 @@ module _ (now : ℕ) (draw : Draw) (old new : Moment) (status : ℕ) where
       by (inr n) t = inr (inl n.is)
       by (inl r) t = import_judged path now draw r.outcome old new r.end status t r.performs r.printed r.reported r.is
 
-  removal_told : (key : StoreKey) → Ran (ImageRm key) → old.outside.dir.observed ≡ true → status ≡ 0 → WritesOf (λ text. (text ≡ removed_text key) × HasRemoved key draw.uuid old.outside.dir new.outside.dir) old new
+  removal_told : (key : StoreKey) → Ran (ImageRm key) → old.outside.dir.observed ≡ true → status ≡ 0 → WritesOf (λ text. (text ≡ removed_image_text key) × HasRemoved key draw.uuid old.outside.dir new.outside.dir) old new
   removal_told key r t = wrote (ImageRm key) _ (λ text p. (removal_printed key now draw (intent_of (ImageRm key) now draw) old.outside new.outside text p, removal_done key now draw old.outside new.outside text p t)) r
 
   removal_tells : (key : StoreKey) → Ran (ImageRm key) → TellsImageRm key draw status old new
@@ -164,7 +164,7 @@ module _ (now : ℕ) (draw : Draw) (old new : Moment) (status : ℕ) where
   sweep_early (inr n) t nine = absurd_number 9 14 (sym nine ∙ n.is) refl
   sweep_early (inl r) t nine =
       let e : r.outcome ≡ Err DirFault = from_command r.outcome old.out new.out r.end DirFault r.printed (end_at r.end status 9 r.is nine refl) refl in
-      sweep_failed now draw (intent_of ImageGc now draw) old.outside new.outside (subst (λ (o : Outcome). Performs ImageGc now draw (intent_of ImageGc now draw) old.outside new.outside o) e r.performs) t
+      sweep_failed now draw (intent_of ImageGc now draw) old.outside new.outside (subst (λ (o : CommandOutcome). Performs ImageGc now draw (intent_of ImageGc now draw) old.outside new.outside o) e r.performs) t
 
   sweep_tells : Ran ImageGc → TellsImageGc status old new
   sweep_tells r = record { swept = λ t. wrote ImageGc _ (λ text p. sweep_done now draw old.outside new.outside text p t) r; early = λ t. sweep_early r t }
@@ -191,7 +191,7 @@ module _ (now : ℕ) (draw : Draw) (old new : Moment) (status : ℕ) where
     gone = λ t conforming. wrote (Gc grace expire) _ (λ text p. let swept = gc_done now draw old.outside new.outside text p t in record { swept = swept; deleted = gc_deleted (times_of now grace expire) swept.lines swept.swept conforming }) r;
   }
 
-  service_tells : (address : List ℕ) (count : ℕ) → Ran (Metadata address count) → WritesNothing status old new
+  service_tells : (address : List ℕ) (count : ℕ) → Ran (Metadata address count) → WritesNoOutput status old new
   service_tells address count r = wrote (Metadata address count) _ (λ text p. service_printed address count now draw (intent_of (Metadata address count) now draw) old.outside new.outside text p) r
 
   demo_tells : (count : ℕ) → Ran (Demo count) → TellsDemo count status old new
@@ -199,22 +199,22 @@ module _ (now : ℕ) (draw : Draw) (old new : Moment) (status : ℕ) where
   demo_tells count (inl r) = by (does_demo count now draw (intent_of (Demo count) now draw) old.outside new.outside r.outcome r.performs)
     where
       by : EndsDemo count r.outcome → TellsDemo count status old new
-      by (inr e) = inl (r.is ∙ ap end_status ((subst (λ (o : Outcome). Printed o old.out new.out r.end) e r.printed).refused.0))
+      by (inr e) = inl (r.is ∙ ap end_status ((subst (λ (o : CommandOutcome). Printed o old.out new.out r.end) e r.printed).refused.0))
       by (inl e) = elim (answered r.outcome old new r.end status r.printed r.reported r.is) [
         | inl x ↦ inl x
         | inr (inl x) ↦ inr (inl x.0)
-        | inr (inr x) ↦ inr (inr (subst (λ (o : Outcome). IsAnswer o status old new) e x))
+        | inr (inr x) ↦ inr (inr (subst (λ (o : CommandOutcome). IsAnswer o status old new) e x))
       ]
 
 -- of each command
-pub tells : {task : Task} {now : ℕ} {draw : Draw} {old new : Moment} {status : ℕ} → RunIs task now draw old new status → (command_in task).tells now draw status old new
+pub tells : {task : Task} {now : ℕ} {draw : Draw} {old new : Moment} {status : ℕ} → IsRunOfTask task now draw old new status → (command_in task).tells now draw status old new
 tells {task} {now} {draw} {old} {new} {status} run = by task run
   where
     -- a command that starts no apps has its plain status
-    alone : (task : Task) (run : RunIs task now draw old new status) → runs_apps task ≡ false → (command_in task).tells now draw run.plain old new → (command_in task).tells now draw status old new
+    alone : (task : Task) (run : IsRunOfTask task now draw old new status) → runs_apps task ≡ false → (command_in task).tells now draw run.plain old new → (command_in task).tells now draw status old new
     alone task run none so = subst (λ (n : ℕ). (command_in task).tells now draw n old new) (sym (unhurt task run.plain status run.is none)) so
 
-    by : (task : Task) → RunIs task now draw old new status → (command_in task).tells now draw status old new
+    by : (task : Task) → IsRunOfTask task now draw old new status → (command_in task).tells now draw status old new
     by (Status word pod) run = alone (Status word pod) run refl
         (report_tells now draw old new run.plain (status_report pod) (Status word pod) refl (λ me a b c d earlier later begins ends. status_wider me a b c d earlier later begins ends pod) (λ o i s. s.ran.says) run.ran)
     by PodList run = alone PodList run refl (report_tells now draw old new run.plain list_report PodList refl lines_wider (λ o i s. s.ran.says) run.ran)

@@ -19,9 +19,10 @@ use Rattle.dir_trait.specs.Knowledge.{Knows}
 use Rattle.lifecycle.specs.Executions.{IsConforming}
 use Rattle.phase_read.specs.declared.found.LookError.{LookError}
 use Rattle.pod_lookup.specs.Choice.{sequential_resolve}
+use Rattle.pod_lookup.proofs.QuietLook.{lists_harmless}
 use Rattle.command_outcomes.specs.declared.refusal.Refusal.{Refusal}
 use Rattle.command_outcomes.specs.declared.refusal.Refusal.TheVariants.{NoMemory}
-use Rattle.command_outcomes.specs.Conforming.{begun, shown_at, KeepsConforming}
+use Rattle.command_outcomes.specs.Conforming.{seen_at_begin, dir_at_moment, KeepsConforming}
 use Rattle.command_outcomes.specs.Moments.{DirSeen, Outside}
 use Rattle.command_outcomes.proofs.Seen.{rose_wider}
 use Rattle.commands.specs.NextState.{LeavesAll, is_nowhere}
@@ -29,10 +30,10 @@ use Rattle.commands.specs.Opening.{looks_by, approach_of, Looks, opens}
 use Rattle.commands.proofs.Changes.{looks_change}
 use Rattle.commands.proofs.NextState.{leaves_beside}
 use Rattle.commands.proofs.OwnSteps.{in_process, whole_process}
-use Rattle.commands.proofs.Starts.{look_extends, look_lists, lists_is_harmless}
+use Rattle.commands.proofs.Starts.{look_extends, look_lists}
 use Rattle.rkt_cli.specs.declared.line.Line.{Line}
 use Rattle.rkt_cli.specs.Histories.{IsNewDraw, StaysLawful}
-use Rattle.rkt_cli.specs.Lookups.{LookedInVain, NeverCame}
+use Rattle.rkt_cli.specs.Lookups.{LookedInVain, NeverReachedItsPod}
 use Rattle.rkt_cli.specs.Tasks.{ImageList}
 use Rattle.rkt_cli.proofs.Conforming.{performed_keeps}
 use Rattle.rkt_cli.proofs.Lawful.{HasDraw, began_since, its_draw, lawful_by, lawful_refused, lists_no_begin}
@@ -60,13 +61,13 @@ module _ {word : List ℕ} {intent : Intent} {old new : DirSeen} {refusal : Refu
   vain_extends asked begins looks finishes = and_more (and_more (first_part asked begins) refl (extends_wider looks look_part)) refl (last_part asked finishes)
 
   -- it keeps the local rules
-  vain_knows : Knows (shown_at v.looked) (begun intent)
+  vain_knows : Knows (dir_at_moment v.looked) (seen_at_begin intent)
   vain_knows = v.comes.knows (v.told ∙ t) intent (v.knew t)
 
   pub vain_keeps : Conforms me new.trace
   vain_keeps =
-      let tied : IsTied me v.looked.trace (begun intent) = subst (λ (p : ℕ). IsTied p v.looked.trace (begun intent)) (v.comes.same ∙ v.me) vain_knows.tied in
-      let after : IsTied me new.trace (seen_replied (begun intent) Finish Done) = tied_call tied refl refl refl (v.finishes t) in
+      let tied : IsTied me v.looked.trace (seen_at_begin intent) = subst (λ (p : ℕ). IsTied p v.looked.trace (seen_at_begin intent)) (v.comes.same ∙ v.me) vain_knows.tied in
+      let after : IsTied me new.trace (seen_replied (seen_at_begin intent) Finish Done) = tied_call tied refl refl refl (v.finishes t) in
       after.conforms refl
 
   -- where nobody else steps
@@ -113,7 +114,7 @@ module _ {word : List ℕ} {intent : Intent} {old new : DirSeen} {refusal : Refu
     vain_leaves =
         let whole : Extends (in_process (is_look_at (λ spot. false))) me old.trace new.trace =
         whole_process (and_more (first_part opens refl) refl (extends_wider (λ r h. ap (λ b. b || is_begin r) (look_lists (approach_of word) r h)) look_part)) (nothing_yet {asks = is_look_at (λ spot. false)}) (last_part is_finish refl) in
-        let same = end_quiet (vain_extends is_harmless refl (λ r h. lists_is_harmless r (look_lists (approach_of word) r h)) refl) quiet vain_idle in
+        let same = end_quiet (vain_extends is_harmless refl (λ r h. lists_harmless r (look_lists (approach_of word) r h)) refl) quiet vain_idle in
         record {
           same = record { folders = same.folders; owned = same.owned };
           beside = leaves_beside is_nowhere (is_look_at (λ spot. false)) (looks_change (λ spot. false)) whole quiet;
@@ -123,11 +124,11 @@ module _ {word : List ℕ} {intent : Intent} {old new : DirSeen} {refusal : Refu
 pub vain_rose : {word : List ℕ} {intent : Intent} {old new : DirSeen} {refusal : Refusal} (v : LookedInVain word intent old new refusal) → Rose v.begun.faults v.looked.faults → Rose old.faults new.faults
 vain_rose {word} {intent} {old} {new} v rose = rose_wider old.faults v.begun.faults v.looked.faults new.faults v.risen rose v.faults
 
-module _ (line : Line) (now : ℕ) (draw : Draw) {old new : Outside} {refusal : Refusal} (why : NeverCame line now draw old new refusal) (t : old.dir.observed ≡ true) where
+module _ (line : Line) (now : ℕ) (draw : Draw) {old new : Outside} {refusal : Refusal} (why : NeverReachedItsPod line now draw old new refusal) (t : old.dir.observed ≡ true) where
   pub never_keeps : KeepsConforming old.dir new.dir
   never_keeps before = by why
     where
-      by : NeverCame line now draw old new refusal → Conforms old.dir.process new.dir.trace
+      by : NeverReachedItsPod line now draw old new refusal → Conforms old.dir.process new.dir.trace
       by (inl x) = subst (λ (d : DirSeen). Conforms old.dir.process d.trace) (sym x.1) before
       by (inr (inl x)) = performed_keeps ImageList now draw old new (Err NoMemory) t (Some x.0) (inr x.3) before
       by (inr (inr x)) = vain_keeps x.4 t
@@ -135,7 +136,7 @@ module _ (line : Line) (now : ℕ) (draw : Draw) {old new : Outside} {refusal : 
   pub never_lawful : StaysLawful draw old.dir new.dir
   never_lawful quiet conforming fresh = by why
     where
-      by : NeverCame line now draw old new refusal → IsConforming new.dir.trace
+      by : NeverReachedItsPod line now draw old new refusal → IsConforming new.dir.trace
       by (inl x) = subst (λ (d : DirSeen). IsConforming d.trace) (sym x.1) conforming
       by (inr (inl x)) = lawful_refused ImageList now draw old new (Err NoMemory) t quiet conforming x.0 x.3
       by (inr (inr x)) = vain_began x.4 t quiet draw (its_draw (any_task line) now draw x.2 x.3) conforming fresh

@@ -7,14 +7,14 @@ use Rattle.rkt_cli.specs.Tasks.{Task}
 use Rattle.rkt_cli.specs.Tasks.{Validate}
 use Rattle.command_outcomes.specs.declared.refusal.Refusal.{Refusal}
 use Rattle.command_outcomes.specs.declared.refusal.Refusal.TheVariants.{DirFault, BundleFault, NoMemory}
-use Rattle.command_outcomes.specs.Moments.{DirSeen, BundleSeen, Outcome}
+use Rattle.command_outcomes.specs.Moments.{DirSeen, BundleSeen, CommandOutcome}
 use Rattle.command_outcomes.proofs.Seen.{beside}
 use Rattle.command_outcomes.specs.Ends.{is_own_end}
-use Rattle.commands.specs.Validate.{ValidateSays, ReadsFile, validate_refusal}
+use Rattle.commands.specs.Validate.{ValidateSays, ReadsFileAlone, validate_refusal}
 use Rattle.rkt_cli.specs.Commands.{may}
 use Rattle.rkt_cli.specs.Runs.{CommandRan}
 
-never_dir : (o : Outcome) {X : Type 0} → IfErr o (λ r. validate_refusal r ≡ true) → IsErrOf o DirFault → X
+never_dir : (o : CommandOutcome) {X : Type 0} → IfErr o (λ r. validate_refusal r ≡ true) → IsErrOf o DirFault → X
 never_dir (Ok text) known is = cc
 never_dir (Err r) known is = let e : DirFault ≡ r = cc in let clash : false ≡ true = ap validate_refusal e ∙ known in cc
 
@@ -22,11 +22,11 @@ may_refuse : (path : List ℕ) (r : Refusal) → validate_refusal r ≡ true →
 may_refuse path NoMemory known = known
 may_refuse path r known = known
 
-may_end : (path : List ℕ) (o : Outcome) → IfErr o (λ r. validate_refusal r ≡ true) → IfErr o (λ r. may (Validate path) r ≡ true)
+may_end : (path : List ℕ) (o : CommandOutcome) → IfErr o (λ r. validate_refusal r ≡ true) → IfErr o (λ r. may (Validate path) r ≡ true)
 may_end path (Ok text) known = known
 may_end path (Err r) known = may_refuse path r known
 
-pub validate_ran : (line : Task) (now : ℕ) (draw : Draw) (path : List ℕ) (dir : DirSeen) (old new : BundleSeen) (o : Outcome) → line ≡ Validate path → old.faults ≤ new.faults → (IsErrOf o BundleFault → Rose old.faults new.faults) → IfErr o (λ r. validate_refusal r ≡ true) → ReadsFile path old new → (is_own_end o ≡ true → ValidateSays path old o) → CommandRan line now draw (beside dir old) (beside dir new) o
+pub validate_ran : (line : Task) (now : ℕ) (draw : Draw) (path : List ℕ) (dir : DirSeen) (old new : BundleSeen) (o : CommandOutcome) → line ≡ Validate path → old.faults ≤ new.faults → (IsErrOf o BundleFault → Rose old.faults new.faults) → IfErr o (λ r. validate_refusal r ≡ true) → ReadsFileAlone path old new → (is_own_end o ≡ true → ValidateSays path old o) → CommandRan line now draw (beside dir old) (beside dir new) o
 validate_ran line now draw path dir old new o is faults cause known reads says = subst (λ (l : Task). CommandRan l now draw (beside dir old) (beside dir new) o) (sym is) ran
   where
     ran : CommandRan (Validate path) now draw (beside dir old) (beside dir new) o

@@ -7,8 +7,8 @@ use Rattle.dir_model.specs.declared.request.Request.{Request}
 use Rattle.dir_trait.specs.State.{DirState}
 use Rattle.command_outcomes.specs.declared.refusal.Refusal.{Refusal}
 use Rattle.command_outcomes.specs.declared.refusal.Refusal.TheVariants.{Usage, DirFault, BundleFault, SpawnFault, OutFault, NoMemory}
-use Rattle.command_outcomes.specs.Moments.{BundleSeen, Outside, Inside, Moment, Outcome, Answer, is_well}
-use Rattle.commands.specs.Command.{Command, Saying, alone, running, begins_any, reads_any, starts_any, IsRead}
+use Rattle.command_outcomes.specs.Moments.{BundleSeen, Outside, Inside, Moment, CommandOutcome, Answer, is_well}
+use Rattle.commands.specs.Command.{Command, Saying, alone, running, begins_any, reads_any, starts_any, IsReadFromBundle}
 use Rattle.commands.specs.StatusCommand.{status_command}
 use Rattle.commands.specs.ListCommand.{list_command}
 use Rattle.commands.specs.CatManifestCommand.{cat_manifest_command}
@@ -108,7 +108,7 @@ may task OutFault = false
 may task refusal = (command_in task).refusals refusal
 
 -- what it did, where it came to an end of its own. What a command did that starts apps is told with the spawner
-abbrev pub SaysAlone : Saying → ℕ → Draw → Outside → Outside → Outcome → Type 0
+abbrev pub SaysAlone : Saying → ℕ → Draw → Outside → Outside → CommandOutcome → Type 0
 SaysAlone (alone says) now draw old new o = says now draw old new o
 SaysAlone (running says) now draw old new o = Unit {0}
 
@@ -116,19 +116,19 @@ abbrev pub SaysRunning : Saying → ℕ → Draw → Inside → Inside → Answe
 SaysRunning (alone says) now draw old new answer = is_well answer ≡ true
 SaysRunning (running says) now draw old new answer = says now draw old new answer
 
-abbrev pub CommandSays : Task → ℕ → Draw → Outside → Outside → Outcome → Type 0
+abbrev pub CommandSays : Task → ℕ → Draw → Outside → Outside → CommandOutcome → Type 0
 CommandSays task = SaysAlone (command_in task).says
 
 -- of a pod and its apps. A command that starts none says that all is well
-abbrev pub Came : Task → ℕ → Draw → Inside → Inside → Answer → Type 0
-Came task = SaysRunning (command_in task).says
+abbrev pub TellsOfItsApps : Task → ℕ → Draw → Inside → Inside → Answer → Type 0
+TellsOfItsApps task = SaysRunning (command_in task).says
 
 -- what it reads of the bundle
 abbrev pub ReadsOnly : Task → BundleSeen → BundleSeen → Type 0
-ReadsOnly task = IsRead (command_in task).reads
+ReadsOnly task = IsReadFromBundle (command_in task).reads
 
 -- what it comes to where nobody else steps, and what it leaves then
-abbrev pub ComesQuietly : Task → ℕ → Draw → Moment → Moment → Outcome → Type 0
+abbrev pub ComesQuietly : Task → ℕ → Draw → Moment → Moment → CommandOutcome → Type 0
 ComesQuietly task = (command_in task).quiet
 
 abbrev pub LeavesQuietly : Task → ℕ → Draw → DirState → DirState → Type 0

@@ -1,7 +1,7 @@
 -- `demo N`, as a whole run of it.
 use Rattle.std.specs.Prelude.{◌≡◌, ◌⊎◌, ℕ, false, None, Ok, Err}
 use Rattle.command_outcomes.specs.declared.refusal.Refusal.TheVariants.{NoMemory}
-use Rattle.command_outcomes.specs.Moments.{Moment, Outcome}
+use Rattle.command_outcomes.specs.Moments.{Moment, CommandOutcome}
 use Rattle.commands.specs.Answers.{IsAnswer}
 use Rattle.commands.specs.Command.{Command, nothing, alone}
 use Rattle.commands.specs.Opening.{directly}
@@ -9,7 +9,7 @@ use Rattle.commands.specs.Phases.{names_none}
 use Rattle.demo_line.specs.Numbers.{demo_line}
 
 -- the line of its numbers, or memory ran out
-abbrev pub EndsDemo : ℕ → Outcome → Type 0
+abbrev pub EndsDemo : ℕ → CommandOutcome → Type 0
 EndsDemo count o = (o ≡ Ok (demo_line count)) ⊎ (o ≡ Err NoMemory)
 
 -- it answers so; or the line wasn't written

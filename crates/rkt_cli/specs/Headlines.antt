@@ -6,7 +6,7 @@ use Rattle.dir_trait.specs.DirCalls.{DirAt}
 use Rattle.headline.specs.Keeping.{KeepsHeadline}
 use Rattle.rkt_cli.specs.declared.line.Line.{Line}
 use Rattle.rkt_cli.specs.Commands.{intent_in}
-use Rattle.rkt_cli.specs.Promises.{AsksOnly}
+use Rattle.rkt_cli.specs.Promises.{AsksByItsLine}
 
 -- what its process says when it begins; words that are no line begin none
 abbrev pub intent_said : Option Line → ℕ → Draw → Option Intent
@@ -16,4 +16,4 @@ intent_said (Some line) now draw = intent_in line now draw
 -- it asks for what its words ask for, begins with what they say, keeps the rules, and makes what it hands over faithfully; and where all
 -- processes do so, the headline holds at each moment until then
 abbrev pub KeepsTheHeadline : Option Line → ℕ → Draw → DirAt → DirAt → Type 0
-KeepsTheHeadline line now draw old new = KeepsHeadline (AsksOnly line now draw) (intent_said line now draw) old new
+KeepsTheHeadline line now draw old new = KeepsHeadline (AsksByItsLine line now draw) (intent_said line now draw) old new

@@ -11,18 +11,18 @@ use Rattle.dir_trait.specs.DirCalls.{DirAt}
 use Rattle.dir_trait.specs.Knowledge.{Knows}
 use Rattle.pod_build.specs.FaithfulBuild.{HandsOverFaithfully}
 use Rattle.lifecycle.specs.Executions.{IsConforming}
-use Rattle.command_outcomes.specs.Conforming.{begun}
+use Rattle.command_outcomes.specs.Conforming.{seen_at_begin}
 use Rattle.command_outcomes.specs.Moments.{DirSeen}
 use Rattle.rkt_cli.specs.Tasks.{Task}
 use Rattle.rkt_cli.specs.Commands.{intent_of}
 
 -- in every run: whatever pod the process handed over meanwhile, to prepared or to run, it had made faithfully
-abbrev pub HandsOver : DirAt → DirAt → Type 0
-HandsOver old new = IsRun new.trace → HandsOverFaithfully old.process old.trace new.trace
+abbrev pub HandsOverFaithfulPods : DirAt → DirAt → Type 0
+HandsOverFaithfulPods old new = IsRun new.trace → HandsOverFaithfully old.process old.trace new.trace
 
 -- it is so where the process has just begun with the intent of its task
 abbrev pub WhereKnown : Task → ℕ → Draw → DirAt → Type 0 → Type 0
-WhereKnown task now draw old P = (intent : Intent) → intent_of task now draw ≡ Some intent → Knows old (begun intent) → P
+WhereKnown task now draw old P = (intent : Intent) → intent_of task now draw ≡ Some intent → Knows old (seen_at_begin intent) → P
 
 -- no process before had this draw: neither its identity nor its token
 pub record IsNewDraw (draw : Draw) (trace : List Event) : Type 0 where

@@ -38,16 +38,16 @@ line_read (Ok words) = Some (known_line words)
 line_read (Err place) = None
 
 -- of the words as the program has them
-abbrev pub line_in : List (String Global) → Option Line
-line_in words = line_read (line_of (map string_bytes words))
+abbrev pub line_of_arguments : List (String Global) → Option Line
+line_of_arguments words = line_read (line_of (map string_bytes words))
 
 -- a demo has a hundred images at most
-abbrev pub IsWithin : Line → Type 0
-IsWithin (Demo count) = count ≤ 100
-IsWithin line = Unit {0}
+abbrev pub IsWithinLimits : Line → Type 0
+IsWithinLimits (Demo count) = count ≤ 100
+IsWithinLimits line = Unit {0}
 
 -- what was read is the line; usage says that there is none; memory may run out at any words
-abbrev pub IsReading : Option Line → Result Line WordsError → Type 0
-IsReading line (Ok read) = line ≡ Some read
-IsReading line (Err (Usage place)) = line ≡ None
-IsReading line (Err NoMemory) = Unit {0}
+abbrev pub IsLineRead : Option Line → Result Line WordsError → Type 0
+IsLineRead line (Ok read) = line ≡ Some read
+IsLineRead line (Err (Usage place)) = line ≡ None
+IsLineRead line (Err NoMemory) = Unit {0}

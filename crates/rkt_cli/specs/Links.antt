@@ -9,7 +9,7 @@ use Rattle.dir_trait.specs.DirCalls.{DirAt}
 use Rattle.listener.specs.Connections.{ListenerAt}
 use Rattle.metadata.specs.Service.{Served, ServesAt}
 use Rattle.command_outcomes.specs.declared.refusal.Refusal.TheVariants.{NoMemory}
-use Rattle.command_outcomes.specs.Texts.{status_of}
+use Rattle.command_outcomes.specs.Texts.{exit_status_of}
 use Rattle.command_outcomes.specs.Moments.{Answer}
 use Rattle.commands.specs.Command.{intent_for}
 use Rattle.commands.specs.MetadataService.{service_refusal}
@@ -23,7 +23,7 @@ service_answer (Err error) = Err (service_refusal error)
 
 abbrev pub service_status : Served → ℕ
 service_status (Ok done) = 0
-service_status (Err error) = status_of (service_refusal error)
+service_status (Err error) = exit_status_of (service_refusal error)
 
 -- what a command does between the begin and the finish of its process, with its answer
 abbrev pub LinksBetween : Line → Draw → Answer → ListenerAt → ListenerAt → DirAt → DirAt → Type 0

@@ -7,7 +7,7 @@ use Rattle.dir_model.specs.Trace.{state_after}
 use Rattle.dir_trait.specs.DirCalls.{DirAt}
 use Rattle.lifecycle.specs.Executions.{IsConforming}
 use Rattle.listener.specs.Connections.{ListenerAt, Binds}
-use Rattle.metadata.specs.Service.{Served, EndsWith, Refuses}
+use Rattle.metadata.specs.Service.{Served, EndsWith, ListenerRefuses}
 use Rattle.running_views.specs.Replies.{ServesIn}
 use Rattle.rkt_cli.specs.declared.line.Line.{Line}
 use Rattle.rkt_cli.specs.declared.line.Line.TheVariants.{Metadata}
@@ -25,7 +25,7 @@ pub record ListensAndServesIn (s : DirState) (key address : List ℕ) (count : �
 
 -- or the address was refused
 abbrev pub ServesAtIn : DirState → List ℕ → List ℕ → ℕ → Served → ListenerAt → ListenerAt → Type 0
-ServesAtIn s key address count served old new = ListensAndServesIn s key address count served old new ⊎ Refuses served old new
+ServesAtIn s key address count served old new = ListensAndServesIn s key address count served old new ⊎ ListenerRefuses served old new
 
 -- so of a run of the service, by its words and its status; or it didn't begin, for want of memory
 abbrev pub LinksByState : Option Line → Draw → ℕ → ListenerAt → ListenerAt → DirState → Type 0

@@ -3,7 +3,7 @@ use Rattle.std.specs.Prelude.{ℕ, List, Option, Some, None}
 use Rattle.rkt_cli.specs.declared.line.Line.{Line}
 use Rattle.rkt_cli.specs.declared.line.Line.TheVariants.{Validate, ImageImport}
 
-abbrev pub path_of : Line → Option (List ℕ)
-path_of (Validate path) = Some path
-path_of (ImageImport path) = Some path
-path_of line = None
+abbrev pub path_of_line : Line → Option (List ℕ)
+path_of_line (Validate path) = Some path
+path_of_line (ImageImport path) = Some path
+path_of_line line = None

@@ -4,7 +4,7 @@ use Rattle.std.specs.List.{count_by}
 use Rattle.dir_model.specs.Local.{nothing_local}
 use Rattle.command_outcomes.specs.declared.told.Told.{Told}
 use Rattle.command_outcomes.specs.Moments.{BundleSeen, Outside, SpawnerSeen, dir_seen}
-use Rattle.dir_memory.specs.Memories.{Memory, passed_on, shown_of}
+use Rattle.dir_memory.specs.Memories.{Memory, passed_on, dir_of_memory}
 use Rattle.dir_memory.specs.MemoryBundles as bundles
 use Rattle.dir_memory.specs.MemoryBundles.{BundleMemory}
 use Rattle.memory_spawner.specs.SpawnerMemories as spawners
@@ -18,30 +18,30 @@ use Rattle.rkt_cli.specs.Turns.{turns}
 
 -- what is seen of a bundle in memory, of a folder with one, and of a spawner
 abbrev pub bundle_seen : BundleMemory → BundleSeen
-bundle_seen b = record { observed = true; tree = (bundles.shown_of b).tree; faults = (bundles.shown_of b).faults; given = (bundles.shown_of b).given; asked = (bundles.shown_of b).asked }
+bundle_seen b = record { observed = true; tree = (bundles.bundle_of_memory b).tree; faults = (bundles.bundle_of_memory b).faults; given = (bundles.bundle_of_memory b).given; asked = (bundles.bundle_of_memory b).asked }
 
 abbrev pub outside_of : Memory → BundleMemory → Outside
-outside_of dir bundle = record { dir = dir_seen true (shown_of dir); bundle = bundle_seen bundle }
+outside_of dir bundle = record { dir = dir_seen true (dir_of_memory dir); bundle = bundle_seen bundle }
 
 abbrev pub spawner_seen : SpawnerMemory → SpawnerSeen
-spawner_seen s = record { observed = true; shown = spawners.shown_of s }
+spawner_seen s = record { observed = true; shown = spawners.spawner_of_memory s }
 
 -- what a command told: one more failed where not all went well, and so many lines its text has
 abbrev pub failed_after : ℕ → Bool → ℕ
 failed_after failed well = failed + (if well then 0 else 1)
 
-abbrev pub lines_of : List ℕ → ℕ
-lines_of text = count_by (λ b. b == 10) text
+abbrev pub count_of_lines : List ℕ → ℕ
+count_of_lines text = count_by (λ b. b == 10) text
 
 -- it is noted what was told, and the folder is passed on to the next process
 pub record HasPassedOn (told : Told) (old new : Stage) : Type 0 where
   pub process : ℕ
   pub dir : new.dir ≡ passed_on old.dir process
   pub failed : new.failed ≡ failed_after old.failed told.well
-  pub lines : new.lines ≡ lines_of told.text
+  pub lines : new.lines ≡ count_of_lines told.text
 
 -- the command was performed between two moments, and done
-pub record Went (turn : Turn) (old new : Stage) : Type 0 where
+pub record TurnWasPlayed (turn : Turn) (old new : Stage) : Type 0 where
   pub told : Told
   pub dir : Memory
   pub bundle : BundleMemory
@@ -52,7 +52,7 @@ pub record Went (turn : Turn) (old new : Stage) : Type 0 where
 -- each of the commands in turn, on what those before it left
 abbrev pub Plays : List Turn → Stage → Stage → Type 0
 Plays [] old new = new ≡ old
-Plays (turn ∷ turns) old new = (mid : Stage) × Went turn old mid × Plays turns mid new
+Plays (turn ∷ turns) old new = (mid : Stage) × TurnWasPlayed turn old mid × Plays turns mid new
 
 -- an empty data folder, on which no process began
 abbrev pub empty_stage : Stage

@@ -16,22 +16,22 @@ use Rattle.dir_trait.specs.Trace.{state_after}
 use Rattle.phase_read.specs.declared.found.LookError.{LookError}
 use Rattle.pod_lookup.specs.Choice.{sequential_resolve}
 use Rattle.rkt_cli.specs.declared.line.Line.{Line}
-use Rattle.rkt_cli.specs.Tasks.{Task, task_of, word_of}
-use Rattle.rkt_cli.specs.Lookups.{OfPod, CameToNothing, lookup_refusal}
+use Rattle.rkt_cli.specs.Tasks.{Task, task_of, pod_word_of}
+use Rattle.rkt_cli.specs.Lookups.{OfPod, RefusedBeforeItsPod, lookup_refusal}
 use Rattle.command_outcomes.specs.declared.refusal.Refusal.{Refusal}
 use Rattle.command_outcomes.specs.declared.refusal.Refusal.TheVariants.{Usage, DirFault, BundleFault, SpawnFault, OutFault, NoMemory}
-use Rattle.command_outcomes.specs.Texts.{status_of}
-use Rattle.command_outcomes.specs.Moments.{BundleSeen, SinkSeen, Outside, Moment, Outcome}
+use Rattle.command_outcomes.specs.Texts.{exit_status_of}
+use Rattle.command_outcomes.specs.Moments.{BundleSeen, SinkSeen, Outside, Moment, CommandOutcome}
 use Rattle.commands.specs.Answers.{Complained, IsAnswer}
 use Rattle.commands.specs.Command.{Command, begins_any, reads_any, starts_any}
 use Rattle.commands.specs.NextState.{LeavesAll}
 use Rattle.commands.specs.Opening.{approach_of, looks_by}
 use Rattle.rkt_cli.specs.Commands.{command_in, any_task, uses_dir, uses_dir_in, reads_bundle, reads_bundle_in, runs_apps, runs_apps_in, intent_in, looks, asks, ReadsOnly}
-use Rattle.rkt_cli.specs.Runs.{RunIs, RunOfNothing, ended_local, Graded}
+use Rattle.rkt_cli.specs.Runs.{IsRunOfTask, RunsNoCommand, ended_local, IsStatusWithApps}
 
 -- the exit statuses
-abbrev pub IsStatus : ℕ → Type 0
-IsStatus status = list_any (λ n. n == status) (0 ∷ 1 ∷ 2 ∷ 3 ∷ 4 ∷ 5 ∷ 6 ∷ 7 ∷ 8 ∷ 9 ∷ 10 ∷ 11 ∷ 12 ∷ 13 ∷ 14 ∷ 15 ∷ 16 ∷ 17 ∷ 18 ∷ 19 ∷ 20 ∷ []) ≡ true
+abbrev pub IsExitStatus : ℕ → Type 0
+IsExitStatus status = list_any (λ n. n == status) (0 ∷ 1 ∷ 2 ∷ 3 ∷ 4 ∷ 5 ∷ 6 ∷ 7 ∷ 8 ∷ 9 ∷ 10 ∷ 11 ∷ 12 ∷ 13 ∷ 14 ∷ 15 ∷ 16 ∷ 17 ∷ 18 ∷ 19 ∷ 20 ∷ []) ≡ true
 
 -- the status of a command that was done: 16 only of one that starts apps, of which some ended with another status than 0
 abbrev pub DoneWith : Bool → ℕ → Type 0
@@ -54,7 +54,7 @@ RefusedFor c now draw refusal old new = c.refused_for now draw refusal old new
 -- it was refused so, with that refusal's status and message, and for its cause
 pub record IsRefused (task : Task) (now : ℕ) (draw : Draw) (status : ℕ) (old new : Moment) : Type 0 where
   pub refusal : Refusal
-  pub is : status ≡ status_of refusal
+  pub is : status ≡ exit_status_of refusal
   pub said : Complained refusal old.err new.err
   pub cause : RefusedFor (command_in task) now draw refusal old new
 
@@ -64,16 +64,16 @@ Ends task now draw status old new = (DoneWith (runs_apps task) status × (new.er
 
 -- words that are no command are refused as such, or memory ran out
 abbrev pub EndsUnread : ℕ → Moment → Moment → Type 0
-EndsUnread status old new = RunOfNothing Usage old new status ⊎ RunOfNothing NoMemory old new status
+EndsUnread status old new = RunsNoCommand Usage old new status ⊎ RunsNoCommand NoMemory old new status
 
 abbrev pub IsEnded : Option Line → ℕ → Draw → ℕ → Moment → Moment → Type 0
 IsEnded None now draw status old new = EndsUnread status old new
-IsEnded (Some line) now draw status old new = OfPod line draw (λ task. Ends task now draw status old new) ⊎ CameToNothing line now draw old new status
+IsEnded (Some line) now draw status old new = OfPod line draw (λ task. Ends task now draw status old new) ⊎ RefusedBeforeItsPod line now draw old new status
 
 -- what is told with the status
 abbrev pub TellsIn : Option Line → ℕ → Draw → ℕ → Moment → Moment → Type 0
 TellsIn None now draw status old new = EndsUnread status old new
-TellsIn (Some line) now draw status old new = OfPod line draw (λ task. (command_in task).tells now draw status old new) ⊎ CameToNothing line now draw old new status
+TellsIn (Some line) now draw status old new = OfPod line draw (λ task. (command_in task).tells now draw status old new) ⊎ RefusedBeforeItsPod line now draw old new status
 
 -- the process's own requests: its begin, a look for its pod, those of the command, its finish
 abbrev pub asks_all : Task → ℕ → Draw → Request → Bool
@@ -85,14 +85,14 @@ looks_for None request = false
 looks_for (Some word) request = looks_by (approach_of word) request
 
 abbrev pub looks_in : Line → Request → Bool
-looks_in line = looks_for (word_of line)
+looks_in line = looks_for (pod_word_of line)
 
 abbrev pub opens_in : Line → Request → Bool
 opens_in line request = looks_in line request || (is_begin request || is_finish request)
 
-abbrev pub AsksOnly : Option Line → ℕ → Draw → ℕ → List Event → List Event → Type 0
-AsksOnly None now draw me old new = new ≡ old
-AsksOnly (Some line) now draw me old new = OfPod line draw (λ task. Extends (asks_all task now draw) me old new) ⊎ Extends (opens_in line) me old new
+abbrev pub AsksByItsLine : Option Line → ℕ → Draw → ℕ → List Event → List Event → Type 0
+AsksByItsLine None now draw me old new = new ≡ old
+AsksByItsLine (Some line) now draw me old new = OfPod line draw (λ task. Extends (asks_all task now draw) me old new) ⊎ Extends (opens_in line) me old new
 
 -- a text that the command prints
 abbrev pub Prints : Option Line → Draw → BundleSeen → List ℕ → Type 0
@@ -100,14 +100,14 @@ Prints None draw bundle text = ⊥
 Prints (Some line) draw bundle text = OfPod line draw (λ task. (command_in task).prints draw bundle text)
 
 -- where it was done the command's text was written, with 12 and 14 a part of it from its start or nothing, and else nothing
-abbrev pub Writes : Bool → (List ℕ → Type 0) → ℕ → List ℕ → List ℕ → Type 0
-Writes runs P status old new =
+abbrev pub WritesItsText : Bool → (List ℕ → Type 0) → ℕ → List ℕ → List ℕ → Type 0
+WritesItsText runs P status old new =
     (DoneWith runs status × (text : List ℕ) × P text × (new ≡ old ++ text))
     ⊎ (((status ≡ 12) ⊎ (status ≡ 14)) × (text : List ℕ) × P text × WritesPart old text new)
     ⊎ ((((status == 0) || (status == 16)) ≡ false) × (new ≡ old))
 
 abbrev pub IsOutput : Option Line → Draw → BundleSeen → ℕ → List ℕ → List ℕ → Type 0
-IsOutput line draw bundle status old new = Writes (runs_apps_in line) (Prints line draw bundle) status old new
+IsOutput line draw bundle status old new = WritesItsText (runs_apps_in line) (Prints line draw bundle) status old new
 
 -- a command on the directory leaves a process that has begun so and finished, with nothing open. Where memory ran out
 -- before it began, and for all other words, nothing has changed
@@ -145,14 +145,14 @@ Works old new = Rose old.faults new.faults → ⊥
 -- so it was answered, with this status as if all apps had ended with 0, and so the directory was left
 abbrev pub IsPlainAnswer : Task → ℕ → Draw → ℕ → Moment → Moment → Type 0
 IsPlainAnswer task now draw plain old new =
-    (o : Outcome)
+    (o : CommandOutcome)
     × (command_in task).quiet now draw old new o
     × IsAnswer o plain old new
     × (command_in task).leaves old.outside.dir.process draw (state_after old.outside.dir.trace) (state_after new.outside.dir.trace)
 
 -- with 16 for 0 where an app ended with another status than 0
 abbrev pub AnswersTask : Task → ℕ → Draw → ℕ → Moment → Moment → Type 0
-AnswersTask task now draw status old new = (plain : ℕ) × Graded task plain status × IsPlainAnswer task now draw plain old new
+AnswersTask task now draw status old new = (plain : ℕ) × IsStatusWithApps task plain status × IsPlainAnswer task now draw plain old new
 
 -- by what the line's word means in the state before: the answer of the command on that pod, or that there is none, or more than one
 abbrev pub meaning_in : DirState → Option (List ℕ) → Draw → Result PodId LookError
@@ -168,7 +168,7 @@ AnswersMeaning line now draw (Err error) status old new =
 abbrev pub IsQuietAnswer : Option Line → ℕ → Draw → ℕ → Moment → Moment → Type 0
 IsQuietAnswer None now draw status old new = EndsUnread status old new
 IsQuietAnswer (Some line) now draw status old new =
-    (status ≡ 14) ⊎ AnswersMeaning line now draw (meaning_in (state_after old.outside.dir.trace) (word_of line) draw) status old new
+    (status ≡ 14) ⊎ AnswersMeaning line now draw (meaning_in (state_after old.outside.dir.trace) (pod_word_of line) draw) status old new
 
 -- where of what the command uses all is observed and works, and nobody else steps
 abbrev pub AnswersQuietly : Option Line → ℕ → Draw → ℕ → Moment → Moment → Type 0
@@ -177,4 +177,4 @@ AnswersQuietly line now draw status old new = IsUndisturbed line old.outside new
 -- the whole run, from which all this follows
 abbrev pub IsRunOf : Option Line → ℕ → Draw → Moment → Moment → ℕ → Type 0
 IsRunOf None now draw old new status = EndsUnread status old new
-IsRunOf (Some line) now draw old new status = OfPod line draw (λ task. RunIs task now draw old new status) ⊎ CameToNothing line now draw old new status
+IsRunOf (Some line) now draw old new status = OfPod line draw (λ task. IsRunOfTask task now draw old new status) ⊎ RefusedBeforeItsPod line now draw old new status

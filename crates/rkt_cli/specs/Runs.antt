@@ -13,18 +13,18 @@ use Rattle.dir_trait.specs.Sinks.{WritesPart}
 use Rattle.rkt_cli.specs.Tasks.{Task, MeansItsPod, FindsItsPod}
 use Rattle.command_outcomes.specs.declared.refusal.Refusal.{Refusal}
 use Rattle.command_outcomes.specs.declared.refusal.Refusal.TheVariants.{DirFault, BundleFault, SpawnFault, OutFault, NoMemory}
-use Rattle.command_outcomes.specs.Texts.{status_of}
-use Rattle.command_outcomes.specs.Conforming.{begun as just_begun, shown_at, StaysConforming}
-use Rattle.command_outcomes.specs.Moments.{Outside, Moment, SinkSeen, Outcome, Answer, outcome_of}
+use Rattle.command_outcomes.specs.Texts.{exit_status_of}
+use Rattle.command_outcomes.specs.Conforming.{seen_at_begin as just_begun, dir_at_moment, StaysConforming}
+use Rattle.command_outcomes.specs.Moments.{Outside, Moment, SinkSeen, CommandOutcome, Answer, outcome_of}
 use Rattle.commands.specs.Answers.{inside_in, Complained}
 use Rattle.commands.specs.AppsTold.{TellsApps}
 use Rattle.commands.specs.Command.{Saying, alone, running}
 use Rattle.commands.specs.Opening.{Opens}
-use Rattle.rkt_cli.specs.Spawns.{CameBetween}
+use Rattle.rkt_cli.specs.Spawns.{AppsToldBetween}
 use Rattle.rkt_cli.specs.Commands.{command_in, uses_dir, runs_apps, intent_of, approach_in, asks, may, CommandSays, ReadsOnly}
 
 -- what a command leaves and answers, whichever it is
-pub record CommandRan (task : Task) (now : ℕ) (draw : Draw) (old new : Outside) (o : Outcome) : Type 0 where
+pub record CommandRan (task : Task) (now : ℕ) (draw : Draw) (old new : Outside) (o : CommandOutcome) : Type 0 where
   pub same : new.dir.process ≡ old.dir.process
   pub local : new.dir.local ≡ old.dir.local
   pub faults : old.dir.faults ≤ new.dir.faults
@@ -44,7 +44,7 @@ abbrev pub ended_local : Intent → Local
 ended_local intent = record { intent = Some intent; finished = true; holdings = [] }
 
 -- the process began and came to its pod, the command ran, and the process finished
-pub record InProcess (task : Task) (now : ℕ) (draw : Draw) (intent : Intent) (old new : Outside) (o : Outcome) : Type 0 where
+pub record InProcess (task : Task) (now : ℕ) (draw : Draw) (intent : Intent) (old new : Outside) (o : CommandOutcome) : Type 0 where
   pub uses : uses_dir task ≡ true
   pub begun : Outside
   pub ended : Outside
@@ -55,7 +55,7 @@ pub record InProcess (task : Task) (now : ℕ) (draw : Draw) (intent : Intent) (
   pub meant : MeansItsPod task
   pub begins : old.dir.observed ≡ true → Opens (approach_in task) intent old.dir.process old.dir.trace begun.dir.trace
   pub found : (t : old.dir.observed ≡ true) → FindsItsPod task old.dir.process (begins t).first begun.dir.trace
-  pub knows : old.dir.observed ≡ true → Knows (shown_at begun.dir) (just_begun intent)
+  pub knows : old.dir.observed ≡ true → Knows (dir_at_moment begun.dir) (just_begun intent)
   pub bundle_before : begun.bundle ≡ old.bundle
   pub ran : CommandRan task now draw begun ended o
   pub keeps : old.dir.observed ≡ true → StaysConforming intent begun.dir ended.dir
@@ -66,7 +66,7 @@ pub record InProcess (task : Task) (now : ℕ) (draw : Draw) (intent : Intent) (
   pub bundle_after : new.bundle ≡ ended.bundle
 
 -- it couldn't begin, and called nothing more
-pub record NeverBegan (intent : Intent) (old new : Outside) (o : Outcome) : Type 0 where
+pub record NeverBegan (intent : Intent) (old new : Outside) (o : CommandOutcome) : Type 0 where
   pub is : o ≡ Err NoMemory
   pub same : new.dir.process ≡ old.dir.process
   pub local : new.dir.local ≡ old.dir.local
@@ -75,12 +75,12 @@ pub record NeverBegan (intent : Intent) (old new : Outside) (o : Outcome) : Type
   pub bundle : new.bundle ≡ old.bundle
 
 -- the command ran, and made no call on the directory
-pub record Apart (task : Task) (now : ℕ) (draw : Draw) (old new : Outside) (o : Outcome) : Type 0 where
+pub record Apart (task : Task) (now : ℕ) (draw : Draw) (old new : Outside) (o : CommandOutcome) : Type 0 where
   pub apart : uses_dir task ≡ false
   pub dir : new.dir ≡ old.dir
   pub ran : CommandRan task now draw old new o
 
-abbrev pub Performs : Task → ℕ → Draw → Option Intent → Outside → Outside → Outcome → Type 0
+abbrev pub Performs : Task → ℕ → Draw → Option Intent → Outside → Outside → CommandOutcome → Type 0
 Performs task now draw None old new o = Apart task now draw old new o
 Performs task now draw (Some intent) old new o = InProcess task now draw intent old new o ⊎ NeverBegan intent old new o
 
@@ -90,7 +90,7 @@ End = Result (Unit {0}) Refusal
 
 abbrev pub end_status : End → ℕ
 end_status (Ok done) = 0
-end_status (Err refusal) = status_of refusal
+end_status (Err refusal) = exit_status_of refusal
 
 -- the same, with whether all went well where the text was written; and then the status
 abbrev pub end_of_writing : Result Bool Refusal → End
@@ -100,14 +100,14 @@ end_of_writing (Err refusal) = Err refusal
 abbrev pub status_at : Result Bool Refusal → ℕ
 status_at (Ok true) = 0
 status_at (Ok false) = 16
-status_at (Err refusal) = status_of refusal
+status_at (Err refusal) = exit_status_of refusal
 
 -- why a text wasn't written whole
 abbrev pub Unwritten : Refusal → SinkSeen → SinkSeen → Type 0
 Unwritten refusal old new = ((refusal ≡ OutFault) × Rose old.faults new.faults) ⊎ ((refusal ≡ NoMemory) × Rose old.shortages new.shortages)
 
 -- the outcome's text was written to the output, or why not
-pub record Printed (o : Outcome) (old new : SinkSeen) (end : End) : Type 0 where
+pub record Printed (o : CommandOutcome) (old new : SinkSeen) (end : End) : Type 0 where
   pub faults : old.faults ≤ new.faults
   pub done : end ≡ Ok tt → (text : List ℕ) × (o ≡ Ok text) × (old.observed ≡ true → new.bytes ≡ old.bytes ++ text)
   pub refused : IfErr o (λ r. (end ≡ Err r) × (old.observed ≡ true → new.bytes ≡ old.bytes))
@@ -122,9 +122,9 @@ Reported (Err refusal) old new = Complained refusal old new
 -- the words are a command, and it ran
 pub record RunOfLine (task : Task) (now : ℕ) (draw : Draw) (intent : Option Intent) (old new : Moment) (status : ℕ) : Type 0 where
   pub answer : Answer
-  pub outcome : Outcome
+  pub outcome : CommandOutcome
   pub outcome_is : outcome ≡ outcome_of answer
-  pub came : CameBetween task now draw intent (inside_in old) (inside_in new) answer
+  pub came : AppsToldBetween task now draw intent (inside_in old) (inside_in new) answer
   pub spawn_cause : outcome ≡ Err SpawnFault → Rose old.spawner.shown.faults new.spawner.shown.faults
   pub end : End
   pub performs : Performs task now draw intent old.outside new.outside outcome
@@ -133,16 +133,16 @@ pub record RunOfLine (task : Task) (now : ℕ) (draw : Draw) (intent : Option In
   pub is : status ≡ end_status end
 
 -- no command ran, for this reason: nothing but the error output was called
-pub record RunOfNothing (reason : Refusal) (old new : Moment) (status : ℕ) : Type 0 where
-  pub is : status ≡ status_of reason
+pub record RunsNoCommand (reason : Refusal) (old new : Moment) (status : ℕ) : Type 0 where
+  pub is : status ≡ exit_status_of reason
   pub outside : new.outside ≡ old.outside
   pub spawner : new.spawner ≡ old.spawner
   pub out : new.out ≡ old.out
   pub reported : Complained reason old.err new.err
 
 -- a task is run, but where memory ran out before
-abbrev pub RunOf : Task → ℕ → Draw → Moment → Moment → ℕ → Type 0
-RunOf task now draw old new status = RunOfLine task now draw (intent_of task now draw) old new status ⊎ RunOfNothing NoMemory old new status
+abbrev pub RunsTaskOrNothing : Task → ℕ → Draw → Moment → Moment → ℕ → Type 0
+RunsTaskOrNothing task now draw old new status = RunOfLine task now draw (intent_of task now draw) old new status ⊎ RunsNoCommand NoMemory old new status
 
 -- how the apps ran of a command that starts some. No other has status 16
 abbrev pub AppsOf : Saying → (Answer → Type 0) → ℕ → Moment → Moment → Type 0
@@ -150,15 +150,15 @@ AppsOf (alone says) came status old new = status ≢ 16
 AppsOf (running says) came status old new = TellsApps came status old new
 
 abbrev pub AppsIn : Task → ℕ → Draw → ℕ → Moment → Moment → Type 0
-AppsIn task now draw status old new = AppsOf (command_in task).says (CameBetween task now draw (intent_of task now draw) (inside_in old) (inside_in new)) status old new
+AppsIn task now draw status old new = AppsOf (command_in task).says (AppsToldBetween task now draw (intent_of task now draw) (inside_in old) (inside_in new)) status old new
 
 -- the status of the run as if all apps had ended with 0, and then its own
-abbrev pub Graded : Task → ℕ → ℕ → Type 0
-Graded task plain status = (status ≡ plain) ⊎ ((status ≡ 16) × (plain ≡ 0) × (runs_apps task ≡ true))
+abbrev pub IsStatusWithApps : Task → ℕ → ℕ → Type 0
+IsStatusWithApps task plain status = (status ≡ plain) ⊎ ((status ≡ 16) × (plain ≡ 0) × (runs_apps task ≡ true))
 
 -- a run of this task
-pub record RunIs (task : Task) (now : ℕ) (draw : Draw) (old new : Moment) (status : ℕ) : Type 0 where
+pub record IsRunOfTask (task : Task) (now : ℕ) (draw : Draw) (old new : Moment) (status : ℕ) : Type 0 where
   pub plain : ℕ
-  pub ran : RunOf task now draw old new plain
-  pub is : Graded task plain status
+  pub ran : RunsTaskOrNothing task now draw old new plain
+  pub is : IsStatusWithApps task plain status
   pub apps : AppsIn task now draw status old new

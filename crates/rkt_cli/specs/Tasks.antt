@@ -64,12 +64,12 @@ takes_links (line.Metadata address count) = true
 takes_links line = false
 
 -- the word by which a line names a pod
-abbrev pub word_of : Line → Option (List ℕ)
-word_of (line.Status word) = Some word
-word_of (line.CatManifest word) = Some word
-word_of (line.RunPrepared word address) = Some word
-word_of (line.Rm word) = Some word
-word_of line = None
+abbrev pub pod_word_of : Line → Option (List ℕ)
+pod_word_of (line.Status word) = Some word
+pod_word_of (line.CatManifest word) = Some word
+pod_word_of (line.RunPrepared word address) = Some word
+pod_word_of (line.Rm word) = Some word
+pod_word_of line = None
 
 -- the word begins the pod's uuid, or is it; a line without such a word is about the pod that is drawn
 pub record IsMeant (word : List ℕ) (pod : PodId) : Type 0 where
@@ -81,7 +81,7 @@ IsMeantBy None draw pod = pod ≡ draw.uuid
 IsMeantBy (Some word) draw pod = IsMeant word pod
 
 -- the process came to this pod by the word
-pub record IsFound (word : List ℕ) (pod : PodId) (me : ℕ) (old new : List Event) : Type 0 where
+pub record IsFoundByWord (word : List ℕ) (pod : PodId) (me : ℕ) (old new : List Event) : Type 0 where
   -- of a word that is no whole uuid: the six areas were listed, and of the pods that they showed it is the only one that the word begins
   pub shown : (length word ≡ 36 → ⊥) → (pods : List PodId) × FindsPods me old new pods × (Ok pod ≡ choice word pods)
   -- so where every process keeps the local rules, it existed at some moment of the look
@@ -101,8 +101,8 @@ MeansItsPod task = Unit {0}
 
 -- and its pod was found by a look between two traces
 abbrev pub FindsItsPod : Task → ℕ → List Event → List Event → Type 0
-FindsItsPod (Status word pod) me old new = IsFound word pod me old new
-FindsItsPod (CatManifest word pod) me old new = IsFound word pod me old new
-FindsItsPod (RunPrepared word pod address) me old new = IsFound word pod me old new
-FindsItsPod (Rm word pod) me old new = IsFound word pod me old new
+FindsItsPod (Status word pod) me old new = IsFoundByWord word pod me old new
+FindsItsPod (CatManifest word pod) me old new = IsFoundByWord word pod me old new
+FindsItsPod (RunPrepared word pod address) me old new = IsFoundByWord word pod me old new
+FindsItsPod (Rm word pod) me old new = IsFoundByWord word pod me old new
 FindsItsPod task me old new = Unit {0}

@@ -4,7 +4,7 @@ use Rattle.std.proofs.Common.{zero, suc}
 use Rattle.dir_model.specs.Pods.{pod_text}
 use Rattle.commands.specs.Wants.{Wants}
 use Rattle.demo_line.specs.Names.{demo_name}
-use Rattle.demo_line.specs.Numbers.{count_below, is_run}
+use Rattle.demo_line.specs.Numbers.{count_below, is_run_pod}
 use Rattle.demo_inputs.specs.Bundles.{app_spawner, bundle_path, image_bundle, no_bundle, plain_spawner}
 use Rattle.demo_inputs.specs.Draws.{command_draw, pod_draw}
 use Rattle.rkt_cli.specs.declared.line.Line.{Line}
@@ -41,18 +41,18 @@ abbrev pub imports : ℕ → List Turn
 imports zero = []
 imports (suc n) = imports n ++ import_turn n ∷ []
 
-abbrev pub prepares : ℕ → List Turn
-prepares zero = []
-prepares (suc n) = prepares n ++ prepare_turn n ∷ []
+abbrev pub prepare_turns : ℕ → List Turn
+prepare_turns zero = []
+prepare_turns (suc n) = prepare_turns n ++ prepare_turn n ∷ []
 
 -- of every third
 abbrev pub runs_of : ℕ → ℕ → List Turn
 runs_of count zero = []
-runs_of count (suc n) = runs_of count n ++ (if is_run n then run_turn count n ∷ [] else [])
+runs_of count (suc n) = runs_of count n ++ (if is_run_pod n then run_turn count n ∷ [] else [])
 
 -- two sweeps with the default times, and a list of what is left. So many commands drew before
 abbrev pub last_turns : ℕ → List Turn
 last_turns drawn = bare_turn (Gc 1800 86400) 2000 drawn ∷ bare_turn (Gc 1800 86400) 3800 (drawn + 1) ∷ bare_turn PodList 3800 (drawn + 2) ∷ []
 
 abbrev pub turns : ℕ → List Turn
-turns count = ((imports count ++ prepares count) ++ runs_of count count) ++ last_turns (count + count_below is_run count)
+turns count = ((imports count ++ prepare_turns count) ++ runs_of count count) ++ last_turns (count + count_below is_run_pod count)

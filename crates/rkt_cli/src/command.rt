@@ -5,8 +5,8 @@ ghost use Rattle.dir_trait.specs.Local.{nothing_local};
 ghost use Rattle.command_outcomes.specs.Moments.{is_well, outcome_of, outside_at, spawner_at};
 ghost use Rattle.rkt_cli.specs.Commands.{uses_dir, reads_bundle, runs_apps, any_task};
 ghost use Rattle.rkt_cli.specs.DemoCommand.{EndsDemo};
-ghost use Rattle.rkt_cli.specs.Histories.{HandsOver};
-ghost use Rattle.rkt_cli.specs.Lines.{IsWithin};
+ghost use Rattle.rkt_cli.specs.Histories.{HandsOverFaithfulPods};
+ghost use Rattle.rkt_cli.specs.Lines.{IsWithinLimits};
 ghost use Rattle.rkt_cli.specs.Links.{LinksOf};
 ghost use Rattle.rkt_cli.specs.Lookups.{Acts};
 ghost use Rattle.rkt_cli.specs.Tasks.{takes_links};
@@ -44,11 +44,11 @@ pub(crate) fn carry_out<D: Dir, B: Bundle, S: Spawner, L: Listener>(
     listener: &mut L,
 ) -> Result<Told, Refusal>
     requires fresh { (D.shown dir.old).local ≡ nothing_local }
-    requires few { IsWithin line.now }
+    requires few { IsWithinLimits line.now }
     ensures apart { uses_dir (any_task line.now) ≡ false → dir.new ≡ dir.old }
     ensures unread { reads_bundle (any_task line.now) ≡ false → bundle.new ≡ bundle.old }
     ensures unasked { runs_apps (any_task line.now) ≡ false → spawner.new ≡ spawner.old }
-    ensures makers { D.observed ≡ true → HandsOver (D.shown dir.old) (D.shown dir.new) }
+    ensures makers { D.observed ≡ true → HandsOverFaithfulPods (D.shown dir.old) (D.shown dir.new) }
     ensures acts { Acts line.now now draw.now (outside_at D.Dir B.Bundle dir.old bundle.old) (outside_at D.Dir B.Bundle dir.new bundle.new)
         (spawner_at S.Spawner spawner.old) (spawner_at S.Spawner spawner.new) result }
     ensures unlinked { takes_links line.now ≡ false → listener.new ≡ listener.old }

@@ -3,9 +3,9 @@ ghost use Rattle.std.specs.Option.{option_copied};
 ghost use Rattle.std.specs.Prelude.{◌≡◌, Some, IfOk, IfErr};
 ghost use Rattle.pod_manifest.specs.Wishes.{AreWishes};
 ghost use Rattle.rkt_words.specs.Wishes.{AsksWell, MayBeAsked};
-ghost use Rattle.rkt_cli.specs.Lines.{IsReading, IsWithin, known_line, line_in, wants_of};
-ghost use Rattle.rkt_cli.specs.Paths.{path_of};
-ghost use Rattle.rkt_cli.specs.Tasks.{word_of};
+ghost use Rattle.rkt_cli.specs.Lines.{IsLineRead, IsWithinLimits, known_line, line_of_arguments, wants_of};
+ghost use Rattle.rkt_cli.specs.Paths.{path_of_line};
+ghost use Rattle.rkt_cli.specs.Tasks.{pod_word_of};
 
 use ac_types::{NoMemory, StoreKey, Text};
 use commands::Wanted;
@@ -76,7 +76,7 @@ fn wanted(alloc: Global, asked: &Asked) -> Result<Wanted, WordsError>
 
 fn prepare_line(alloc: Global, asked: &Asked) -> Result<Line, WordsError>
     requires { MayBeAsked asked.now }
-    ensures { IsReading (Some (Line.Prepare (wants_of asked.now))) result }
+    ensures { IsLineRead (Some (Line.Prepare (wants_of asked.now))) result }
 {
     match wanted(alloc, asked) {
         Ok(wanted) => Ok(Line::Prepare(wanted)),
@@ -86,7 +86,7 @@ fn prepare_line(alloc: Global, asked: &Asked) -> Result<Line, WordsError>
 
 fn run_line(alloc: Global, asked: &Asked, address: Text) -> Result<Line, WordsError>
     requires { MayBeAsked asked.now }
-    ensures { IsReading (Some (Line.Run (wants_of asked.now) address)) result }
+    ensures { IsLineRead (Some (Line.Run (wants_of asked.now) address)) result }
 {
     match wanted(alloc, asked) {
         Ok(wanted) => Ok(Line::Run(wanted, address)),
@@ -96,7 +96,7 @@ fn run_line(alloc: Global, asked: &Asked, address: Text) -> Result<Line, WordsEr
 
 fn known_line(alloc: Global, words: rkt_words::Line) -> Result<Line, WordsError>
     requires { AsksWell words }
-    ensures { IsReading (Some (known_line words)) result }
+    ensures { IsLineRead (Some (known_line words)) result }
 {
     match words {
         rkt_words::Line::Status(pod) => Ok(Line::Status(pod)),
@@ -120,8 +120,8 @@ fn known_line(alloc: Global, words: rkt_words::Line) -> Result<Line, WordsError>
 /// The command that the words are. `Usage` where they are none, with the place of the first word that can't be part of
 /// one; `NoMemory` at any words.
 pub fn read_line(alloc: Global, words: &[String]) -> Result<Line, WordsError>
-    ensures line { IsReading (line_in words.now) result }
-    ensures few { IfOk result IsWithin }
+    ensures line { IsLineRead (line_of_arguments words.now) result }
+    ensures few { IfOk result IsWithinLimits }
 {
     match rkt_words::read_line(alloc, words) {
         Ok(line) => known_line(alloc, line),
@@ -131,7 +131,7 @@ pub fn read_line(alloc: Global, words: &[String]) -> Result<Line, WordsError>
 
 /// The word by which the line names a pod.
 pub(crate) fn line_word(line: &Line) -> Option<PodPrefix>
-    ensures { result ≡ word_of line.now }
+    ensures { result ≡ pod_word_of line.now }
 {
     match line {
         Line::Status(word)
@@ -144,7 +144,7 @@ pub(crate) fn line_word(line: &Line) -> Option<PodPrefix>
 
 /// The path of the file or of the bundle that the line names.
 pub fn named_path(line: &Line) -> Option<&str>
-    ensures { option_copied result ≡ path_of line.now }
+    ensures { option_copied result ≡ path_of_line line.now }
 {
     match line {
         Line::Validate(path) | Line::ImageImport(path) => Some(path.as_str()),

@@ -2,8 +2,8 @@
 ghost use Rattle.std.specs.Prelude.{◌≡◌, Some};
 ghost use Rattle.dir_trait.specs.Local.{IsActive};
 ghost use Rattle.command_outcomes.specs.Moments.{dir_at};
-ghost use Rattle.rkt_cli.specs.Lookups.{ComesToPod, FindsPod, FindsMeant, lookup_refusal};
-ghost use Rattle.rkt_cli.specs.Tasks.{word_of};
+ghost use Rattle.rkt_cli.specs.Lookups.{ComesToPod, FindsPodByWord, FindsMeant, lookup_refusal};
+ghost use Rattle.rkt_cli.specs.Tasks.{pod_word_of};
 
 use crate::line::{Line, line_word};
 use command_outcomes::Refusal;
@@ -46,8 +46,8 @@ pub(crate) fn its_pod<D: Dir>(
     dir: &mut D,
 ) -> Result<PodId, Refusal>
     requires active { IsActive (D.shown dir.old).local }
-    ensures comes { ComesToPod (word_of line.now) (dir_at D.Dir dir.old) (dir_at D.Dir dir.new) }
-    ensures finds { FindsPod (word_of line.now) draw.now (dir_at D.Dir dir.old) (dir_at D.Dir dir.new) result }
+    ensures comes { ComesToPod (pod_word_of line.now) (dir_at D.Dir dir.old) (dir_at D.Dir dir.new) }
+    ensures finds { FindsPodByWord (pod_word_of line.now) draw.now (dir_at D.Dir dir.old) (dir_at D.Dir dir.new) result }
 {
     match line_word(line) {
         Some(word) => meant_pod(alloc, word, dir),

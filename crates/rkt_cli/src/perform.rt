@@ -5,11 +5,11 @@ ghost use Rattle.dir_model.specs.declared.intent.Intent.{Intent};
 ghost use Rattle.dir_trait.specs.Knowledge.{Knows};
 ghost use Rattle.dir_trait.specs.Local.{IsActive, nothing_local};
 ghost use Rattle.command_outcomes.specs.Moments.{dir_at, outside_at, inside_at, spawner_at, outcome_of, is_well};
-ghost use Rattle.command_outcomes.specs.Conforming.{begun, StaysConforming};
+ghost use Rattle.command_outcomes.specs.Conforming.{seen_at_begin, StaysConforming};
 ghost use Rattle.commands.specs.Command.{intent_for};
 ghost use Rattle.commands.specs.GcCommand.{gc_intent};
-ghost use Rattle.rkt_cli.specs.Commands.{uses_dir, reads_bundle, runs_apps, any_task, intent_in, intent_of, Came};
-ghost use Rattle.rkt_cli.specs.Histories.{HandsOver, WhereKnown};
+ghost use Rattle.rkt_cli.specs.Commands.{uses_dir, reads_bundle, runs_apps, any_task, intent_in, intent_of, TellsOfItsApps};
+ghost use Rattle.rkt_cli.specs.Histories.{HandsOverFaithfulPods, WhereKnown};
 ghost use Rattle.rkt_cli.specs.Links.{LinksBetween, LinksOf};
 ghost use Rattle.rkt_cli.specs.Lookups.{Acts};
 ghost use Rattle.rkt_cli.specs.Runs.{CommandRan};
@@ -112,7 +112,7 @@ fn act_alone<D: Dir, B: Bundle>(
     ensures keeps { D.observed ≡ true → (intent : Intent) → intent_of (task_of line.now pod) now draw.now ≡ Some intent
         → StaysConforming intent (dir_at D.Dir dir.old) (dir_at D.Dir dir.new) }
     ensures makers { D.observed ≡ true → uses_dir (task_of line.now pod) ≡ true
-        → WhereKnown (task_of line.now pod) now draw.now (D.shown dir.old) (HandsOver (D.shown dir.old) (D.shown dir.new)) }
+        → WhereKnown (task_of line.now pod) now draw.now (D.shown dir.old) (HandsOverFaithfulPods (D.shown dir.old) (D.shown dir.new)) }
     ensures ran { CommandRan (task_of line.now pod) now draw.now (outside_at D.Dir B.Bundle dir.old bundle.old) (outside_at D.Dir B.Bundle dir.new bundle.new) result }
 {
     match line {
@@ -160,7 +160,7 @@ fn act<D: Dir, B: Bundle, S: Spawner, L: Listener>(
     requires ready { (D.shown dir.old).local.holdings ≡ [] }
     requires meant { MeansItsPod (task_of line.now pod) }
     requires whole { is_demo line.now ≡ false }
-    requires known { D.observed ≡ true → (intent : Intent) → intent_of (task_of line.now pod) now draw.now ≡ Some intent → Knows (D.shown dir.old) (begun intent) }
+    requires known { D.observed ≡ true → (intent : Intent) → intent_of (task_of line.now pod) now draw.now ≡ Some intent → Knows (D.shown dir.old) (seen_at_begin intent) }
     ensures local { (D.shown dir.new).local ≡ (D.shown dir.old).local }
     ensures apart { uses_dir (task_of line.now pod) ≡ false → dir.new ≡ dir.old }
     ensures unread { reads_bundle (task_of line.now pod) ≡ false → bundle.new ≡ bundle.old }
@@ -169,9 +169,9 @@ fn act<D: Dir, B: Bundle, S: Spawner, L: Listener>(
     ensures keeps { D.observed ≡ true → (intent : Intent) → intent_of (task_of line.now pod) now draw.now ≡ Some intent
         → StaysConforming intent (dir_at D.Dir dir.old) (dir_at D.Dir dir.new) }
     ensures makers { D.observed ≡ true → uses_dir (task_of line.now pod) ≡ true
-        → WhereKnown (task_of line.now pod) now draw.now (D.shown dir.old) (HandsOver (D.shown dir.old) (D.shown dir.new)) }
+        → WhereKnown (task_of line.now pod) now draw.now (D.shown dir.old) (HandsOverFaithfulPods (D.shown dir.old) (D.shown dir.new)) }
     ensures ran { CommandRan (task_of line.now pod) now draw.now (outside_at D.Dir B.Bundle dir.old bundle.old) (outside_at D.Dir B.Bundle dir.new bundle.new) (outcome_of result) }
-    ensures came { Came (task_of line.now pod) now draw.now (inside_at D.Dir S.Spawner dir.old spawner.old) (inside_at D.Dir S.Spawner dir.new spawner.new) result }
+    ensures came { TellsOfItsApps (task_of line.now pod) now draw.now (inside_at D.Dir S.Spawner dir.old spawner.old) (inside_at D.Dir S.Spawner dir.new spawner.new) result }
     ensures unlinked { takes_links line.now ≡ false → listener.new ≡ listener.old }
     ensures link_cause { IsErrOf result Refusal.LinkFault → Rose (L.shown listener.old).faults (L.shown listener.new).faults }
     ensures serves { L.observed ≡ true → D.observed ≡ true → (L.shown listener.old).current ≡ None
@@ -213,7 +213,7 @@ fn act_in_process<D: Dir, B: Bundle, S: Spawner, L: Listener>(
     requires said { intent_in line.now now draw.now ≡ Some intent }
     ensures unread { reads_bundle (any_task line.now) ≡ false → bundle.new ≡ bundle.old }
     ensures unasked { runs_apps (any_task line.now) ≡ false → spawner.new ≡ spawner.old }
-    ensures makers { D.observed ≡ true → HandsOver (D.shown dir.old) (D.shown dir.new) }
+    ensures makers { D.observed ≡ true → HandsOverFaithfulPods (D.shown dir.old) (D.shown dir.new) }
     ensures acts { Acts line.now now draw.now (outside_at D.Dir B.Bundle dir.old bundle.old) (outside_at D.Dir B.Bundle dir.new bundle.new)
         (spawner_at S.Spawner spawner.old) (spawner_at S.Spawner spawner.new) result }
     ensures unlinked { takes_links line.now ≡ false → listener.new ≡ listener.old }
@@ -255,7 +255,7 @@ pub fn perform<D: Dir, B: Bundle, S: Spawner, L: Listener>(
     ensures apart { uses_dir (any_task line.now) ≡ false → dir.new ≡ dir.old }
     ensures unread { reads_bundle (any_task line.now) ≡ false → bundle.new ≡ bundle.old }
     ensures unasked { runs_apps (any_task line.now) ≡ false → spawner.new ≡ spawner.old }
-    ensures makers { D.observed ≡ true → HandsOver (D.shown dir.old) (D.shown dir.new) }
+    ensures makers { D.observed ≡ true → HandsOverFaithfulPods (D.shown dir.old) (D.shown dir.new) }
     ensures acts { Acts line.now now draw.now (outside_at D.Dir B.Bundle dir.old bundle.old) (outside_at D.Dir B.Bundle dir.new bundle.new)
         (spawner_at S.Spawner spawner.old) (spawner_at S.Spawner spawner.new) result }
     ensures unlinked { takes_links line.now ≡ false → listener.new ≡ listener.old }

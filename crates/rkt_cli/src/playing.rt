@@ -1,11 +1,11 @@
 // The demo.
 ghost use Rattle.std.specs.Prelude.{◌≡◌, ◌≤◌, ◌+◌, ◌∷◌, ◌++◌, [], Ok, Err, IfOk};
 ghost use Rattle.dir_trait.specs.Local.{nothing_local};
-ghost use Rattle.demo_line.specs.Numbers.{count_below, demo_line, is_run, numbers_line};
+ghost use Rattle.demo_line.specs.Numbers.{count_below, demo_line, is_run_pod, numbers_line};
 ghost use Rattle.demo_tally.specs.Tallies.{tally_of};
 ghost use Rattle.rkt_cli.specs.DemoCommand.{EndsDemo};
 ghost use Rattle.rkt_cli.specs.Plays.{Plays, TellsPlayed, empty_stage};
-ghost use Rattle.rkt_cli.specs.Turns.{imports, last_turns, prepares, runs_of, turns};
+ghost use Rattle.rkt_cli.specs.Turns.{imports, last_turns, prepare_turns, runs_of, turns};
 
 use crate::line::Line;
 use crate::stage::{Stage, play_turn};
@@ -43,7 +43,7 @@ fn import_all(alloc: Global, stage: Stage, count: u32) -> Result<Stage, NoMemory
 fn prepare_all(alloc: Global, stage: Stage, count: u32) -> Result<Stage, NoMemory>
     requires fresh { stage.dir.local ≡ nothing_local }
     ensures fresh { IfOk result (λ new. new.dir.local ≡ nothing_local) }
-    ensures plays { IfOk result (λ new. Plays (prepares count) stage new) }
+    ensures plays { IfOk result (λ new. Plays (prepare_turns count) stage new) }
 {
     let mut current = stage;
     'pods: for pod in 0..count {
@@ -86,7 +86,7 @@ fn end_all(alloc: Global, stage: Stage, drawn: u32) -> Result<Stage, NoMemory>
 // How many of the pods are run.
 fn count_runs(count: u32) -> u32
     requires { count ≤ 100 }
-    ensures runs { result ≡ count_below is_run count }
+    ensures runs { result ≡ count_below is_run_pod count }
     ensures few { result ≤ count }
 {
     let mut runs: u32 = 0;

@@ -1,6 +1,6 @@
 // What is written, and the status.
 ghost use Rattle.std.specs.Prelude.{◌≡◌, [], Ok, IfOk, IfErr};
-ghost use Rattle.command_outcomes.specs.Texts.{status_of};
+ghost use Rattle.command_outcomes.specs.Texts.{exit_status_of};
 ghost use Rattle.command_outcomes.specs.Moments.{sink_at, outcome_of, is_well};
 ghost use Rattle.commands.specs.Answers.{Complained};
 ghost use Rattle.rkt_cli.specs.Runs.{Printed, Reported, end_of_writing, status_at};
@@ -48,7 +48,7 @@ fn complain<E: Sink>(alloc: Global, err: &mut E, refusal: &Refusal)
 /// Says why a command wasn't done, and gives the exit status. What becomes of the message changes no
 /// status.
 pub fn refuse<E: Sink>(alloc: Global, err: &mut E, refusal: &Refusal) -> u8
-    ensures status { result ≡ status_of refusal.now }
+    ensures status { result ≡ exit_status_of refusal.now }
     ensures said { Complained refusal.now (sink_at E.Sink err.old) (sink_at E.Sink err.new) }
 {
     complain(alloc, err, refusal);

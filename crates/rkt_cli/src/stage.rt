@@ -4,7 +4,7 @@ ghost use Rattle.std.specs.List.{count_by};
 ghost use Rattle.dir_trait.specs.Local.{nothing_local};
 ghost use Rattle.dir_memory.specs.Memories.{passed_on};
 ghost use Rattle.command_outcomes.specs.declared.told.Told.{Told};
-ghost use Rattle.rkt_cli.specs.Plays.{failed_after, lines_of, Went, HasPassedOn};
+ghost use Rattle.rkt_cli.specs.Plays.{failed_after, count_of_lines, TurnWasPlayed, HasPassedOn};
 ghost use Rattle.rkt_cli.specs.Tasks.{is_demo};
 
 use crate::perform::perform;
@@ -69,7 +69,7 @@ pub(crate) fn play_turn(alloc: Global, stage: Stage, turn: Turn) -> Result<Stage
     requires fresh { stage.dir.local ≡ nothing_local }
     requires whole { is_demo turn.line ≡ false }
     ensures fresh { IfOk result (λ new. new.dir.local ≡ nothing_local) }
-    ensures went { IfOk result (λ new. Went turn stage new) }
+    ensures went { IfOk result (λ new. TurnWasPlayed turn stage new) }
 {
     let mut stage = stage;
     let mut turn = turn;

@@ -7,12 +7,12 @@ ghost use Rattle.headline.specs.Roots.{PodsReadAsMade};
 ghost use Rattle.rkt_cli.specs.Between.{EndedBetween, ToldBetween, PhasesBetween, QuietBetween, RunBetween};
 ghost use Rattle.dir_model.specs.Causes.{Rose};
 ghost use Rattle.rkt_cli.specs.Commands.{uses_dir_in, reads_bundle_in, runs_apps_in, takes_links_in};
-ghost use Rattle.rkt_cli.specs.Histories.{HandsOver, StaysLawful};
-ghost use Rattle.rkt_cli.specs.Lines.{line_in};
+ghost use Rattle.rkt_cli.specs.Histories.{HandsOverFaithfulPods, StaysLawful};
+ghost use Rattle.rkt_cli.specs.Lines.{line_of_arguments};
 ghost use Rattle.rkt_cli.specs.Links.{LinksIn};
 ghost use Rattle.rkt_cli.specs.LinksAlone.{LinksAlone};
 ghost use Rattle.rkt_cli.specs.Headlines.{KeepsTheHeadline};
-ghost use Rattle.rkt_cli.specs.Promises.{IsStatus, IsOutput, IsOver, ReadsIn};
+ghost use Rattle.rkt_cli.specs.Promises.{IsExitStatus, IsOutput, IsOver, ReadsIn};
 ghost use Rattle.rkt_cli.specs.Strays.{StraysOfApps};
 
 use crate::command::carry_out;
@@ -39,16 +39,16 @@ fn run<D: Dir, B: Bundle, S: Spawner, L: Listener, O: Sink, E: Sink>(
     err: &mut E,
 ) -> u8
     requires fresh { (D.shown dir.old).local ≡ nothing_local }
-    ensures ran { RunBetween D.Dir B.Bundle S.Spawner O.Sink E.Sink (line_in words.now) now draw.now result
+    ensures ran { RunBetween D.Dir B.Bundle S.Spawner O.Sink E.Sink (line_of_arguments words.now) now draw.now result
         (dir.old, bundle.old, spawner.old, out.old, err.old) (dir.new, bundle.new, spawner.new, out.new, err.new) }
-    ensures apart { uses_dir_in (line_in words.now) ≡ false → dir.new ≡ dir.old }
-    ensures unread { reads_bundle_in (line_in words.now) ≡ false → bundle.new ≡ bundle.old }
-    ensures unasked { runs_apps_in (line_in words.now) ≡ false → spawner.new ≡ spawner.old }
-    ensures unlinked { takes_links_in (line_in words.now) ≡ false → listener.new ≡ listener.old }
+    ensures apart { uses_dir_in (line_of_arguments words.now) ≡ false → dir.new ≡ dir.old }
+    ensures unread { reads_bundle_in (line_of_arguments words.now) ≡ false → bundle.new ≡ bundle.old }
+    ensures unasked { runs_apps_in (line_of_arguments words.now) ≡ false → spawner.new ≡ spawner.old }
+    ensures unlinked { takes_links_in (line_of_arguments words.now) ≡ false → listener.new ≡ listener.old }
     ensures link_cause { result ≡ 13 → Rose (L.shown listener.old).faults (L.shown listener.new).faults }
     ensures serves { L.observed ≡ true → D.observed ≡ true → (L.shown listener.old).current ≡ None
-        → LinksIn (line_in words.now) now draw.now result (L.shown listener.old) (L.shown listener.new) (D.shown dir.old) (D.shown dir.new) }
-    ensures makers { D.observed ≡ true → HandsOver (D.shown dir.old) (D.shown dir.new) }
+        → LinksIn (line_of_arguments words.now) now draw.now result (L.shown listener.old) (L.shown listener.new) (D.shown dir.old) (D.shown dir.new) }
+    ensures makers { D.observed ≡ true → HandsOverFaithfulPods (D.shown dir.old) (D.shown dir.new) }
 {
     match read_line(alloc, words) {
         Err(WordsError::Usage(_)) => refuse(alloc, err, &Refusal::Usage),
@@ -79,34 +79,34 @@ pub fn rkt<D: Dir, B: Bundle, S: Spawner, L: Listener, O: Sink, E: Sink>(
     err: &mut E,
 ) -> u8
     requires fresh { (D.shown dir.old).local ≡ nothing_local }
-    ensures statuses { IsStatus result }
-    ensures usage { result ≡ 1 → line_in words.now ≡ None }
-    ensures unread_words { line_in words.now ≡ None → (result ≡ 1) ⊎ (result ≡ 14) }
-    ensures ended { EndedBetween D.Dir B.Bundle S.Spawner O.Sink E.Sink (line_in words.now) now draw.now result
+    ensures statuses { IsExitStatus result }
+    ensures usage { result ≡ 1 → line_of_arguments words.now ≡ None }
+    ensures unread_words { line_of_arguments words.now ≡ None → (result ≡ 1) ⊎ (result ≡ 14) }
+    ensures ended { EndedBetween D.Dir B.Bundle S.Spawner O.Sink E.Sink (line_of_arguments words.now) now draw.now result
         (dir.old, bundle.old, spawner.old, out.old, err.old) (dir.new, bundle.new, spawner.new, out.new, err.new) }
-    ensures tells { ToldBetween D.Dir B.Bundle S.Spawner O.Sink E.Sink (line_in words.now) now draw.now result
+    ensures tells { ToldBetween D.Dir B.Bundle S.Spawner O.Sink E.Sink (line_of_arguments words.now) now draw.now result
         (dir.old, bundle.old, spawner.old, out.old, err.old) (dir.new, bundle.new, spawner.new, out.new, err.new) }
-    ensures phases { PhasesBetween D.Dir B.Bundle S.Spawner O.Sink E.Sink (line_in words.now) now draw.now result
+    ensures phases { PhasesBetween D.Dir B.Bundle S.Spawner O.Sink E.Sink (line_of_arguments words.now) now draw.now result
         (dir.old, bundle.old, spawner.old, out.old, err.old) (dir.new, bundle.new, spawner.new, out.new, err.new) }
-    ensures out { O.observed ≡ true → IsOutput (line_in words.now) draw.now (bundle_at B.Bundle bundle.old) result (O.shown out.old).bytes (O.shown out.new).bytes }
-    ensures apart { uses_dir_in (line_in words.now) ≡ false → dir.new ≡ dir.old }
-    ensures unread { reads_bundle_in (line_in words.now) ≡ false → bundle.new ≡ bundle.old }
-    ensures unasked { runs_apps_in (line_in words.now) ≡ false → spawner.new ≡ spawner.old }
-    ensures unlinked { takes_links_in (line_in words.now) ≡ false → listener.new ≡ listener.old }
+    ensures out { O.observed ≡ true → IsOutput (line_of_arguments words.now) draw.now (bundle_at B.Bundle bundle.old) result (O.shown out.old).bytes (O.shown out.new).bytes }
+    ensures apart { uses_dir_in (line_of_arguments words.now) ≡ false → dir.new ≡ dir.old }
+    ensures unread { reads_bundle_in (line_of_arguments words.now) ≡ false → bundle.new ≡ bundle.old }
+    ensures unasked { runs_apps_in (line_of_arguments words.now) ≡ false → spawner.new ≡ spawner.old }
+    ensures unlinked { takes_links_in (line_of_arguments words.now) ≡ false → listener.new ≡ listener.old }
     ensures link_cause { result ≡ 13 → Rose (L.shown listener.old).faults (L.shown listener.new).faults }
     ensures serves { L.observed ≡ true → D.observed ≡ true → (L.shown listener.old).current ≡ None
-        → LinksIn (line_in words.now) now draw.now result (L.shown listener.old) (L.shown listener.new) (D.shown dir.old) (D.shown dir.new) }
+        → LinksIn (line_of_arguments words.now) now draw.now result (L.shown listener.old) (L.shown listener.new) (D.shown dir.old) (D.shown dir.new) }
     ensures serves_alone { L.observed ≡ true → D.observed ≡ true → (L.shown listener.old).current ≡ None
-        → LinksAlone (line_in words.now) draw.now result (L.shown listener.old) (L.shown listener.new) (D.shown dir.old) (D.shown dir.new) }
-    ensures reads { ReadsIn (line_in words.now) (bundle_at B.Bundle bundle.old) (bundle_at B.Bundle bundle.new) }
-    ensures over { IsOver (line_in words.now) now draw.now result (D.shown dir.old).local (D.shown dir.new).local }
-    ensures headline { D.observed ≡ true → KeepsTheHeadline (line_in words.now) now draw.now (D.shown dir.old) (D.shown dir.new) }
+        → LinksAlone (line_of_arguments words.now) draw.now result (L.shown listener.old) (L.shown listener.new) (D.shown dir.old) (D.shown dir.new) }
+    ensures reads { ReadsIn (line_of_arguments words.now) (bundle_at B.Bundle bundle.old) (bundle_at B.Bundle bundle.new) }
+    ensures over { IsOver (line_of_arguments words.now) now draw.now result (D.shown dir.old).local (D.shown dir.new).local }
+    ensures headline { D.observed ≡ true → KeepsTheHeadline (line_of_arguments words.now) now draw.now (D.shown dir.old) (D.shown dir.new) }
     ensures lawful { D.observed ≡ true → StaysLawful draw.now (dir_at D.Dir dir.old) (dir_at D.Dir dir.new) }
-    ensures strays { D.observed ≡ true → StraysOfApps (line_in words.now) result (dir_at D.Dir dir.old) (dir_at D.Dir dir.new) }
+    ensures strays { D.observed ≡ true → StraysOfApps (line_of_arguments words.now) result (dir_at D.Dir dir.old) (dir_at D.Dir dir.new) }
     ensures as_made { D.observed ≡ true → IsLegal (D.shown dir.new).trace → PodsReadAsMade (D.shown dir.new).trace }
-    ensures quiet { QuietBetween D.Dir B.Bundle S.Spawner O.Sink E.Sink (line_in words.now) now draw.now result
+    ensures quiet { QuietBetween D.Dir B.Bundle S.Spawner O.Sink E.Sink (line_of_arguments words.now) now draw.now result
         (dir.old, bundle.old, spawner.old, out.old, err.old) (dir.new, bundle.new, spawner.new, out.new, err.new) }
-    ensures ran { RunBetween D.Dir B.Bundle S.Spawner O.Sink E.Sink (line_in words.now) now draw.now result
+    ensures ran { RunBetween D.Dir B.Bundle S.Spawner O.Sink E.Sink (line_of_arguments words.now) now draw.now result
         (dir.old, bundle.old, spawner.old, out.old, err.old) (dir.new, bundle.new, spawner.new, out.new, err.new) }
 {
     run(

@@ -1,7 +1,7 @@
 // Options of a command line, with what stands for those that aren't given.
 ghost use Rattle.std.specs.Prelude.{◌≡◌};
-ghost use Rattle.rkt_words.specs.Lines.{address_or_default, asked_of, duration_or, list_of};
-ghost use Rattle.rkt_words.specs.Readings.{Reads};
+ghost use Rattle.rkt_words.specs.Lines.{address_or_default, asked_of, duration_or, list_of_one};
+ghost use Rattle.rkt_words.specs.Readings.{ReadsValue};
 ghost use Rattle.rkt_words.specs.Volumes.{mount_of, volume_of};
 
 use crate::duration::duration;
@@ -18,7 +18,7 @@ const ADDRESS: &str = "127.0.0.1:18112";
 
 /// The duration that a text is, or this one where there is no text.
 pub(crate) fn duration_or(default: u64, text: &Option<Text>) -> Result<u64, WordsError>
-    ensures { Reads (duration_or default text.now) result }
+    ensures { ReadsValue (duration_or default text.now) result }
 {
     match text {
         None => Ok(default),
@@ -31,7 +31,7 @@ pub(crate) fn duration_or(default: u64, text: &Option<Text>) -> Result<u64, Word
 
 /// The address that a text is, or the one of every host where there is no text.
 pub(crate) fn address_or_default(alloc: Global, text: &Option<Text>) -> Result<Text, WordsError>
-    ensures { Reads (address_or_default text.now) result }
+    ensures { ReadsValue (address_or_default text.now) result }
 {
     match text {
         Some(text) => address(alloc, text.as_str()),
@@ -43,7 +43,7 @@ pub(crate) fn address_or_default(alloc: Global, text: &Option<Text>) -> Result<T
 }
 
 fn volumes(alloc: Global, text: &Option<Text>) -> Result<Volumes, WordsError>
-    ensures { Reads (list_of volume_of text.now) result }
+    ensures { ReadsValue (list_of_one volume_of text.now) result }
 {
     match text {
         None => Ok(Sequence::new(alloc)),
@@ -58,7 +58,7 @@ fn volumes(alloc: Global, text: &Option<Text>) -> Result<Volumes, WordsError>
 }
 
 fn mounts(alloc: Global, text: &Option<Text>) -> Result<Mounts, WordsError>
-    ensures { Reads (list_of mount_of text.now) result }
+    ensures { ReadsValue (list_of_one mount_of text.now) result }
 {
     match text {
         None => Ok(Sequence::new(alloc)),
@@ -79,7 +79,7 @@ pub(crate) fn asked(
     mount: &Option<Text>,
     words: &[Text],
 ) -> Result<Asked, WordsError>
-    ensures { Reads (asked_of volume.now mount.now words.now) result }
+    ensures { ReadsValue (asked_of volume.now mount.now words.now) result }
 {
     let volumes = volumes(alloc, volume)?;
     let mounts = mounts(alloc, mount)?;

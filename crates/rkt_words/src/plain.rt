@@ -2,9 +2,9 @@
 ghost use Rattle.std.specs.Prelude.{◌≡◌, IfOk};
 ghost use Rattle.std.specs.List.{list_all};
 ghost use Rattle.rkt_words.specs.Lines.{address_of, images_of, one};
-ghost use Rattle.rkt_words.specs.Numbers.{number_of};
-ghost use Rattle.rkt_words.specs.Readings.{Reads};
-ghost use Rattle.rkt_words.specs.Values.{filled, is_reference, key_of, pod_of};
+ghost use Rattle.rkt_words.specs.Numbers.{number_within};
+ghost use Rattle.rkt_words.specs.Readings.{ReadsValue};
+ghost use Rattle.rkt_words.specs.Values.{nonempty_word, is_reference, key_of_word, pod_prefix_of};
 
 use crate::address::is_address;
 use crate::error::WordsError;
@@ -15,7 +15,7 @@ use spawner::Words;
 use std::alloc::Global;
 
 fn text_of(alloc: Global, word: &str) -> Result<Text, WordsError>
-    ensures { Reads (Some word.now) result }
+    ensures { ReadsValue (Some word.now) result }
 {
     match Text::of(alloc, word) {
         Ok(text) => Ok(text),
@@ -24,14 +24,14 @@ fn text_of(alloc: Global, word: &str) -> Result<Text, WordsError>
 }
 
 fn pod_of(word: &str) -> Option<PodPrefix>
-    ensures { result ≡ pod_of word.now }
+    ensures { result ≡ pod_prefix_of word.now }
 {
     PodPrefix::parse(word)
 }
 
 /// The beginning of a pod's text that the one word is.
 pub(crate) fn one_pod(words: &[Text]) -> Result<PodPrefix, WordsError>
-    ensures { Reads (one pod_of words.now) result }
+    ensures { ReadsValue (one pod_prefix_of words.now) result }
 {
     match words {
         [word] => match pod_of(word.as_str()) {
@@ -44,7 +44,7 @@ pub(crate) fn one_pod(words: &[Text]) -> Result<PodPrefix, WordsError>
 
 /// The one word, which isn't empty.
 pub(crate) fn one_filled(alloc: Global, words: &[Text]) -> Result<Text, WordsError>
-    ensures { Reads (one filled words.now) result }
+    ensures { ReadsValue (one nonempty_word words.now) result }
 {
     match words {
         [word] => {
@@ -59,7 +59,7 @@ pub(crate) fn one_filled(alloc: Global, words: &[Text]) -> Result<Text, WordsErr
 }
 
 fn key_of(word: &str) -> Option<StoreKey>
-    ensures { result ≡ key_of word.now }
+    ensures { result ≡ key_of_word word.now }
 {
     match StoreKey::parse(word) {
         Ok(key) => Some(key),
@@ -69,7 +69,7 @@ fn key_of(word: &str) -> Option<StoreKey>
 
 /// The key that the one word is.
 pub(crate) fn one_key(words: &[Text]) -> Result<StoreKey, WordsError>
-    ensures { Reads (one key_of words.now) result }
+    ensures { ReadsValue (one key_of_word words.now) result }
 {
     match words {
         [word] => match key_of(word.as_str()) {
@@ -82,7 +82,7 @@ pub(crate) fn one_key(words: &[Text]) -> Result<StoreKey, WordsError>
 
 /// The number from 1 on that a word is.
 pub(crate) fn small_number(word: &str, most: u32) -> Result<u32, WordsError>
-    ensures { Reads (number_of 1 most word.now) result }
+    ensures { ReadsValue (number_within 1 most word.now) result }
 {
     match number(word, 1, most as u64) {
         Some(number) => Ok(number as u32),
@@ -92,7 +92,7 @@ pub(crate) fn small_number(word: &str, most: u32) -> Result<u32, WordsError>
 
 /// The address that a word is.
 pub(crate) fn address(alloc: Global, word: &str) -> Result<Text, WordsError>
-    ensures { Reads (address_of word.now) result }
+    ensures { ReadsValue (address_of word.now) result }
 {
     if !is_address(word) {
         return Err(WordsError::Usage(2));
@@ -131,7 +131,7 @@ fn words_of(alloc: Global, texts: &[Text]) -> Result<Words, NoMemory>
 
 /// The words, where each of them is a reference and there is one at least.
 pub(crate) fn images(alloc: Global, words: &[Text]) -> Result<Words, WordsError>
-    ensures { Reads (images_of words.now) result }
+    ensures { ReadsValue (images_of words.now) result }
 {
     if words.is_empty() || !are_references(alloc, words) {
         return Err(WordsError::Usage(2));

@@ -1,7 +1,7 @@
 // The line that the words are.
 ghost use Rattle.std.specs.Prelude.{◌≡◌, map, string_bytes, IfOk};
-ghost use Rattle.rkt_words.specs.Lines.{demo_of, gc_of, gc_times, image_line, line_by, line_of, line_of_rest, metadata_of, none, or_rest, prepare_of, run_of, run_prepared_of, IsReading};
-ghost use Rattle.rkt_words.specs.Readings.{Reads};
+ghost use Rattle.rkt_words.specs.Lines.{demo_of, gc_of, gc_times, image_line, line_by, line_of, line_of_rest, read_metadata_line, none, or_rest, prepare_of, run_of, run_prepared_of, IsReading};
+ghost use Rattle.rkt_words.specs.Readings.{ReadsValue};
 ghost use Rattle.rkt_words.specs.Wishes.{AsksWell};
 
 use crate::command::{Command, command_of, image_command_of, options_of};
@@ -26,7 +26,7 @@ const MAX_CONNECTIONS: u32 = 65_535;
 const MAX_DEMO: u32 = 100;
 
 fn no_words(words: &[Text], line: Line) -> Result<Line, WordsError>
-    ensures { Reads (none words.now line) result }
+    ensures { ReadsValue (none words.now line) result }
 {
     if words.is_empty() {
         Ok(line)
@@ -36,7 +36,7 @@ fn no_words(words: &[Text], line: Line) -> Result<Line, WordsError>
 }
 
 fn prepare_line(alloc: Global, values: &[Option<Text>], words: &[Text]) -> Result<Line, WordsError>
-    ensures { Reads (prepare_of values.now words.now) result }
+    ensures { ReadsValue (prepare_of values.now words.now) result }
 {
     match values {
         [volume, mount] => Ok(Line::Prepare(asked(alloc, volume, mount, words)?)),
@@ -45,7 +45,7 @@ fn prepare_line(alloc: Global, values: &[Option<Text>], words: &[Text]) -> Resul
 }
 
 fn run_line(alloc: Global, values: &[Option<Text>], words: &[Text]) -> Result<Line, WordsError>
-    ensures { Reads (run_of values.now words.now) result }
+    ensures { ReadsValue (run_of values.now words.now) result }
 {
     match values {
         [volume, mount, metadata] => {
@@ -62,7 +62,7 @@ fn run_prepared_line(
     values: &[Option<Text>],
     words: &[Text],
 ) -> Result<Line, WordsError>
-    ensures { Reads (run_prepared_of values.now words.now) result }
+    ensures { ReadsValue (run_prepared_of values.now words.now) result }
 {
     match values {
         [metadata] => {
@@ -75,7 +75,7 @@ fn run_prepared_line(
 }
 
 fn gc_times(values: &[Option<Text>]) -> Result<Line, WordsError>
-    ensures { Reads (gc_times values.now) result }
+    ensures { ReadsValue (gc_times values.now) result }
 {
     match values {
         [grace, expire] => {
@@ -88,7 +88,7 @@ fn gc_times(values: &[Option<Text>]) -> Result<Line, WordsError>
 }
 
 fn gc_line(values: &[Option<Text>], words: &[Text]) -> Result<Line, WordsError>
-    ensures { Reads (gc_of values.now words.now) result }
+    ensures { ReadsValue (gc_of values.now words.now) result }
 {
     if !words.is_empty() {
         return Err(WordsError::Usage(2));
@@ -97,7 +97,7 @@ fn gc_line(values: &[Option<Text>], words: &[Text]) -> Result<Line, WordsError>
 }
 
 fn metadata_line(alloc: Global, words: &[Text]) -> Result<Line, WordsError>
-    ensures { Reads (metadata_of words.now) result }
+    ensures { ReadsValue (read_metadata_line words.now) result }
 {
     match words {
         [text, count] => {
@@ -110,7 +110,7 @@ fn metadata_line(alloc: Global, words: &[Text]) -> Result<Line, WordsError>
 }
 
 fn demo_line(words: &[Text]) -> Result<Line, WordsError>
-    ensures { Reads (demo_of words.now) result }
+    ensures { ReadsValue (demo_of words.now) result }
 {
     match words {
         [word] => Ok(Line::Demo(small_number(word.as_str(), MAX_DEMO)?)),
@@ -120,7 +120,7 @@ fn demo_line(words: &[Text]) -> Result<Line, WordsError>
 
 /// What the words behind a command's name make of it.
 fn read_split(alloc: Global, command: Command, split: &Split) -> Result<Line, WordsError>
-    ensures { Reads (line_by command split.now) result }
+    ensures { ReadsValue (line_by command split.now) result }
 {
     let values = split.values.as_slice();
     let words = split.plain.as_slice();

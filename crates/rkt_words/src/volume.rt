@@ -1,9 +1,9 @@
 // Volumes and mounts of a command line.
 ghost use Rattle.std.specs.Prelude.{◌≡◌, ◌==◌, IfOk, map, option_and_then};
 ghost use Rattle.std.specs.List.{slice_split};
-ghost use Rattle.rkt_words.specs.Readings.{Reads};
-ghost use Rattle.rkt_words.specs.Values.{name_of};
-ghost use Rattle.rkt_words.specs.Volumes.{empty_kind, empty_parts, empty_volume, flagged_parts, host_parts, host_volume, keyed, mount_at, mount_of, mount_parts, place_at, volume_of, volume_parts};
+ghost use Rattle.rkt_words.specs.Readings.{ReadsValue};
+ghost use Rattle.rkt_words.specs.Values.{ac_name_of};
+ghost use Rattle.rkt_words.specs.Volumes.{empty_kind, empty_parts, read_empty_volume, flagged_parts, host_parts, host_volume, keyed, mount_of_words, mount_of, mount_parts, place_at, volume_of, volume_parts};
 
 use crate::error::WordsError;
 use crate::name::{keyed, name};
@@ -20,7 +20,7 @@ fn parts_of(alloc: Global, text: &str) -> Result<Vec<&str>, AllocError>
 }
 
 fn place_at(alloc: Global, key: &str, part: &str) -> Result<Text, WordsError>
-    ensures { Reads (place_at key.now part.now) result }
+    ensures { ReadsValue (place_at key.now part.now) result }
 {
     match keyed(key, part) {
         None => Err(WordsError::Usage(2)),
@@ -33,7 +33,7 @@ fn place_at(alloc: Global, key: &str, part: &str) -> Result<Text, WordsError>
 }
 
 fn name_at(alloc: Global, key: &str, part: &str) -> Result<AcName, WordsError>
-    ensures { Reads (option_and_then name_of (keyed key.now part.now)) result }
+    ensures { ReadsValue (option_and_then ac_name_of (keyed key.now part.now)) result }
 {
     match keyed(key, part) {
         None => Err(WordsError::Usage(2)),
@@ -47,7 +47,7 @@ fn host_volume(
     text: &str,
     source: &str,
 ) -> Result<Volume, WordsError>
-    ensures { Reads (host_volume read_only text.now source.now) result }
+    ensures { ReadsValue (host_volume read_only text.now source.now) result }
 {
     match name(alloc, text) {
         Ok(name) => match place_at(alloc, "source", source) {
@@ -72,7 +72,7 @@ fn empty_kind(alloc: Global) -> Result<VolumeKind, NoMemory>
 }
 
 fn empty_volume(alloc: Global, text: &str) -> Result<Volume, WordsError>
-    ensures { Reads (empty_volume text.now) result }
+    ensures { ReadsValue (read_empty_volume text.now) result }
 {
     match name(alloc, text) {
         Ok(name) => match empty_kind(alloc) {
@@ -84,7 +84,7 @@ fn empty_volume(alloc: Global, text: &str) -> Result<Volume, WordsError>
 }
 
 fn empty_parts(alloc: Global, name: &str, kind: &str) -> Result<Volume, WordsError>
-    ensures { Reads (empty_parts name.now kind.now) result }
+    ensures { ReadsValue (empty_parts name.now kind.now) result }
 {
     if kind == "kind=empty" {
         return empty_volume(alloc, name);
@@ -93,7 +93,7 @@ fn empty_parts(alloc: Global, name: &str, kind: &str) -> Result<Volume, WordsErr
 }
 
 fn host_parts(alloc: Global, name: &str, kind: &str, source: &str) -> Result<Volume, WordsError>
-    ensures { Reads (host_parts name.now kind.now source.now) result }
+    ensures { ReadsValue (host_parts name.now kind.now source.now) result }
 {
     if kind == "kind=host" {
         return host_volume(alloc, false, name, source);
@@ -108,7 +108,7 @@ fn flagged_parts(
     source: &str,
     flag: &str,
 ) -> Result<Volume, WordsError>
-    ensures { Reads (flagged_parts name.now kind.now source.now flag.now) result }
+    ensures { ReadsValue (flagged_parts name.now kind.now source.now flag.now) result }
 {
     if kind == "kind=host" && flag == "readOnly=true" {
         return host_volume(alloc, true, name, source);
@@ -117,7 +117,7 @@ fn flagged_parts(
 }
 
 fn volume_parts(alloc: Global, parts: &[&str]) -> Result<Volume, WordsError>
-    ensures { Reads (volume_parts (map (λ x. x.now) parts.now)) result }
+    ensures { ReadsValue (volume_parts (map (λ x. x.now) parts.now)) result }
 {
     match parts {
         [name, kind] => empty_parts(alloc, *name, *kind),
@@ -129,7 +129,7 @@ fn volume_parts(alloc: Global, parts: &[&str]) -> Result<Volume, WordsError>
 
 /// The volume that a text is: `NAME,kind=host,source=PLACE`, the same with `,readOnly=true`, or `NAME,kind=empty`.
 pub(crate) fn volume(alloc: Global, text: &str) -> Result<Volume, WordsError>
-    ensures { Reads (volume_of text.now) result }
+    ensures { ReadsValue (volume_of text.now) result }
 {
     match parts_of(alloc, text) {
         Ok(parts) => volume_parts(alloc, parts.as_slice()),
@@ -138,7 +138,7 @@ pub(crate) fn volume(alloc: Global, text: &str) -> Result<Volume, WordsError>
 }
 
 fn mount_at(alloc: Global, volume: &str, target: &str) -> Result<Mount, WordsError>
-    ensures { Reads (mount_at volume.now target.now) result }
+    ensures { ReadsValue (mount_of_words volume.now target.now) result }
 {
     match name_at(alloc, "volume", volume) {
         Ok(volume) => match place_at(alloc, "target", target) {
@@ -150,7 +150,7 @@ fn mount_at(alloc: Global, volume: &str, target: &str) -> Result<Mount, WordsErr
 }
 
 fn mount_parts(alloc: Global, parts: &[&str]) -> Result<Mount, WordsError>
-    ensures { Reads (mount_parts (map (λ x. x.now) parts.now)) result }
+    ensures { ReadsValue (mount_parts (map (λ x. x.now) parts.now)) result }
 {
     match parts {
         [volume, target] => mount_at(alloc, *volume, *target),
@@ -160,7 +160,7 @@ fn mount_parts(alloc: Global, parts: &[&str]) -> Result<Mount, WordsError>
 
 /// The mount that a text is: `volume=NAME,target=PLACE`.
 pub(crate) fn mount(alloc: Global, text: &str) -> Result<Mount, WordsError>
-    ensures { Reads (mount_of text.now) result }
+    ensures { ReadsValue (mount_of text.now) result }
 {
     match parts_of(alloc, text) {
         Ok(parts) => mount_parts(alloc, parts.as_slice()),

@@ -1,41 +1,32 @@
 -- Where nobody else steps, the pod that is found for a token is one that the state before has.
-use Rattle.std.proofs.Common.{arith, ◌≡◌, inl, inr, ℕ, true, is_some, Option, Some, None, List, [], ◌∷◌, ◌++◌, length, refl, sym, ap, subst, ◌∙◌}
+use Rattle.std.proofs.Common.{arith, ◌≡◌, inl, inr, ℕ, true, Option, Some, None, List, [], ◌∷◌, ◌++◌, length, refl, sym, ap, subst, ◌∙◌}
 use Rattle.hex.specs.Hex.{encode_lower}
 use Rattle.ac_types.specs.Outcomes.{reads}
 use Rattle.manifests.specs.PodData.{PodData}
 use Rattle.manifests.specs.PodForm.{pod_manifest}
-use Rattle.dir_model.specs.declared.item.Inner.{Inner}
 use Rattle.dir_model.specs.declared.pod.PodId.{PodId}
-use Rattle.dir_model.specs.State.{DirState, folder_at, stands}
+use Rattle.dir_model.specs.State.{DirState}
 use Rattle.dir_model.specs.Trace.{state_after}
 use Rattle.dir_trait.specs.DirCalls.{DirAt}
-use Rattle.dir_files.specs.Reads.{bytes_in, file_at}
 use Rattle.image_reading.specs.Files.{most_of_manifest}
-use Rattle.pod_files.specs.Files.{IsManifestOf, IsNoManifest, LacksManifest, most_of_token}
-use Rattle.pod_files.specs.Places.{pod_file, manifest_name, token_name}
+use Rattle.pod_files.specs.Files.{IsManifestOf, IsNoManifest, ReadsNoPodManifest, most_of_token}
+use Rattle.pod_files.specs.Places.{pod_file, pod_manifest_name, token_name}
 use Rattle.pod_report.specs.Requests.{OnlyAsksFor}
 use Rattle.pod_report.proofs.Reading.{same_reading}
+use Rattle.pod_report.proofs.QuietLines.{file_stands}
 use Rattle.metadata_reply.specs.Views.{ViewData, HasReading}
 use Rattle.metadata.specs.Looks.{looks_in_run}
-use Rattle.metadata.specs.PodViews.{app_names, image_path, ReadsImages, LacksSomeImage, HasOtherDigits, HasNoView, IsViewOf, FindsPod}
-use Rattle.running_views.specs.Laws.{IsAlone}
+use Rattle.metadata.specs.PodViews.{app_names, image_path, ReadsAppImages, LacksSomeImage, HasOtherDigits, HasNoView, IsViewOf, FindsPodByToken}
+use Rattle.running_views.specs.Laws.{ReadsUndisturbed}
 use Rattle.running_views.specs.Views.{HasImageIn, HaveImagesIn, IsViewIn, FindsIn}
 use Rattle.running_views.proofs.Limits.{short_image, whole_image, digits_length, short_token, whole_token}
 use Rattle.running_views.proofs.QuietReads.{front_before, lacks_not}
 use Rattle.running_views.proofs.Running.{runs_before, stopped_before}
 
--- a file is in a folder that stands
-file_stands : (s : DirState) (inner : Inner) (bytes : List ℕ) → file_at s inner ≡ Some bytes → stands s.namespace inner.spot ≡ true
-file_stands s inner bytes is = by (folder_at s.namespace inner.spot) is
-  where
-    by : (o : Option ℕ) → bytes_in s.entries inner.path o ≡ Some bytes → is_some o ≡ true
-    by (Some folder) h = refl
-    by None h = cc
-
-some_same : (x y : List ℕ) → Some x ≡ Some y → x ≡ y
+pub some_same : (x y : List ℕ) → Some x ≡ Some y → x ≡ y
 some_same x y is = cc
 
-reads_same : (x y : PodData) → reads x ≡ reads y → x ≡ y
+pub reads_same : (x y : PodData) → reads x ≡ reads y → x ≡ y
 reads_same x y is = cc
 
 -- each of the apps has an image
@@ -45,11 +36,11 @@ image_among s pod [] app later (image ∷ images) are = (image, are.0)
 image_among s pod (first ∷ earlier) app later [] are = absurd are
 image_among s pod (first ∷ earlier) app later (image ∷ images) are = image_among s pod earlier app later images are.1
 
-module _ {old new : DirAt} (only : OnlyAsksFor true looks_in_run old new) (alone : IsAlone old new) (pod : PodId) where
+module _ {old new : DirAt} (only : OnlyAsksFor true looks_in_run old new) (alone : ReadsUndisturbed old new) (pod : PodId) where
   abbrev before : DirState
   before = state_after old.trace
 
-  images_before : (apps images : List (List ℕ)) → ReadsImages pod apps images old new → HaveImagesIn before pod apps images
+  images_before : (apps images : List (List ℕ)) → ReadsAppImages pod apps images old new → HaveImagesIn before pod apps images
   images_before [] [] are = tt
   images_before [] (image ∷ images) are = absurd are
   images_before (app ∷ apps) [] are = absurd are
@@ -61,7 +52,7 @@ module _ {old new : DirAt} (only : OnlyAsksFor true looks_in_run old new) (alone
   view_before : (digits : List ℕ) (v : ViewData) → length digits ≡ 32 → IsViewOf pod digits v old new → IsViewIn before pod digits v
   view_before digits v long is =
       let t = front_before only alone (pod_file pod token_name) most_of_token (λ bytes. bytes ≡ digits) refl (omega arith) is.named in
-      let m = front_before only alone (pod_file pod manifest_name) most_of_manifest (IsManifestOf v.manifest) refl (omega arith) is.files.manifest in
+      let m = front_before only alone (pod_file pod pod_manifest_name) most_of_manifest (IsManifestOf v.manifest) refl (omega arith) is.files.manifest in
       record {
         token = t.1 ∙ ap Some (whole_token t.0 digits long t.2);
         runs = runs_before only alone pod is.running (file_stands before (pod_file pod token_name) t.0 t.1);
@@ -76,14 +67,14 @@ module _ {old new : DirAt} (only : OnlyAsksFor true looks_in_run old new) (alone
         lacks_not only alone (pod_file pod token_name) most_of_token (λ bytes. bytes ≡ digits → ⊥) refl (omega arith) digits x.token
         (λ lacking. lacking (short_token digits digits long refl)) other
 
-    not_bare : LacksManifest pod old new → ⊥
+    not_bare : ReadsNoPodManifest pod old new → ⊥
     not_bare lacks =
-        lacks_not only alone (pod_file pod manifest_name) most_of_manifest IsNoManifest refl (omega arith) x.manifest.bytes x.manifest.there
+        lacks_not only alone (pod_file pod pod_manifest_name) most_of_manifest IsNoManifest refl (omega arith) x.manifest.bytes x.manifest.there
         (λ lacking. lacking v.manifest (same_reading x.manifest.bytes ∙ x.manifest.is)) lacks
 
     not_partly : LacksSomeImage pod old new → ⊥
     not_partly l =
-        let m = front_before only alone (pod_file pod manifest_name) most_of_manifest (IsManifestOf l.manifest) refl (omega arith) l.read in
+        let m = front_before only alone (pod_file pod pod_manifest_name) most_of_manifest (IsManifestOf l.manifest) refl (omega arith) l.read in
         let file : m.0 ≡ x.manifest.bytes = some_same m.0 x.manifest.bytes (sym m.1 ∙ x.manifest.there) in
         let same : l.manifest ≡ v.manifest =
         reads_same l.manifest v.manifest (sym m.2 ∙ (same_reading m.0 ∙ (ap pod_manifest file ∙ x.manifest.is))) in
@@ -99,6 +90,6 @@ module _ {old new : DirAt} (only : OnlyAsksFor true looks_in_run old new) (alone
     no_view long (inr (inr (inl bare))) = not_bare bare
     no_view long (inr (inr (inr partly))) = not_partly partly
 
-pub found_before : {old new : DirAt} → OnlyAsksFor true looks_in_run old new → IsAlone old new → (token : List ℕ) (found : Option ViewData) → length token ≡ 16 → FindsPod token found old new → FindsIn (state_after old.trace) token found
+pub found_before : {old new : DirAt} → OnlyAsksFor true looks_in_run old new → ReadsUndisturbed old new → (token : List ℕ) (found : Option ViewData) → length token ≡ 16 → FindsPodByToken token found old new → FindsIn (state_after old.trace) token found
 found_before only alone token (Some v) long x = (x.0, view_before only alone x.0 (encode_lower token) v (digits_length token long) x.1)
 found_before only alone token None long none = λ pod v named view. no_view only alone pod (encode_lower token) v view (digits_length token long) (none pod named)

@@ -1,4 +1,3 @@
-pub mod Calm
 pub mod Same
 pub mod QuietReads
 pub mod Limits

@@ -1,35 +1,22 @@
 -- What fits the room that a file is read in is the whole file.
-use Rattle.std.proofs.Common.{arith, ◌≡◌, ℕ, ◌+◌, Bool, true, false, nat_le, Some, None, Result, Ok, Err, List, take, drop, length, length-take, codes, refl, sym, ap, ◌∙◌}
+use Rattle.std.proofs.Common.{arith, ◌≡◌, ℕ, Bool, true, false, nat_le, Some, None, Result, Ok, Err, List, take, drop, length, length-take, codes, refl, sym, ap, ◌∙◌}
 use Rattle.std.specs.Prelude.{if◌then◌else◌}
 use Rattle.std.specs.Str.{bytes_eq}
-use Rattle.std.proofs.lemmas.Bool.Decides.{nat_tests}
-use Rattle.std.proofs.lemmas.Grind.{common_steps}
 use Rattle.std.proofs.lemmas.Slice.Eq.{bytes_eq-Decides}
+use Rattle.plain_laws.proofs.Fronts.{taken_past, take_short, take_long}
 use Rattle.hex.specs.Hex.{decode_sized, encode_lower, lower_digits}
 use Rattle.hex.specs.declared.error.FromHexError.{FromHexError}
 use Rattle.hex.proofs.HexLemmas.{decode_sized-ok, length-encode_with}
 use Rattle.ac_types.specs.declared.fault.FaultKind.TheVariants.{TooLong}
 use Rattle.ac_types.specs.Ids.{written_as, hex_read}
 use Rattle.ac_types.specs.Outcomes.{reads, fails}
-use Rattle.manifest_parts.specs.DocumentForm.{document}
-use Rattle.manifests.specs.ImageForm.{image_manifest}
+use Rattle.manifest_laws.proofs.Heads.{document_too_long}
 use Rattle.metadata_request.specs.declared.request.Request.{Request}
 use Rattle.metadata_reply.specs.Targets.{token_of}
 use Rattle.metadata_reply.specs.Views.{HasReading}
 use Rattle.metadata.specs.Serving.{sought}
-use Rattle.standing_images.proofs.Fronts.{taken_past}
 
 -- ---- the manifest of an image
-
-take_short : (n : ℕ) (bytes : List ℕ) → nat_le (length bytes) n ≡ true → take (n + 1) bytes ≡ bytes
-take_short n bytes short = grind (arith, nat_tests, common_steps)
-
-take_long : (n : ℕ) (bytes : List ℕ) → nat_le (length bytes) n ≡ false → nat_le (length (take (n + 1) bytes)) n ≡ false
-take_long n bytes long = grind (arith, nat_tests, common_steps)
-
-too_long : (bytes : List ℕ) → nat_le (length bytes) 1048576 ≡ false → image_manifest bytes ≡ fails (codes "$") TooLong
-unfolding image_manifest document
-too_long bytes long = rw long
 
 -- what has a reading isn't longer than a manifest may be
 read_within : (bytes : List ℕ) → HasReading bytes → nat_le (length bytes) 1048576 ≡ true
@@ -37,7 +24,7 @@ read_within bytes read = by (nat_le (length bytes) 1048576) refl
   where
     by : (b : Bool) → nat_le (length bytes) 1048576 ≡ b → b ≡ true
     by true is = refl
-    by false is = let clash : reads read.0 ≡ fails (codes "$") TooLong = sym read.1 ∙ too_long bytes is in cc
+    by false is = let clash : reads read.0 ≡ fails (codes "$") TooLong = sym read.1 ∙ document_too_long bytes is in cc
 
 pub short_image : (bytes : List ℕ) → HasReading bytes → take 1048577 bytes ≡ bytes
 short_image bytes read = take_short 1048576 bytes (read_within bytes read)

@@ -19,6 +19,7 @@ use Rattle.metadata.specs.Serving.{sought}
 use Rattle.running_views.specs.Views.{HaveImagesIn, IsViewIn, FindsIn, IsTokenOnce, AreTokensOnce}
 use Rattle.running_views.specs.Replies.{IsPodIn, AnswersIn, IsReplyIn}
 use Rattle.running_views.proofs.Limits.{sought_token}
+use Rattle.running_views.proofs.FoundBefore.{some_same, reads_same}
 
 -- ---- the request
 
@@ -31,12 +32,6 @@ request_one input (Some a) (Some b) (h, rest, begins, is) (k, after, starts, sam
     ap Some (is ∙ (ap (λ (x : RequestHead). request_of x rest) one.0 ∙ (ap (request_of k) one.1 ∙ sym same)))
 
 -- ---- the view
-
-some_same : (x y : List ℕ) → Some x ≡ Some y → x ≡ y
-some_same x y is = cc
-
-reads_same : (x y : PodData) → reads x ≡ reads y → x ≡ y
-reads_same x y is = cc
 
 images_one : (s : DirState) (pod : PodId) (apps xs ys : List (List ℕ)) → HaveImagesIn s pod apps xs → HaveImagesIn s pod apps ys → xs ≡ ys
 images_one s pod [] [] [] x y = refl

@@ -8,13 +8,13 @@ use Rattle.metadata_reply.specs.declared.reply.Reply.{Reply}
 use Rattle.metadata_reply.specs.Views.{ViewData}
 use Rattle.pod_report.specs.Requests.{OnlyAsksFor}
 use Rattle.metadata.specs.Looks.{looks_in_run}
-use Rattle.metadata.specs.Serving.{sought, IsPodFor, Answers, IsReplyTo}
-use Rattle.running_views.specs.Laws.{IsAlone}
+use Rattle.metadata.specs.Serving.{sought, IsPodFor, AnswersRequest, IsReplyTo}
+use Rattle.running_views.specs.Laws.{ReadsUndisturbed}
 use Rattle.running_views.specs.Replies.{IsPodIn, AnswersIn, IsReplyIn}
 use Rattle.running_views.proofs.Limits.{sought_token}
 use Rattle.running_views.proofs.FoundBefore.{found_before}
 
-module _ {old new : DirAt} (only : OnlyAsksFor true looks_in_run old new) (alone : IsAlone old new) where
+module _ {old new : DirAt} (only : OnlyAsksFor true looks_in_run old new) (alone : ReadsUndisturbed old new) where
   abbrev before : DirState
   before = state_after old.trace
 
@@ -22,7 +22,7 @@ module _ {old new : DirAt} (only : OnlyAsksFor true looks_in_run old new) (alone
   pod_before None long pod is = is
   pod_before (Some token) long pod found = found_before only alone token pod (long token refl) found
 
-  answers_before : (request : Option Request) (key : List ℕ) (reply : Reply) → Answers request key reply old new → AnswersIn before request key reply
+  answers_before : (request : Option Request) (key : List ℕ) (reply : Reply) → AnswersRequest request key reply old new → AnswersIn before request key reply
   answers_before None key reply is = is
   answers_before (Some request) key reply r = record { pod = r.pod; found = pod_before (sought request) (sought_token request) r.pod r.found; is = r.is }
 

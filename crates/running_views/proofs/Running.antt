@@ -14,7 +14,7 @@ use Rattle.dir_model.specs.State.{DirState, folder_at, stands, is_owned, is_owne
 use Rattle.dir_model.specs.Trace.{state_after}
 use Rattle.dir_model.proofs.Lists.{and_left, and_both}
 use Rattle.dir_model.proofs.Moments.{some_number}
-use Rattle.dir_rules.specs.Standing.{is_of}
+use Rattle.dir_rules.specs.Standing.{is_spot_of_pod}
 use Rattle.dir_trait.specs.DirCalls.{DirAt}
 use Rattle.lifecycle.specs.Executions.{IsConforming}
 use Rattle.lifecycle.specs.PodMachine.{pod_phase}
@@ -29,8 +29,9 @@ use Rattle.pod_report.specs.Requests.{OnlyAsksFor}
 use Rattle.pod_report.proofs.QuietSurvey.{SameWorld}
 use Rattle.metadata.specs.Looks.{looks_in_run}
 use Rattle.metadata.specs.PodViews.{WasRunning, WasNotRunning}
-use Rattle.running_views.specs.Laws.{IsAlone}
-use Rattle.running_views.proofs.Same.{same_folder, same_stands}
+use Rattle.running_views.specs.Laws.{ReadsUndisturbed}
+use Rattle.pod_report.proofs.QuietLines.{same_folder}
+use Rattle.pod_report.proofs.SameStatus.{same_stands}
 use Rattle.running_views.proofs.QuietReads.{world_at}
 
 -- ---- by one state
@@ -82,7 +83,7 @@ held_runs false is = cc
 
 -- ---- by what was told between two moments
 
-module _ {old new : DirAt} (only : OnlyAsksFor true looks_in_run old new) (alone : IsAlone old new) (pod : PodId) where
+module _ {old new : DirAt} (only : OnlyAsksFor true looks_in_run old new) (alone : ReadsUndisturbed old new) (pod : PodId) where
   abbrev before : DirState
   before = state_after old.trace
 
@@ -92,7 +93,7 @@ module _ {old new : DirAt} (only : OnlyAsksFor true looks_in_run old new) (alone
   abbrev spot : Spot
   spot = pod_spot pod area.Run
 
-  of_pod : is_of u spot ≡ true
+  of_pod : is_spot_of_pod u spot ≡ true
   of_pod = and_both (is_stage area.Run) (bytes_eq u u) refl ((bytes_eq-Decides u u).1 refl)
 
   off : (h : List Event) → IsConforming h → SameWorld old.process before (state_after h) → stands before.namespace spot ≡ true →

@@ -1,20 +1,16 @@
 -- States with the same folders, owners and files tell the same of views and replies.
-use Rattle.std.proofs.Common.{◌≡◌, inl, inr, ℕ, Option, Some, None, Ok, Err, is_some, position, List, [], ◌∷◌, refl, sym, ap, ◌∙◌}
+use Rattle.std.proofs.Common.{◌≡◌, inl, inr, ℕ, Option, Some, None, Ok, Err, List, [], ◌∷◌, sym, ◌∙◌}
 use Rattle.hex.specs.Hex.{encode_lower}
-use Rattle.dir_model.specs.declared.area.Area.{Area}
-use Rattle.dir_model.specs.declared.area.Area.TheVariants as area
 use Rattle.dir_model.specs.declared.item.Inner.{Inner}
 use Rattle.dir_model.specs.declared.pod.PodId.{PodId}
-use Rattle.dir_model.specs.declared.spot.Spot.{Spot}
-use Rattle.dir_model.specs.declared.tree.TreeEntry.{TreeEntry}
-use Rattle.dir_model.specs.State.{DirState, is_at, folder_at, stands, is_owned_in, is_owned_at}
-use Rattle.dir_files.specs.Reads.{bytes_in, file_at}
+use Rattle.dir_model.specs.State.{DirState}
+use Rattle.dir_files.specs.Reads.{file_at}
 use Rattle.listener.specs.Connections.{Connection, ListenerAt}
-use Rattle.phase_read.specs.declared.found.Found.{Found}
-use Rattle.phase_read.specs.Read.{pod_spot}
-use Rattle.phase_read.specs.Sequential.{or_in, sequential_read}
-use Rattle.pod_files.specs.Places.{pod_file, manifest_name, token_name}
+use Rattle.phase_read.specs.Sequential.{sequential_read}
+use Rattle.pod_files.specs.Places.{pod_file, pod_manifest_name, token_name}
+use Rattle.pod_report.proofs.QuietLines.{same_file}
 use Rattle.pod_report.proofs.QuietSurvey.{SameWorld}
+use Rattle.pod_report.proofs.SameStatus.{same_read}
 use Rattle.metadata_request.specs.declared.request.Request.{Request}
 use Rattle.metadata_reply.specs.declared.reply.Reply.{Reply}
 use Rattle.metadata_reply.specs.Views.{ViewData}
@@ -24,39 +20,13 @@ use Rattle.metadata.specs.Service.{Served}
 use Rattle.running_views.specs.Views.{HaveImagesIn, IsViewIn, FindsIn}
 use Rattle.running_views.specs.Replies.{IsPodIn, AnswersIn, IsReplyIn, OwesIn, ServesOneIn, ServesIn}
 
-module _ {me : ℕ} {s t : DirState} (w : SameWorld me s t) where
-  pub same_folder : (spot : Spot) → folder_at t.namespace spot ≡ folder_at s.namespace spot
-  same_folder spot = ap (λ (folders : List (Option Spot)). position (is_at spot) folders) w.names.folders
-
-  pub same_stands : (spot : Spot) → stands t.namespace spot ≡ stands s.namespace spot
-  same_stands spot = ap (λ (o : Option ℕ). is_some o) (same_folder spot)
-
-  pub same_file : (inner : Inner) → file_at t inner ≡ file_at s inner
-  same_file inner =
-      ap (λ (es : List TreeEntry). bytes_in es inner.path (folder_at t.namespace inner.spot)) w.entries
-      ∙ ap (bytes_in s.entries inner.path) (same_folder inner.spot)
-
-  owned_in : (folder : Option ℕ) → is_owned_in t.namespace folder ≡ is_owned_in s.namespace folder
-  owned_in None = refl
-  owned_in (Some k) = w.names.owned k
-
-  pub same_owned : (spot : Spot) → is_owned_at t.namespace spot ≡ is_owned_at s.namespace spot
-  same_owned spot = owned_in (folder_at t.namespace spot) ∙ ap (is_owned_in s.namespace) (same_folder spot)
-
-  or_same : (pod : PodId) (a : Area) (later later' : Found) → later' ≡ later → or_in t pod a later' ≡ or_in s pod a later
-  or_same pod a later later' is = rw (same_stands (pod_spot pod a), same_owned (pod_spot pod a), is) refl
-
-  same_phase : (pod : PodId) → sequential_read t pod ≡ sequential_read s pod
-  same_phase pod =
-      or_same pod area.Embryo _ _ (or_same pod area.Prepare _ _ (or_same pod area.Prepared _ _ (or_same pod area.Run _ _ (or_same pod area.ExitedGarbage _ _ (or_same pod area.Garbage _ _ refl)))))
-
 -- each file and each phase is the same
 pub record TellsSame (s t : DirState) : Type 0 where
   pub files : (inner : Inner) → file_at t inner ≡ file_at s inner
   pub phases : (pod : PodId) → sequential_read t pod ≡ sequential_read s pod
 
 pub same_told : {me : ℕ} {s t : DirState} → SameWorld me s t → TellsSame s t
-same_told w = record { files = same_file w; phases = same_phase w }
+same_told w = record { files = same_file w; phases = same_read w }
 
 turned : {s t : DirState} → TellsSame s t → TellsSame t s
 turned x = record { files = λ inner. sym (x.files inner); phases = λ pod. sym (x.phases pod) }
@@ -72,7 +42,7 @@ view_same x pod digits v is = record {
   token = sym (x.files (pod_file pod token_name)) ∙ is.token;
   runs = sym (x.phases pod) ∙ is.runs;
   uuid = is.uuid;
-  manifest = record { bytes = is.manifest.bytes; there = sym (x.files (pod_file pod manifest_name)) ∙ is.manifest.there; is = is.manifest.is };
+  manifest = record { bytes = is.manifest.bytes; there = sym (x.files (pod_file pod pod_manifest_name)) ∙ is.manifest.there; is = is.manifest.is };
   images = images_same x pod (app_names v.manifest) v.images is.images;
 }
 

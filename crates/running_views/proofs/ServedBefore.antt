@@ -14,9 +14,9 @@ use Rattle.pod_report.specs.Requests.{OnlyAsksFor}
 use Rattle.pod_report.proofs.QuietSurvey.{is_calm, SameWorld, same_world}
 use Rattle.metadata.specs.Looks.{looks_in_run}
 use Rattle.metadata.specs.Service.{Served, Owes, ServesOne, ServesThese}
-use Rattle.running_views.specs.Laws.{IsAlone}
+use Rattle.metadata.proofs.Calm.{looks_calm}
+use Rattle.running_views.specs.Laws.{ReadsUndisturbed}
 use Rattle.running_views.specs.Replies.{OwesIn, ServesOneIn, ServesIn}
-use Rattle.running_views.proofs.Calm.{looks_calm}
 use Rattle.running_views.proofs.Same.{same_told, serves_same}
 use Rattle.running_views.proofs.RepliedBefore.{reply_before}
 
@@ -27,7 +27,7 @@ these_calm key (served ∷ more) old new from upto (mid, moment, one, rest) =
     and_more (extends_wider looks_calm (one.asks.extends refl)) one.asks.same (these_calm key more mid new moment upto rest)
 
 -- a part of the time, and what is left of it
-module _ {from moment upto : DirAt} (alone : IsAlone from upto) (only : OnlyAsksFor true looks_in_run from moment) (rest : Extends is_calm moment.process moment.trace upto.trace) where
+module _ {from moment upto : DirAt} (alone : ReadsUndisturbed from upto) (only : OnlyAsksFor true looks_in_run from moment) (rest : Extends is_calm moment.process moment.trace upto.trace) where
   abbrev me : ℕ
   me = from.process
 
@@ -37,7 +37,7 @@ module _ {from moment upto : DirAt} (alone : IsAlone from upto) (only : OnlyAsks
   last : Extends is_calm me moment.trace upto.trace
   last = subst (λ (p : ℕ). Extends is_calm p moment.trace upto.trace) only.same rest
 
-  alone_first : IsAlone from moment
+  alone_first : ReadsUndisturbed from moment
   alone_first = record {
     quiet = quiet_within alone.quiet (nothing_yet {asks = is_calm}) last first.more first.grown;
     idle = alone.idle;
@@ -49,14 +49,14 @@ module _ {from moment upto : DirAt} (alone : IsAlone from upto) (only : OnlyAsks
       subst (λ (h : List Event). SameWorld me (state_after from.trace) (state_after h)) (sym first.grown)
       (same_world first alone_first.quiet alone.idle first.more [] (first.grown ∙ sym (append-nil (from.trace ++ first.more))))
 
-  alone_last : IsAlone moment upto
+  alone_last : ReadsUndisturbed moment upto
   alone_last = record {
     quiet = subst (λ (p : ℕ). Quiet p moment.trace upto.trace) (sym only.same) (quiet_within alone.quiet first (nothing_yet {asks = is_calm}) last.more last.grown);
     idle = subst (λ (p : ℕ). OwnsNothing p (state_after moment.trace).namespace) (sym only.same) world.names.mine;
     conforms = alone.conforms;
   }
 
-module _ {from moment : DirAt} (alone : IsAlone from moment) (only : OnlyAsksFor true looks_in_run from moment) where
+module _ {from moment : DirAt} (alone : ReadsUndisturbed from moment) (only : OnlyAsksFor true looks_in_run from moment) where
   owes_before : (key : List ℕ) (c : Connection) (served : Served) → Owes key c served from moment → OwesIn (state_after from.trace) key c served
   owes_before key c (Ok done) owes = reply_before only alone c.input key c.written owes
   owes_before key c (Err error) (inl none) = inl none
@@ -73,7 +73,7 @@ module _ {from moment : DirAt} (alone : IsAlone from moment) (only : OnlyAsksFor
     link_told = o.link_told;
   }
 
-pub served_before : (key : List ℕ) (results : List Served) (old new : ListenerAt) (from upto : DirAt) → IsAlone from upto → ServesThese key results old new from upto → ServesIn (state_after from.trace) key results old new
+pub served_before : (key : List ℕ) (results : List Served) (old new : ListenerAt) (from upto : DirAt) → ReadsUndisturbed from upto → ServesThese key results old new from upto → ServesIn (state_after from.trace) key results old new
 served_before key [] old new from upto alone x = x.0
 served_before key (served ∷ more) old new from upto alone (mid, moment, one, rest) =
     let calm = these_calm key more mid new moment upto rest in

@@ -9,14 +9,14 @@ use Rattle.listener.specs.Connections.{ListenerAt}
 use Rattle.pod_report.specs.Requests.{OnlyAsksFor}
 use Rattle.metadata_reply.specs.Views.{ViewData}
 use Rattle.metadata.specs.Looks.{looks_in_run}
-use Rattle.metadata.specs.PodViews.{FindsPod}
+use Rattle.metadata.specs.PodViews.{FindsPodByToken}
 use Rattle.metadata.specs.Serving.{IsReplyTo}
 use Rattle.metadata.specs.Service.{Served, ServesThese}
 use Rattle.running_views.specs.Views.{FindsIn, AreTokensOnce}
 use Rattle.running_views.specs.Replies.{IsReplyIn, ServesIn}
 
 -- between these two moments nobody else steps, the process holds no lock exclusively, and every process keeps the local rules
-pub record IsAlone (old new : DirAt) : Type 0 where
+pub record ReadsUndisturbed (old new : DirAt) : Type 0 where
   pub quiet : Quiet old.process old.trace new.trace
   pub idle : OwnsNothing old.process (state_after old.trace).namespace
   pub conforms : IsConforming new.trace
@@ -25,18 +25,18 @@ pub record IsAlone (old new : DirAt) : Type 0 where
 abbrev pub FindsBefore : List Event → Type 0
 FindsBefore trace =
     (token : List ℕ) (found : Option ViewData) (old new : DirAt) → new.trace ≡ trace → length token ≡ 16 →
-    OnlyAsksFor true looks_in_run old new → IsAlone old new → FindsPod token found old new → FindsIn (state_after old.trace) token found
+    OnlyAsksFor true looks_in_run old new → ReadsUndisturbed old new → FindsPodByToken token found old new → FindsIn (state_after old.trace) token found
 
 -- so each reply is one by the state before
 abbrev pub RepliesBefore : List Event → Type 0
 RepliesBefore trace =
-    (input key bytes : List ℕ) (old new : DirAt) → new.trace ≡ trace → OnlyAsksFor true looks_in_run old new → IsAlone old new →
+    (input key bytes : List ℕ) (old new : DirAt) → new.trace ≡ trace → OnlyAsksFor true looks_in_run old new → ReadsUndisturbed old new →
     IsReplyTo input key bytes old new → IsReplyIn (state_after old.trace) input key bytes
 
 -- and however many connections are served, each is by the state before the first
 abbrev pub ServesBefore : List Event → Type 0
 ServesBefore trace =
-    (key : List ℕ) (results : List Served) (old new : ListenerAt) (from upto : DirAt) → upto.trace ≡ trace → IsAlone from upto →
+    (key : List ℕ) (results : List Served) (old new : ListenerAt) (from upto : DirAt) → upto.trace ≡ trace → ReadsUndisturbed from upto →
     ServesThese key results old new from upto → ServesIn (state_after from.trace) key results old new
 
 -- where no token names two pods, an input has one reply

@@ -10,14 +10,14 @@ use Rattle.manifests.specs.PodData.{PodData}
 use Rattle.phase_read.specs.declared.found.Found.TheVariants.{At}
 use Rattle.phase_read.specs.Sequential.{sequential_read}
 use Rattle.pod_files.specs.Files.{IsManifestOf}
-use Rattle.pod_files.specs.Places.{pod_file, manifest_name, token_name}
+use Rattle.pod_files.specs.Places.{pod_file, pod_manifest_name, token_name}
 use Rattle.metadata_reply.specs.Views.{ViewData, HasReading}
-use Rattle.metadata.specs.PodViews.{app_names, image_path, IsPod}
+use Rattle.metadata.specs.PodViews.{app_names, image_path, IsPodUuid}
 
 -- the file `pod` in the pod's folder in run reads as this manifest
-pub record HasManifestIn (s : DirState) (pod : PodId) (manifest : PodData) : Type 0 where
+pub record RunsWithManifest (s : DirState) (pod : PodId) (manifest : PodData) : Type 0 where
   pub bytes : List ℕ
-  pub there : file_at s (pod_file pod manifest_name) ≡ Some bytes
+  pub there : file_at s (pod_file pod pod_manifest_name) ≡ Some bytes
   pub is : IsManifestOf manifest bytes
 
 -- the manifest of an app's image is the whole file there, and it has a reading
@@ -36,17 +36,17 @@ pub record IsViewIn (s : DirState) (pod : PodId) (digits : List ℕ) (v : ViewDa
   pub token : file_at s (pod_file pod token_name) ≡ Some digits
   pub runs : sequential_read s pod ≡ At Running Run
   pub uuid : v.uuid ≡ pod.bytes
-  pub manifest : HasManifestIn s pod v.manifest
+  pub manifest : RunsWithManifest s pod v.manifest
   pub images : HaveImagesIn s pod (app_names v.manifest) v.images
 
 -- a pod has this view for the token; or no pod has any
 abbrev pub FindsIn : DirState → List ℕ → Option ViewData → Type 0
-FindsIn s token None = (pod : PodId) (v : ViewData) → IsPod pod → IsViewIn s pod (encode_lower token) v → ⊥
+FindsIn s token None = (pod : PodId) (v : ViewData) → IsPodUuid pod → IsViewIn s pod (encode_lower token) v → ⊥
 FindsIn s token (Some v) = (pod : PodId) × IsViewIn s pod (encode_lower token) v
 
 -- at most one pod has a view for the token, and it is a pod by its uuid
 pub record IsTokenOnce (s : DirState) (token : List ℕ) : Type 0 where
-  pub named : (pod : PodId) (v : ViewData) → IsViewIn s pod (encode_lower token) v → IsPod pod
+  pub named : (pod : PodId) (v : ViewData) → IsViewIn s pod (encode_lower token) v → IsPodUuid pod
   pub one : (p q : PodId) (v w : ViewData) → IsViewIn s p (encode_lower token) v → IsViewIn s q (encode_lower token) w → p ≡ q
 
 -- so it is of each token of 16 bytes

@@ -14,11 +14,11 @@ pub struct ChangingBundle {
 
 impl Bundle for ChangingBundle {
     ghost use Rattle.std.specs.Prelude.{false};
-    ghost use Rattle.dir_memory.specs.MemoryBundles.{shown_of};
+    ghost use Rattle.dir_memory.specs.MemoryBundles.{bundle_of_memory};
 
     ghost observed = { false };
 
-    ghost shown = { λ b. shown_of b.bundle };
+    ghost shown = { λ b. bundle_of_memory b.bundle };
 
     fn faults(&self) -> u64 {
         self.bundle.faults()

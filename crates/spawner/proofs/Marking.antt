@@ -1,23 +1,18 @@
 -- How a caller knows that an app's mark was made and synced.
-use Rattle.std.proofs.Common.{◌≡◌, ◌⊎◌, inl, inr, ℕ, Bool, true, false, List, [], ◌∷◌, ◌++◌, refl, sym, ap, subst, ◌∙◌, append_assoc}
+use Rattle.std.proofs.Common.{◌≡◌, ℕ, Bool, true, false, List, [], ◌∷◌, ◌++◌, refl, sym, ap, subst, ◌∙◌, append_assoc}
 use Rattle.dir_model.specs.declared.event.Event.{Event}
 use Rattle.dir_model.specs.declared.item.Inner.{Inner}
 use Rattle.dir_model.specs.declared.request.Request.{Request}
 use Rattle.dir_model.specs.declared.request.Request.TheVariants.{MakeFileIn, SyncIn}
 use Rattle.dir_model.specs.declared.request.Reply.TheVariants.{Done}
-use Rattle.dir_model.specs.Replies.{is_late_reply}
-use Rattle.dir_model.specs.Calls.{CallStep, TookPlace, LeftNothing, is_kill, event}
+use Rattle.dir_model.specs.Calls.{CallStep, is_kill, event}
 use Rattle.dir_model.proofs.Lists.{same_self}
 use Rattle.dir_trait.specs.DirCalls.{DirAt, DirCall}
+use Rattle.dir_trait.proofs.Calls.{took}
 use Rattle.spawner.specs.declared.call.RootPlace.{RootPlace}
 use Rattle.spawner.specs.Conditions.{makes_mark, syncs_folder, did, MarkSynced}
 
--- a call that was done took place
-took : {me : ℕ} {before new : List Event} {request : Request} → is_late_reply request Done ≡ false → TookPlace before me request Done new ⊎ LeftNothing before me request Done new → TookPlace before me request Done new
-took timely (inl t) = t
-took timely (inr left) = let e : true ≡ false = sym left.late ∙ timely in cc
-
-did_it : (me : ℕ) (asks : Request → Bool) (request : Request) → is_kill request ≡ false → asks request ≡ true → did me asks (event me request Done) ≡ true
+pub did_it : (me : ℕ) (asks : Request → Bool) (request : Request) → is_kill request ≡ false → asks request ≡ true → did me asks (event me request Done) ≡ true
 did_it me asks request alive asked = rw (same_self me, alive, asked) refl
 
 -- two events of a trace, one after the other

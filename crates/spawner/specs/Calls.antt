@@ -56,13 +56,13 @@ abbrev pub has_started : Child → List SpawnCall → Bool
 has_started child calls = list_any (λ c. answers child c.reply) calls
 
 -- the root of a start
-abbrev pub root_of : SpawnRequest → Option RootPlace
-root_of (Start root argv env cwd) = Some root
-root_of _ = None
+abbrev pub root_of_start : SpawnRequest → Option RootPlace
+root_of_start (Start root argv env cwd) = Some root
+root_of_start _ = None
 
 -- the root of a start that answered this child
 abbrev pub root_by : Child → SpawnCall → Option RootPlace
-root_by child c = cond (answers child c.reply) (root_of c.request) None
+root_by child c = cond (answers child c.reply) (root_of_start c.request) None
 
 abbrev pub roots_of : Child → List SpawnCall → List RootPlace
 roots_of child calls = filter_map (root_by child) calls

@@ -10,7 +10,7 @@ use Rattle.dir_model.specs.Trees.{mark_prefix}
 use Rattle.dir_model.specs.Calls.{is_foreign}
 use Rattle.dir_model.specs.Local.{IsActive}
 use Rattle.dir_rules.specs.declared.seen.Seen.{Seen}
-use Rattle.dir_rules.specs.Standing.{is_of}
+use Rattle.dir_rules.specs.Standing.{is_spot_of_pod}
 use Rattle.dir_rules.specs.Rules.{runs}
 use Rattle.dir_trait.specs.DirCalls.{DirAt}
 use Rattle.dir_trait.specs.Knowledge.{Knows}
@@ -25,12 +25,12 @@ start_mark app = mark_prefix ++ app
 
 -- it asks for the app's mark in the pod
 abbrev pub makes_mark : RootPlace → Request → Bool
-makes_mark root (MakeFileIn inner) = is_of root.spot.name inner.spot && bytes_eq inner.path (start_mark root.app)
+makes_mark root (MakeFileIn inner) = is_spot_of_pod root.spot.name inner.spot && bytes_eq inner.path (start_mark root.app)
 makes_mark root _ = false
 
 -- it asks for a sync of the pod's folder
 abbrev pub syncs_folder : RootPlace → Request → Bool
-syncs_folder root (SyncIn inner) = is_of root.spot.name inner.spot && is_empty inner.path
+syncs_folder root (SyncIn inner) = is_spot_of_pod root.spot.name inner.spot && is_empty inner.path
 syncs_folder root _ = false
 
 abbrev pub is_done : Reply → Bool

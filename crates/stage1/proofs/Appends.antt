@@ -8,14 +8,14 @@ use Rattle.dir_model.specs.declared.request.Reply.{Reply}
 use Rattle.dir_model.specs.declared.request.Request.{Request}
 use Rattle.dir_model.specs.Calls.{event, is_foreign, CallStep, TookPlace, LeftNothing}
 use Rattle.dir_trait.specs.DirCalls.{DirAt, DirCall, ExtendsBy}
-use Rattle.stage1.specs.Keeping.{once, appends_to, is_append, appends}
+use Rattle.stage1.specs.Keeping.{once, appends_to, is_own_append, appends}
 
 module _ (me : ℕ) (i : Inner) where
   abbrev pub count : List Event → ℕ
-  count es = length (filter (is_append me i) es)
+  count es = length (filter (is_own_append me i) es)
 
   pub count_more : (xs ys : List Event) → count (xs ++ ys) ≡ count xs + count ys
-  count_more xs ys = ap length (filter-append (is_append me i) xs ys) ∙ length-append (filter (is_append me i) xs) (filter (is_append me i) ys)
+  count_more xs ys = ap length (filter-append (is_own_append me i) xs ys) ∙ length-append (filter (is_own_append me i) xs) (filter (is_own_append me i) ys)
 
   count_foreign : (es : List Event) → AllByRecursion (λ e. is_foreign me e ≡ true) es → count es ≡ 0
   count_foreign [] f = refl

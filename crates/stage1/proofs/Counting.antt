@@ -4,9 +4,9 @@ use Rattle.std.proofs.lemmas.List.Elements.{filter-append}
 use Rattle.spawner.specs.declared.call.Child.{Child}
 use Rattle.spawner.specs.declared.call.SpawnCall.{SpawnCall}
 use Rattle.spawner.specs.Calls.{answers}
-use Rattle.stage1.specs.Cutting.{starts_of, waits_for, waits_on, AreWaitedFor}
+use Rattle.stage1.specs.Cutting.{count_of_starts, waits_for, waits_on, AreWaitedFor}
 
-pub starts_more : (child : Child) (xs ys : List SpawnCall) → starts_of child (xs ++ ys) ≡ starts_of child xs + starts_of child ys
+pub starts_more : (child : Child) (xs ys : List SpawnCall) → count_of_starts child (xs ++ ys) ≡ count_of_starts child xs + count_of_starts child ys
 starts_more child xs ys = ap length (filter-append (λ c. answers child c.reply) xs ys) ∙ length-append (filter (λ c. answers child c.reply) xs) (filter (λ c. answers child c.reply) ys)
 
 pub waits_more : (child : Child) (xs ys : List SpawnCall) → waits_for child (xs ++ ys) ≡ waits_for child xs + waits_for child ys

@@ -13,7 +13,7 @@ use Rattle.stage1.specs.declared.stand.Stand.TheVariants.{Running, Ended}
 use Rattle.stage1.specs.Asking.{Asks, StartedIn}
 use Rattle.stage1.specs.Notes.{WroteStatus, StaysAble}
 use Rattle.stage1.specs.Beginnings.{IsStartedIn, AreStartedIn, running, WaitFor}
-use Rattle.stage1.specs.Endings.{EndsSo, EndsCut, HaveEnded, AreEndsCut, WereWaitedFor}
+use Rattle.stage1.specs.Endings.{EndsFromStand, EndsCut, HaveEnded, AreEndsCut, WereWaitedFor}
 use Rattle.stage1.specs.Runs.{AreWrittenAll}
 use Rattle.stage1.proofs.Asked.{asks_none, asks_more}
 use Rattle.stage1.proofs.Counting.{starts_more}
@@ -32,7 +32,7 @@ pub lasts_more : {observed : Bool} {a b c : SpawnerAt} → Lasts observed a b �
 lasts_more {observed} {a} {b} {c} ab bc = record { faults = omega (arith, ab.faults, bc.faults); kept = λ t root child s. bc.kept t root child (ab.kept t root child s) }
 
 module _ (observed : Bool) where
-  ends_last : (a b : SpawnerAt) (app : AppStart) (stand : Stand) (status : ℕ) → EndsSo observed app stand status a b → Lasts observed a b
+  ends_last : (a b : SpawnerAt) (app : AppStart) (stand : Stand) (status : ℕ) → EndsFromStand observed app stand status a b → Lasts observed a b
   ends_last a b app (Running child) status e = record { faults = e.asked.faults; kept = e.asked.kept }
   ends_last a b app (Ended other) status e = record { faults = e.1.faults; kept = e.1.kept }
 
@@ -49,7 +49,7 @@ module _ (observed : Bool) where
   ends_cut_last a b starts stands turns e = lasts_more (ended_last a e.between e.done e.ended e.statuses e.before) (cut_lasts e.between b e.app e.stand e.cut)
 
   -- one app more has ended
-  pub ended_more : (a b c : SpawnerAt) (starts : List AppStart) (stands : List Stand) (statuses : List ℕ) (app : AppStart) (stand : Stand) (status : ℕ) → HaveEnded observed starts stands statuses a b → EndsSo observed app stand status b c → HaveEnded observed (starts ++ app ∷ []) (stands ++ stand ∷ []) (statuses ++ status ∷ []) a c
+  pub ended_more : (a b c : SpawnerAt) (starts : List AppStart) (stands : List Stand) (statuses : List ℕ) (app : AppStart) (stand : Stand) (status : ℕ) → HaveEnded observed starts stands statuses a b → EndsFromStand observed app stand status b c → HaveEnded observed (starts ++ app ∷ []) (stands ++ stand ∷ []) (statuses ++ status ∷ []) a c
   ended_more a b c (x ∷ starts) (y ∷ stands) (z ∷ statuses) app stand status h e = record { between = h.between; ends = h.ends; later = ended_more h.between b c starts stands statuses app stand status h.later e }
   ended_more a b c [] [] [] app stand status h e = record { between = c; ends = ends_after a c app stand status h e; later = asks_none }
   ended_more a b c _ _ _ app stand status h e = absurd h

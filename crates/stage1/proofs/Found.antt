@@ -3,17 +3,18 @@ use Rattle.std.proofs.Common.{◌≡◌, ◌<◌, ◌+◌, inl, inr, ℕ, List, 
 use Rattle.std.proofs.lemmas.List.{take_more, drop_more, take-append-drop}
 use Rattle.manifests.specs.declared.runtime_app.RuntimeApp.{RuntimeApp}
 use Rattle.std.specs.List.{AllByRecursion}
+use Rattle.plain_laws.proofs.Lists.{next_item}
 use Rattle.ac_types.specs.Names.{IsAcName}
 use Rattle.dir_model.specs.declared.pod.PodId.{PodId}
 use Rattle.stage1.specs.declared.root.Root.{Root}
 use Rattle.stage1.specs.declared.start.AppStart.{AppStart}
-use Rattle.stage1.specs.AppPlaces.{root_of}
-use Rattle.stage1.specs.Starts.{IsStart, IsPlacedIn, AddsStart, AreStarts}
+use Rattle.stage1.specs.AppPlaces.{app_root_of}
+use Rattle.stage1.specs.Starts.{IsAppStart, IsPlacedIn, AddsStart, AreStarts}
 use Rattle.stage1.specs.declared.load_error.LoadError.{LoadError}
 use Rattle.stage1.specs.declared.load_error.LoadError.TheVariants.{NoProgram, NoMemory}
 use Rattle.stage1.specs.LoadRefusals.{AreMissing, FirstLacks, IsMissingAmong}
 
-pub push_start : (pod : PodId) (address token : List ℕ) (apps : List RuntimeApp) (roots : List Root) (starts : List AppStart) (app : RuntimeApp) (root : Root) (start : AppStart) → AreStarts pod address token apps roots starts → IsStart pod address token app root start
+pub push_start : (pod : PodId) (address token : List ℕ) (apps : List RuntimeApp) (roots : List Root) (starts : List AppStart) (app : RuntimeApp) (root : Root) (start : AppStart) → AreStarts pod address token apps roots starts → IsAppStart pod address token app root start
     → AreStarts pod address token (apps ++ app ∷ []) (roots ++ root ∷ []) (starts ++ start ∷ [])
 push_start pod address token [] [] [] app root start are is = (is, tt)
 push_start pod address token (a ∷ apps) (r ∷ roots) (s ∷ starts) app root start are is = (are.0, push_start pod address token apps roots starts app root start are.1 is)
@@ -36,9 +37,6 @@ pub next_left : {A : Type 0} (xs : List A) (i : ℕ) (x : A) (left : List A) →
 next_left xs i x left h is =
     let at = drop_more xs i x h in
     cc
-
-next_item : {A : Type 0} (xs : List A) (i : ℕ) (x : A) → i < length xs → x ≡ get_or xs i x → drop i xs ≡ x ∷ drop (i + 1) xs
-next_item xs i x h is = drop_more xs i x h ∙ ap (λ y. y ∷ drop (i + 1) xs) (sym is)
 
 module _ (pod : PodId) (address token : List ℕ) (apps : List RuntimeApp) (roots : List Root) (i : ℕ) (app : RuntimeApp) (root : Root) (left : List Root) (h : i < length apps) (h' : i < length roots) (is : app ≡ get_or apps i app) (rest : drop i roots ≡ root ∷ left) (starts : List AppStart) (are : AreStarts pod address token (take i apps) (take i roots) starts) where
   pub start_next : (after : List AppStart) → AddsStart pod address token app root starts after → AreStarts pod address token (take (i + 1) apps) (take (i + 1) roots) after
@@ -64,5 +62,5 @@ starts_none pod address token starts none = rw none tt
 pub all_placed : (pod : PodId) (address token : List ℕ) (apps : List RuntimeApp) (roots : List Root) (starts : List AppStart) → AreStarts pod address token apps roots starts → AllByRecursion (IsPlacedIn pod) starts
 all_placed pod address token [] [] [] are = tt
 all_placed pod address token (app ∷ apps) (root ∷ roots) (start ∷ starts) are =
-    (record { place = are.0.place ∙ ap (λ (n : List ℕ). root_of pod n) (sym are.0.name); named = subst IsAcName (sym are.0.name) are.0.named }, all_placed pod address token apps roots starts are.1)
+    (record { place = are.0.place ∙ ap (λ (n : List ℕ). app_root_of pod n) (sym are.0.name); named = subst IsAcName (sym are.0.name) are.0.named }, all_placed pod address token apps roots starts are.1)
 all_placed pod address token _ _ _ are = absurd are

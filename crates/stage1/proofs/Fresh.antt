@@ -22,7 +22,7 @@ use Rattle.stage1.specs.Starts.{IsPlacedIn, ReadsStarts}
 use Rattle.stage1.proofs.Apart.{distinct_starts}
 use Rattle.stage1.specs.Notes.{mark_inner, status_inner, status_path}
 use Rattle.pod_files.specs.Looks.{reads_pod, OnlyReadsPod}
-use Rattle.stage1.specs.Keeping.{AppendsOnce, once, noted, MayNote, mark_times, status_times, app_times, all_times, Keeps, IsFresh, KeepsRules, appends_to}
+use Rattle.stage1.specs.Keeping.{AppendsOnce, once, note_count, MayNote, mark_times, status_times, app_times, all_times, NotesAtMost, RunsWithoutNotes, RunnerKeepsRules, appends_to}
 use Rattle.stage1.proofs.Appends.{none_few}
 
 -- a file of an app
@@ -121,24 +121,24 @@ not_noted text i named (n ∷ notes) h =
     by true f = absurd (f refl)
     by false f = refl
 
-pub may_all : (pod : PodId) (apps : List AppStart) (s : Seen) → AllByRecursion (IsPlacedIn pod) apps → IsDistinct bytes_eq (map (λ a. a.name) apps) → IsFresh pod s → MayNote (all_times apps) s
+pub may_all : (pod : PodId) (apps : List AppStart) (s : Seen) → AllByRecursion (IsPlacedIn pod) apps → IsDistinct bytes_eq (map (λ a. a.name) apps) → RunsWithoutNotes pod s → MayNote (all_times apps) s
 may_all pod apps s ps d fresh = record {
   once_all = λ i. by i (all_times apps i) refl;
   runs_it = λ i h. ap (λ (n : List ℕ). runs s n) (all_here pod apps i ps h) ∙ fresh.runs_it;
   spares_it = λ i h. ap (λ (n : List ℕ). deletes s n) (all_here pod apps i ps h) ∙ fresh.spares_it;
 }
   where
-    by : (i : Inner) (k : ℕ) → all_times apps i ≡ k → all_times apps i + noted s i ≤ 1
+    by : (i : Inner) (k : ℕ) → all_times apps i ≡ k → all_times apps i + note_count s i ≤ 1
     by i zero is = omega (arith, is, few (has_note s i))
     by i (suc k) is =
-        let none : noted s i ≡ 0 = ap once (not_noted (pod_text pod.bytes) i (all_here pod apps i ps (omega (arith, is))) s.notes fresh.none) in
+        let none : note_count s i ≡ 0 = ap once (not_noted (pod_text pod.bytes) i (all_here pod apps i ps (omega (arith, is))) s.notes fresh.none) in
         omega (arith, none, all_once pod apps i ps d)
 
 -- the pod is only read, and then its apps are run
-pub keeps_reads : {observed : Bool} {a b : DirAt} (pod : PodId) → observed ≡ true → OnlyReadsPod observed pod a b → KeepsRules pod a b
+pub keeps_reads : {observed : Bool} {a b : DirAt} (pod : PodId) → observed ≡ true → OnlyReadsPod observed pod a b → RunnerKeepsRules pod a b
 keeps_reads pod t o s k fresh = record { known = s; stands = refl; kept = refl; knows = o.known t s refl k }
 
-pub keeps_run : {observed : Bool} {a b c : DirAt} (pod : PodId) (address : List ℕ) (starts : List AppStart) → observed ≡ true → AllByRecursion (IsPlacedIn pod) starts → OnlyReadsPod observed pod a b → ReadsStarts pod address starts a b → Keeps (all_times starts) b c → KeepsRules pod a c
+pub keeps_run : {observed : Bool} {a b c : DirAt} (pod : PodId) (address : List ℕ) (starts : List AppStart) → observed ≡ true → AllByRecursion (IsPlacedIn pod) starts → OnlyReadsPod observed pod a b → ReadsStarts pod address starts a b → NotesAtMost (all_times starts) b c → RunnerKeepsRules pod a c
 keeps_run pod address starts t placed o read bc s k fresh =
     let one = bc.keep s (o.known t s refl k) (may_all pod starts s placed (distinct_starts pod address starts read) fresh) in
     record { known = one.known; stands = one.noted.stands; kept = one.noted.kept; knows = one.knows }
@@ -148,6 +148,6 @@ reads_append_none : (pod : PodId) (i : Inner) (request : Request) → reads_pod 
 reads_append_none pod i (AppendIn file piece) asked = cc
 reads_append_none pod i request asked = refl
 
-pub once_run : {observed : Bool} {a b c : DirAt} (pod : PodId) (address : List ℕ) (starts : List AppStart) → observed ≡ true → AllByRecursion (IsPlacedIn pod) starts → OnlyReadsPod observed pod a b → ReadsStarts pod address starts a b → Keeps (all_times starts) b c → AppendsOnce a c
+pub once_run : {observed : Bool} {a b c : DirAt} (pod : PodId) (address : List ℕ) (starts : List AppStart) → observed ≡ true → AllByRecursion (IsPlacedIn pod) starts → OnlyReadsPod observed pod a b → ReadsStarts pod address starts a b → NotesAtMost (all_times starts) b c → AppendsOnce a c
 once_run {observed} {a} {b} {c} pod address starts t placed o read bc i =
     omega (arith, none_few a b i (reads_append_none pod i) o.same (o.extends t), bc.few i, all_once pod starts i placed (distinct_starts pod address starts read))

@@ -2,6 +2,7 @@
 use Rattle.std.proofs.Common.{arith, ◌≡◌, ◌≤◌, ℕ, ◌+◌, Bool, true, false, not, ◌&&◌, ◌||◌, cond, List, [], ◌∷◌, ◌++◌, length, length-append, nat_lt, refl, sym, ap, subst, ◌∙◌}
 use Rattle.std.specs.List.{list_any}
 use Rattle.std.proofs.lemmas.Bool.Decides.{nat_tests}
+use Rattle.std.proofs.lemmas.Bool.{or_left}
 use Rattle.ac_types.specs.Names.{IsAcName}
 use Rattle.dir_model.specs.declared.area.Area.{Area}
 use Rattle.dir_model.specs.declared.area.Area.TheVariants.{Run}
@@ -18,21 +19,21 @@ use Rattle.dir_rules.specs.declared.standing.Standing.{Standing}
 use Rattle.dir_rules.specs.declared.seen.Seen.{Seen}
 use Rattle.dir_rules.specs.Conforms.{seen_replied}
 use Rattle.dir_rules.specs.Marks.{has_slash, status_directory, is_started_mark, is_status_file}
-use Rattle.dir_rules.specs.Rules.{allows, runs, deletes, has_note, spares, may_note, may_mark, may_make_file_in, may_append_in, may_sync_in}
+use Rattle.dir_rules.specs.Rules.{allows, runs, deletes, has_note, spares_deleted_pod, may_note, may_mark, may_make_file_in, may_append_in, may_sync_in}
 use Rattle.dir_rules.specs.Seen.{inner_eq, learned}
 use Rattle.dir_rules.specs.Standing.{is_in, standing_replied}
+use Rattle.dir_laws.proofs.Names.{app_name, no_slashes}
+use Rattle.dir_laws.proofs.Spots.{inner_self}
 use Rattle.dir_trait.specs.DirCalls.{DirAt, DirCall}
 use Rattle.dir_trait.proofs.Knowing.{knows_call}
-use Rattle.pod_files.proofs.Names.{app_name, no_slashes}
 use Rattle.spawner.specs.declared.call.RootPlace.{RootPlace}
 use Rattle.spawner.specs.Conditions.{start_mark}
-use Rattle.stage1.specs.Notes.{IsPlaced, mark_inner, status_inner, status_path}
-use Rattle.stage1.specs.Keeping.{appends, Called, once, noted, MayNote, Noted, Keeps, mark_times, status_times}
+use Rattle.stage1.specs.Notes.{IsRootInRun, mark_inner, status_inner, status_path}
+use Rattle.stage1.specs.Keeping.{appends, CallsDirectory, once, note_count, MayNote, Noted, NotesAtMost, mark_times, status_times}
 use Rattle.stage1.proofs.Appends.{call_few}
-use Rattle.stage1.proofs.Noted.{inner_self}
 
 -- nothing was asked; one after the other; a bound more
-pub keeps_none : {times : Inner → ℕ} {d : DirAt} → Keeps times d d
+pub keeps_none : {times : Inner → ℕ} {d : DirAt} → NotesAtMost times d d
 keeps_none {times} = record { few = λ i. omega arith; keep = λ s k may. record { known = s; noted = record { stands = refl; kept = refl; made = λ inner. omega arith }; knows = k } }
 
 may_first : (t u : Inner → ℕ) (s : Seen) → MayNote (λ i. t i + u i) s → MayNote t s
@@ -52,7 +53,7 @@ may_second t u s s' may n = record {
 noted_more : (t u : Inner → ℕ) (a b c : Seen) → Noted t a b → Noted u b c → Noted (λ i. t i + u i) a c
 noted_more t u a b c ab bc = record { stands = bc.stands ∙ ab.stands; kept = bc.kept ∙ ab.kept; made = λ i. omega (arith, ab.made i, bc.made i) }
 
-pub keeps_more : {t u : Inner → ℕ} {a b c : DirAt} → Keeps t a b → Keeps u b c → Keeps (λ i. t i + u i) a c
+pub keeps_more : {t u : Inner → ℕ} {a b c : DirAt} → NotesAtMost t a b → NotesAtMost u b c → NotesAtMost (λ i. t i + u i) a c
 keeps_more {t} {u} ab bc = record {
   few = λ i. omega (arith, ab.few i, bc.few i);
   keep = λ s k may.
@@ -61,7 +62,7 @@ keeps_more {t} {u} ab bc = record {
       record { known = two.known; noted = noted_more t u s one.known two.known one.noted two.noted; knows = two.knows };
 }
 
-pub keeps_wider : {t u : Inner → ℕ} {a b : DirAt} → ((i : Inner) → t i ≤ u i) → Keeps t a b → Keeps u a b
+pub keeps_wider : {t u : Inner → ℕ} {a b : DirAt} → ((i : Inner) → t i ≤ u i) → NotesAtMost t a b → NotesAtMost u a b
 keeps_wider {t} {u} wider ab = record {
   few = λ i. omega (arith, ab.few i, wider i);
   keep = λ s k may.
@@ -111,7 +112,7 @@ made_once : (b : Bool) (inner i : Inner) (notes : List Inner) → once (list_any
 made_once true inner i notes = either_once (inner_eq i inner) (list_any (inner_eq i) notes)
 made_once false inner i notes = omega arith
 
-made_file : (s : Seen) (inner i : Inner) (p : Reply) → once (list_any (inner_eq i) (learned s (MakeFileIn inner) p).notes) ≤ noted s i + once (inner_eq i inner)
+made_file : (s : Seen) (inner i : Inner) (p : Reply) → once (list_any (inner_eq i) (learned s (MakeFileIn inner) p).notes) ≤ note_count s i + once (inner_eq i inner)
 made_file s inner i Done = made_once (is_in inner.spot.area Run) inner i s.notes
 made_file s inner i (Refused error left) = omega arith
 made_file s inner i p = omega arith
@@ -119,27 +120,23 @@ made_file s inner i p = omega arith
 has_file : (s : Seen) (inner : Inner) → inner.spot.area ≡ Run → has_note (seen_replied s (MakeFileIn inner) Done) inner ≡ true
 has_file s inner area = ap (λ (a : Area). list_any (inner_eq inner) (cond (is_in a Run) (inner ∷ s.notes) s.notes)) area ∙ ap (λ (b : Bool). b || list_any (inner_eq inner) s.notes) (inner_self inner)
 
--- what the rules let it ask for
-or_first : (a b : Bool) → a ≡ true → (a || b) ≡ true
-or_first a b h = ap (λ (x : Bool). x || b) h
-
 module _ (s : Seen) (inner : Inner) (area : inner.spot.area ≡ Run) (mine : runs s inner.spot.name ≡ true) (spared : deletes s inner.spot.name ≡ false) where
-  spared_there : spares s inner ≡ true
+  spared_there : spares_deleted_pod s inner ≡ true
   spared_there = subst (λ (a : Area). not (is_stage a && deletes s inner.spot.name) ≡ true) (sym area) (ap not spared)
 
   may_file : (is_started_mark inner.path || is_status_file inner.path) ≡ true → has_note s inner ≡ false → allows s (MakeFileIn inner) ≡ true
-  may_file form none = and_both (may_make_file_in s inner inner.spot.area) (spares s inner)
+  may_file form none = and_both (may_make_file_in s inner inner.spot.area) (spares_deleted_pod s inner)
       (subst (λ (a : Area). may_make_file_in s inner a ≡ true) (sym area)
-      (or_first (may_note s inner) (may_mark s inner) (and_both (runs s inner.spot.name) ((is_started_mark inner.path || is_status_file inner.path) && not (has_note s inner)) mine (and_both (is_started_mark inner.path || is_status_file inner.path) (not (has_note s inner)) form (ap not none)))))
+      (or_left (may_note s inner) (may_mark s inner) (and_both (runs s inner.spot.name) ((is_started_mark inner.path || is_status_file inner.path) && not (has_note s inner)) mine (and_both (is_started_mark inner.path || is_status_file inner.path) (not (has_note s inner)) form (ap not none)))))
       spared_there
 
   may_append : (piece : List ℕ) → is_status_file inner.path ≡ true → has_note s inner ≡ true → allows s (AppendIn inner piece) ≡ true
-  may_append piece form has = and_both (may_append_in s inner inner.spot.area) (spares s inner)
+  may_append piece form has = and_both (may_append_in s inner inner.spot.area) (spares_deleted_pod s inner)
       (subst (λ (a : Area). may_append_in s inner a ≡ true) (sym area) (and_both (runs s inner.spot.name) (is_status_file inner.path && has_note s inner) mine (and_both (is_status_file inner.path) (has_note s inner) form has)))
       spared_there
 
   may_sync : (is_empty inner.path || has_note s inner) ≡ true → allows s (SyncIn inner) ≡ true
-  may_sync form = and_both (may_sync_in s inner inner.spot.area) (spares s inner)
+  may_sync form = and_both (may_sync_in s inner inner.spot.area) (spares_deleted_pod s inner)
       (subst (λ (a : Area). may_sync_in s inner a ≡ true) (sym area) (and_both (runs s inner.spot.name) (is_empty inner.path || has_note s inner) mine form))
       spared_there
 
@@ -165,12 +162,12 @@ module _ (inner : Inner) (area : inner.spot.area ≡ Run) (form : (is_started_ma
     made = λ i. made_file s inner i p;
   }
 
-  pub keeps_file : {observed : Bool} {a b : DirAt} → observed ≡ true → Called observed (MakeFileIn inner) a b → Keeps (file_times inner) a b
+  pub keeps_file : {observed : Bool} {a b : DirAt} → observed ≡ true → CallsDirectory observed (MakeFileIn inner) a b → NotesAtMost (file_times inner) a b
   keeps_file {observed} {a} {b} t c = record { few = λ i. (let f : appends b i ≤ appends a i + 0 = call_few t i c.called in omega (arith, f)); keep = λ s k may. record { known = seen_replied s (MakeFileIn inner) c.reply; noted = file_noted s c.reply may; knows = knows_call t k refl refl c.called } }
 
   -- and then the folder is synced
   module _ (folder : Inner) (at : folder.spot ≡ inner.spot) (root : folder.path ≡ []) where
-    pub keeps_synced : {observed : Bool} {a b d : DirAt} → observed ≡ true → DirCall observed a (MakeFileIn inner) Done b → Called observed (SyncIn folder) b d → Keeps (file_times inner) a d
+    pub keeps_synced : {observed : Bool} {a b d : DirAt} → observed ≡ true → DirCall observed a (MakeFileIn inner) Done b → CallsDirectory observed (SyncIn folder) b d → NotesAtMost (file_times inner) a d
     keeps_synced {observed} {a} {b} {d} t made c = record {
       few = λ i.
           let one : appends b i ≤ appends a i + 0 = call_few t i made in
@@ -188,7 +185,7 @@ module _ (inner : Inner) (area : inner.spot.area ≡ Run) (form : (is_started_ma
             noted = record {
               stands = stands_sync s'.standing folder c.reply ∙ n.stands;
               kept = allowed s' (SyncIn folder) (may_sync s' folder here mine spared empty) ∙ n.kept;
-              made = λ i. subst (λ (l : List Inner). once (list_any (inner_eq i) l) ≤ noted s i + file_times inner i) (sym (notes_sync s' folder c.reply)) (n.made i);
+              made = λ i. subst (λ (l : List Inner). once (list_any (inner_eq i) l) ≤ note_count s i + file_times inner i) (sym (notes_sync s' folder c.reply)) (n.made i);
             };
             knows = knows_call t (knows_call t k refl refl made) refl refl c.called;
           };
@@ -208,10 +205,10 @@ module _ (inner : Inner) (area : inner.spot.area ≡ Run) (form : is_status_file
       record {
         stands = stands_append s'.standing inner piece p ∙ n.stands;
         kept = allowed s' (AppendIn inner piece) (may_append s' inner area mine spared piece form (has_file s inner area)) ∙ n.kept;
-        made = λ i. subst (λ (l : List Inner). once (list_any (inner_eq i) l) ≤ noted s i + file_times inner i) (sym (notes_append s' inner piece p)) (n.made i);
+        made = λ i. subst (λ (l : List Inner). once (list_any (inner_eq i) l) ≤ note_count s i + file_times inner i) (sym (notes_append s' inner piece p)) (n.made i);
       }
 
-  pub keeps_appended : {observed : Bool} {a b d : DirAt} → observed ≡ true → DirCall observed a (MakeFileIn inner) Done b → Called observed (AppendIn inner piece) b d → Keeps (file_times inner) a d
+  pub keeps_appended : {observed : Bool} {a b d : DirAt} → observed ≡ true → DirCall observed a (MakeFileIn inner) Done b → CallsDirectory observed (AppendIn inner piece) b d → NotesAtMost (file_times inner) a d
   keeps_appended {observed} {a} {b} {d} t made c = record {
     few = λ i.
         let one : appends b i ≤ appends a i + 0 = call_few t i made in
@@ -224,7 +221,7 @@ module _ (inner : Inner) (area : inner.spot.area ≡ Run) (form : is_status_file
     };
   }
 
-  pub keeps_written : {observed : Bool} {a b c d : DirAt} → observed ≡ true → DirCall observed a (MakeFileIn inner) Done b → Called observed (AppendIn inner piece) b c → Called observed (SyncIn inner) c d → Keeps (file_times inner) a d
+  pub keeps_written : {observed : Bool} {a b c d : DirAt} → observed ≡ true → DirCall observed a (MakeFileIn inner) Done b → CallsDirectory observed (AppendIn inner piece) b c → CallsDirectory observed (SyncIn inner) c d → NotesAtMost (file_times inner) a d
   keeps_written {observed} {a} {b} {c} {d} t made ap_call sy_call = record {
     few = λ i.
         let one : appends b i ≤ appends a i + 0 = call_few t i made in
@@ -243,7 +240,7 @@ module _ (inner : Inner) (area : inner.spot.area ≡ Run) (form : is_status_file
           noted = record {
             stands = stands_sync s''.standing inner sy_call.reply ∙ n.stands;
             kept = allowed s'' (SyncIn inner) (may_sync s'' inner area mine spared (or_last (is_empty inner.path) (has_note s'' inner) has)) ∙ n.kept;
-            made = λ i. subst (λ (l : List Inner). once (list_any (inner_eq i) l) ≤ noted s i + file_times inner i) (sym (notes_sync s'' inner sy_call.reply)) (n.made i);
+            made = λ i. subst (λ (l : List Inner). once (list_any (inner_eq i) l) ≤ note_count s i + file_times inner i) (sym (notes_sync s'' inner sy_call.reply)) (n.made i);
           };
           knows = knows_call t (knows_call t (knows_call t k refl refl made) refl refl ap_call.called) refl refl sy_call.called;
         };
@@ -272,24 +269,24 @@ is_status app is =
     let long : 26 ≤ length (status_directory ++ 47 ∷ app) = omega (arith, length-append status_directory (47 ∷ app), some_bytes app name.some) in
     and_both (nat_lt 25 (length (status_directory ++ 47 ∷ app))) (not (has_slash app)) (over_25 (length (status_directory ++ 47 ∷ app)) long) (ap not (no_slashes app name.plain))
 
-module _ (root : RootPlace) (placed : IsPlaced root) where
+module _ (root : RootPlace) (placed : IsRootInRun root) where
   mark_of : (is_started_mark (start_mark root.app) || is_status_file (start_mark root.app)) ≡ true
-  mark_of = or_first (is_started_mark (start_mark root.app)) (is_status_file (start_mark root.app)) (is_mark root.app placed.named)
+  mark_of = or_left (is_started_mark (start_mark root.app)) (is_status_file (start_mark root.app)) (is_mark root.app placed.named)
 
   status_of : is_status_file (status_path root.app) ≡ true
   status_of = is_status root.app placed.named
 
-  pub keeps_mark : {observed : Bool} {a b : DirAt} → observed ≡ true → Called observed (MakeFileIn (mark_inner root)) a b → Keeps (mark_times root) a b
+  pub keeps_mark : {observed : Bool} {a b : DirAt} → observed ≡ true → CallsDirectory observed (MakeFileIn (mark_inner root)) a b → NotesAtMost (mark_times root) a b
   keeps_mark t c = keeps_file (mark_inner root) placed.area mark_of t c
 
-  pub keeps_marked : {observed : Bool} {a b c : DirAt} (folder : Inner) → folder.spot ≡ root.spot → folder.path ≡ [] → observed ≡ true → DirCall observed a (MakeFileIn (mark_inner root)) Done b → Called observed (SyncIn folder) b c → Keeps (mark_times root) a c
+  pub keeps_marked : {observed : Bool} {a b c : DirAt} (folder : Inner) → folder.spot ≡ root.spot → folder.path ≡ [] → observed ≡ true → DirCall observed a (MakeFileIn (mark_inner root)) Done b → CallsDirectory observed (SyncIn folder) b c → NotesAtMost (mark_times root) a c
   keeps_marked folder at path t made c = keeps_synced (mark_inner root) placed.area mark_of folder at path t made c
 
-  pub keeps_status : {observed : Bool} {a b : DirAt} → observed ≡ true → Called observed (MakeFileIn (status_inner root)) a b → Keeps (status_times root) a b
+  pub keeps_status : {observed : Bool} {a b : DirAt} → observed ≡ true → CallsDirectory observed (MakeFileIn (status_inner root)) a b → NotesAtMost (status_times root) a b
   keeps_status t c = keeps_file (status_inner root) placed.area (status_form_either (status_inner root) placed.area status_of []) t c
 
-  pub keeps_part : {observed : Bool} {a b c : DirAt} (piece : List ℕ) → observed ≡ true → DirCall observed a (MakeFileIn (status_inner root)) Done b → Called observed (AppendIn (status_inner root) piece) b c → Keeps (status_times root) a c
+  pub keeps_part : {observed : Bool} {a b c : DirAt} (piece : List ℕ) → observed ≡ true → DirCall observed a (MakeFileIn (status_inner root)) Done b → CallsDirectory observed (AppendIn (status_inner root) piece) b c → NotesAtMost (status_times root) a c
   keeps_part piece t made c = keeps_appended (status_inner root) placed.area status_of piece t made c
 
-  pub keeps_whole : {observed : Bool} {a b c d : DirAt} (piece : List ℕ) → observed ≡ true → DirCall observed a (MakeFileIn (status_inner root)) Done b → Called observed (AppendIn (status_inner root) piece) b c → Called observed (SyncIn (status_inner root)) c d → Keeps (status_times root) a d
+  pub keeps_whole : {observed : Bool} {a b c d : DirAt} (piece : List ℕ) → observed ≡ true → DirCall observed a (MakeFileIn (status_inner root)) Done b → CallsDirectory observed (AppendIn (status_inner root) piece) b c → CallsDirectory observed (SyncIn (status_inner root)) c d → NotesAtMost (status_times root) a d
   keeps_whole piece t made c e = keeps_written (status_inner root) placed.area status_of piece t made c e

@@ -13,14 +13,15 @@ use Rattle.image_reading.proofs.Widths.{within_before}
 use Rattle.stage1.specs.declared.load_error.LoadError.{LoadError}
 use Rattle.stage1.specs.declared.load_error.LoadError.TheVariants.{NoManifest, Damaged, NoProgram, DirFault, NoMemory}
 use Rattle.stage1.specs.declared.root.Root.{Root}
-use Rattle.stage1.specs.AppFiles.{ReadsManifest, ReadsToken, LacksToken, LacksRoot, AreRoots}
+use Rattle.stage1.specs.AppFiles.{LacksRootListing, AreAppRoots}
 use Rattle.stage1.specs.LoadRefusals.{InTurn, LacksStarts, LacksSome, LoadCause}
+use Rattle.pod_files.specs.Files.{ReadsPodManifest, ReadsToken, ReadsNoToken}
 
 module _ {asks : Request → Bool} (b c : DirAt) (more : Extends asks b.process b.trace c.trace) where
   file_later : {inner : Inner} {most : ℕ} {P : List ℕ → Type 0} {a : DirAt} → ReadsFile inner most P a b → ReadsFile inner most P a c
   file_later r = record { bytes = r.bytes; few = r.few; read = within_before r.read more; holds = r.holds }
 
-  roots_later : (pod : PodId) (a : DirAt) (apps : List (List ℕ)) (roots : List Root) → AreRoots pod apps roots a b → AreRoots pod apps roots a c
+  roots_later : (pod : PodId) (a : DirAt) (apps : List (List ℕ)) (roots : List Root) → AreAppRoots pod apps roots a b → AreAppRoots pod apps roots a c
   roots_later pod a [] [] are = tt
   roots_later pod a [] (root ∷ roots) are = absurd are
   roots_later pod a (app ∷ apps) [] are = absurd are
@@ -35,7 +36,7 @@ module _ {asks : Request → Bool} (b c : DirAt) (more : Extends asks b.process 
 
   starts_later : (pod : PodId) (apps : List RuntimeApp) (e : LoadError) (a : DirAt) → b.process ≡ a.process → LacksStarts pod apps e a b → LacksStarts pod apps e a c
   starts_later pod apps NoManifest a same is = is
-  starts_later pod apps (Damaged path) a same is = record { before = is.before; app = is.app; after = is.after; roots = is.roots; are = is.are; stands = is.stands; lacks = turn_later (AreRoots pod is.before is.roots) (LacksRoot pod is.app) a same (λ m s l. lack_later m s l) is.lacks }
+  starts_later pod apps (Damaged path) a same is = record { before = is.before; app = is.app; after = is.after; roots = is.roots; are = is.are; stands = is.stands; lacks = turn_later (AreAppRoots pod is.before is.roots) (LacksRootListing pod is.app) a same (λ m s l. lack_later m s l) is.lacks }
   starts_later pod apps (NoProgram name word) a same is = record { roots = is.roots; read = roots_later pod a (map (λ x. x.name) apps) is.roots is.read; lacks = is.lacks }
   starts_later pod apps DirFault a same is = tt
   starts_later pod apps NoMemory a same is = tt
@@ -44,14 +45,14 @@ module _ {asks : Request → Bool} (b c : DirAt) (more : Extends asks b.process 
   some_later pod e a same some = record {
     manifest = some.manifest;
     token = some.token;
-    lacks = turn_later (ReadsManifest pod (pod_data some.manifest)) (InTurn (ReadsToken pod some.token) (LacksStarts pod some.manifest.apps e)) a same (λ m s w.
+    lacks = turn_later (ReadsPodManifest pod (pod_data some.manifest)) (InTurn (ReadsToken pod some.token) (LacksStarts pod some.manifest.apps e)) a same (λ m s w.
         turn_later (ReadsToken pod some.token) (LacksStarts pod some.manifest.apps e) m s (λ n s' l. starts_later pod some.manifest.apps e n s' l) w) some.lacks;
   }
 
   module _ (a : DirAt) (same : b.process ≡ a.process) where
     pub load_later : (pod : PodId) (e : LoadError) → LoadCause pod e a b → LoadCause pod e a c
     load_later pod NoManifest is = lack_later a same is
-    load_later pod (Damaged path) (inl token) = inl (record { manifest = token.manifest; stands = token.stands; lacks = turn_later (ReadsManifest pod (pod_data token.manifest)) (LacksToken pod) a same (λ m s l. lack_later m s l) token.lacks })
+    load_later pod (Damaged path) (inl token) = inl (record { manifest = token.manifest; stands = token.stands; lacks = turn_later (ReadsPodManifest pod (pod_data token.manifest)) (ReadsNoToken pod) a same (λ m s l. lack_later m s l) token.lacks })
     load_later pod (Damaged path) (inr some) = inr (some_later pod (Damaged path) a same some)
     load_later pod (NoProgram name word) some = some_later pod (NoProgram name word) a same some
     load_later pod DirFault is = tt

@@ -22,31 +22,31 @@ use Rattle.dir_model.proofs.Lists.{and_left, and_right, all_left, all_right, all
 use Rattle.dir_rules.specs.declared.seen.Seen.{Seen}
 use Rattle.dir_rules.specs.Anomalies.{is_removal, is_its_folder, folder_of}
 use Rattle.dir_rules.specs.Conforms.{nothing_seen, seen_of}
-use Rattle.dir_rules.specs.LockRules.{may_ask, on_spot}
-use Rattle.dir_rules.specs.Rules.{allows, may_change, may_make_file_in, may_append_in, may_sync_in, may_note, may_mark, runs, spares}
-use Rattle.dir_rules.specs.Standing.{is_in, intends, began_as, is_remover, holds_own, last_of}
+use Rattle.dir_rules.specs.LockRules.{lock_rules_allow, on_spot}
+use Rattle.dir_rules.specs.Rules.{allows, content_rules_allow, may_make_file_in, may_append_in, may_sync_in, may_note, may_mark, runs, spares_deleted_pod}
+use Rattle.dir_rules.specs.Standing.{is_in, intends, began_as, is_remover, holds_own, last_move_of}
 use Rattle.dir_rules.specs.declared.standing.Standing.{Standing}
 use Rattle.dir_rules.proofs.Tied.{meanwhile_unseen, seen_after-append}
 use Rattle.dir_model.specs.Pods.{pod_text}
+use Rattle.dir_laws.proofs.Living.{lived_first}
 use Rattle.lifecycle.specs.Executions.{IsConforming}
 use Rattle.lifecycle.proofs.Draws.{conforming_left}
-use Rattle.lifecycle.proofs.Handles.{clash}
 use Rattle.folder_contents.proofs.Spots.{one_location}
 use Rattle.impossible_replies.proofs.Alongside.{Steps, steps}
 use Rattle.impossible_replies.proofs.Brought.{no_starter}
 use Rattle.impossible_replies.proofs.Calls.{never_lost_own, runs_its}
 use Rattle.impossible_replies.proofs.Citing.{is_lost, too_late}
-use Rattle.impossible_replies.proofs.Earlier.{lives_earlier, intent_kept}
+use Rattle.impossible_replies.proofs.Earlier.{intent_kept}
 use Rattle.impossible_replies.proofs.Movers.{starts, moved_as}
 use Rattle.impossible_replies.proofs.Runners.{last_run}
 use Rattle.dir_trait.specs.DirCalls.{DirAt, ExtendsBy}
-use Rattle.folder_building.specs.Work.{is_stray}
+use Rattle.folder_building.specs.Work.{is_stray_building}
 use Rattle.pod_files.specs.Places.{run_spot}
 use Rattle.pod_locks.specs.Running.{RunsPod}
 use Rattle.stage1.specs.Refusals.{WasStrayIn}
 use Rattle.stage1.specs.Runs.{runs_and_closes}
 
-stray_lost : (request : Request) (reply : Reply) → is_stray request reply ≡ true → is_lost request reply ≡ true
+stray_lost : (request : Request) (reply : Reply) → is_stray_building request reply ≡ true → is_lost request reply ≡ true
 stray_lost (MakeDirIn i) (Refused Missing left) h = refl
 stray_lost (MakeDirIn i) (Refused Exists left) h = refl
 stray_lost (MakeFileIn i) (Refused Missing left) h = refl
@@ -76,7 +76,7 @@ module _ (pod : PodId) (own : Handle) (old new : DirAt) (running : RunsPod pod o
   began_before living =
       let a = running.knows.tied.living living in
       let known : runs (seen_of me old.trace) (pod_text pod.bytes) ≡ true = subst (λ (s : Seen). runs s (pod_text pod.bytes) ≡ true) a.same running.runs in
-      let z = last_run (seen_of me old.trace) (pod_text pod.bytes) (and_right (holds_own (pod_text pod.bytes) (seen_of me old.trace).standing) (on_spot (λ spot. is_in Run spot.area) (last_of (pod_text pod.bytes) (seen_of me old.trace).standing.moves)) known) in
+      let z = last_run (seen_of me old.trace) (pod_text pod.bytes) (and_right (holds_own (pod_text pod.bytes) (seen_of me old.trace).standing) (on_spot (λ spot. is_in Run spot.area) (last_move_of (pod_text pod.bytes) (seen_of me old.trace).standing.moves)) known) in
       (moved_as old.trace (conforming_left old.trace extends.more (subst IsConforming extends.grown conforming)) me).run z.0 z.1.1.1.0 z.1.1.0
 
   -- and so it is in the end
@@ -95,12 +95,12 @@ module _ (pod : PodId) (own : Handle) (old new : DirAt) (running : RunsPod pod o
       by (Some i) s r = no_starter i.kind s r
 
   -- a note in run is the runner's
-  note_runs : (s : Seen) (request : Request) (reply : Reply) → is_stray request reply ≡ true → runs_and_closes pod own request ≡ true → allows s request ≡ true → (began_as is_remover s.standing ≡ true → ⊥) → is_its_folder s (folder_of request) ≡ true
+  note_runs : (s : Seen) (request : Request) (reply : Reply) → is_stray_building request reply ≡ true → runs_and_closes pod own request ≡ true → allows s request ≡ true → (began_as is_remover s.standing ≡ true → ⊥) → is_its_folder s (folder_of request) ≡ true
   note_runs s (MakeDirIn i) reply stray asked may stays = cc
   note_runs s (MakeFileIn i) reply stray asked may stays =
       let run : i.spot ≡ run_spot pod = one_location i.spot (run_spot pod) asked in
       runs_its s i.spot (ap (λ (x : Spot). x.area) run)
-      (file i.spot.area (ap (λ (x : Spot). x.area) run) (and_left (may_make_file_in s i i.spot.area) (spares s i) (and_right (may_ask s.standing (MakeFileIn i)) (may_change s (MakeFileIn i)) may)))
+      (file i.spot.area (ap (λ (x : Spot). x.area) run) (and_left (may_make_file_in s i i.spot.area) (spares_deleted_pod s i) (and_right (lock_rules_allow s.standing (MakeFileIn i)) (content_rules_allow s (MakeFileIn i)) may)))
     where
       file : (a : Area) → a ≡ Run → may_make_file_in s i a ≡ true → runs s i.spot.name ≡ true
       file a is h = by (may_note s i) refl (subst (λ (x : Area). may_make_file_in s i x ≡ true) is h)
@@ -111,14 +111,14 @@ module _ (pod : PodId) (own : Handle) (old new : DirAt) (running : RunsPod pod o
   note_runs s (AppendIn i piece) reply stray asked may stays =
       let run : i.spot ≡ run_spot pod = one_location i.spot (run_spot pod) asked in
       runs_its s i.spot (ap (λ (x : Spot). x.area) run)
-      (and_left (runs s i.spot.name) _ (subst (λ (a : Area). may_append_in s i a ≡ true) (ap (λ (x : Spot). x.area) run) (and_left (may_append_in s i i.spot.area) (spares s i) (and_right (may_ask s.standing (AppendIn i piece)) (may_change s (AppendIn i piece)) may))))
+      (and_left (runs s i.spot.name) _ (subst (λ (a : Area). may_append_in s i a ≡ true) (ap (λ (x : Spot). x.area) run) (and_left (may_append_in s i i.spot.area) (spares_deleted_pod s i) (and_right (lock_rules_allow s.standing (AppendIn i piece)) (content_rules_allow s (AppendIn i piece)) may))))
   note_runs s (SyncIn i) reply stray asked may stays =
       let run : i.spot ≡ run_spot pod = one_location i.spot (run_spot pod) asked in
       runs_its s i.spot (ap (λ (x : Spot). x.area) run)
-      (and_left (runs s i.spot.name) _ (subst (λ (a : Area). may_sync_in s i a ≡ true) (ap (λ (x : Spot). x.area) run) (and_left (may_sync_in s i i.spot.area) (spares s i) (and_right (may_ask s.standing (SyncIn i)) (may_change s (SyncIn i)) may))))
+      (and_left (runs s i.spot.name) _ (subst (λ (a : Area). may_sync_in s i a ≡ true) (ap (λ (x : Spot). x.area) run) (and_left (may_sync_in s i i.spot.area) (spares_deleted_pod s i) (and_right (lock_rules_allow s.standing (SyncIn i)) (content_rules_allow s (SyncIn i)) may))))
   note_runs s request reply stray asked may stays = cc
 
-  stray_kept : (request : Request) (reply : Reply) → is_stray request reply ≡ true → (is_kill request ≡ false) × ((is_begin request ≡ false) × (is_removal request ≡ false))
+  stray_kept : (request : Request) (reply : Reply) → is_stray_building request reply ≡ true → (is_kill request ≡ false) × ((is_begin request ≡ false) × (is_removal request ≡ false))
   stray_kept (MakeDirIn i) reply h = (refl, (refl, refl))
   stray_kept (MakeFileIn i) reply h = (refl, (refl, refl))
   stray_kept (AppendIn i piece) reply h = (refl, (refl, refl))
@@ -168,7 +168,7 @@ module _ (pod : PodId) (own : Handle) (old new : DirAt) (running : RunsPod pod o
           x = steps h e (subst IsConforming took.grown after_conforms) k.0 k.1.0
 
           living : lives (state_after old.trace).namespace me ≡ true
-          living = lives_earlier me (state_after old.trace) (w.earlier ++ others)
+          living = lived_first me (state_after old.trace) (w.earlier ++ others)
               (all_left (λ y. (is_foreign me y || not (is_begin y.request)) ≡ true) (w.earlier ++ others) (e ∷ w.later)
               (subst (λ (l : List Event). AllByRecursion (λ y. (is_foreign me y || not (is_begin y.request)) ≡ true) l) parts quiet))
               (subst (λ (s : DirState). lives s.namespace me ≡ true) (ap state_after grown ∙ states_next-append empty_state old.trace (w.earlier ++ others)) x.living)

@@ -11,7 +11,6 @@ mod Noted
 pub mod Appends
 mod Keeping
 mod Causes
-mod Results
 mod Forms
 mod OneApp
 mod Pairs

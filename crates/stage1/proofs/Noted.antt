@@ -1,35 +1,34 @@
 -- What notes in a pod's folder leave: whatever runs still runs, and what was done was done.
-use Rattle.std.proofs.Common.{◌≡◌, ◌⊎◌, inl, inr, ℕ, Bool, true, false, ◌&&◌, bytes_eq, List, [], ◌∷◌, ◌++◌, Ok, refl, sym, ap, subst, ◌∙◌, append_assoc}
+use Rattle.std.proofs.Common.{◌≡◌, ℕ, Bool, true, false, ◌&&◌, bytes_eq, List, [], ◌∷◌, ◌++◌, Ok, refl, sym, ap, subst, ◌∙◌, append_assoc}
+use Rattle.plain_laws.proofs.Texts.{same_bytes}
 use Rattle.dir_model.specs.declared.area.Area.TheVariants.{Run}
 use Rattle.dir_model.specs.declared.event.Event.{Event}
-use Rattle.dir_model.specs.declared.item.Inner.{Inner}
 use Rattle.dir_model.specs.declared.request.Request.{Request}
 use Rattle.dir_model.specs.declared.request.Request.TheVariants.{MakeFileIn, AppendIn, SyncIn}
 use Rattle.dir_model.specs.declared.request.Reply.{Reply}
 use Rattle.dir_model.specs.declared.request.Reply.TheVariants.{Done}
 use Rattle.dir_model.specs.Areas.{is_stage}
-use Rattle.dir_model.specs.Calls.{TookPlace, LeftNothing, is_begin, is_kill, event}
+use Rattle.dir_model.specs.Calls.{is_begin, is_kill, event}
 use Rattle.dir_model.specs.Local.{IsActive, local_replied}
 use Rattle.dir_model.specs.Replies.{is_late_reply}
-use Rattle.dir_model.specs.State.{spot_eq}
 use Rattle.dir_model.proofs.Chains.{step_extends}
-use Rattle.dir_model.proofs.Lists.{and_both, same_self}
-use Rattle.dir_model.proofs.Spots.{spot_self}
+use Rattle.dir_model.proofs.Lists.{and_both}
 use Rattle.dir_rules.specs.declared.standing.Standing.{Standing}
 use Rattle.dir_rules.specs.Conforms.{seen_replied}
 use Rattle.dir_rules.specs.LockRules.{on_spot}
 use Rattle.dir_rules.specs.Seen.{inner_eq}
-use Rattle.dir_rules.specs.Standing.{is_in, is_of, holds_own, last_of, standing_replied}
-use Rattle.dir_rules.proofs.Looks.{same_bytes}
+use Rattle.dir_rules.specs.Standing.{is_in, is_spot_of_pod, holds_own, last_move_of, standing_replied}
+use Rattle.dir_laws.proofs.Spots.{inner_self}
 use Rattle.folder_building.specs.Making.{inner_at}
 use Rattle.dir_trait.specs.DirCalls.{DirAt, DirCall}
 use Rattle.dir_trait.proofs.Knowing.{knows_call}
-use Rattle.folder_building.specs.Work.{Worked}
+use Rattle.dir_trait.proofs.Calls.{took}
+use Rattle.dir_trait.specs.Effects.{OnlyAsks}
 use Rattle.folder_building.proofs.Working.{append_call, worked_wider}
 use Rattle.spawner.specs.declared.call.RootPlace.{RootPlace}
 use Rattle.spawner.specs.Conditions.{start_mark, did, MarkSynced, StillRuns}
-use Rattle.spawner.proofs.Marking.{mark_kept, mark_synced}
-use Rattle.stage1.specs.Notes.{IsPlaced, status_path, status_text, mark_inner, status_inner, makes_own_mark, makes_status, writes_status, syncs_status, DidInTurn, MadeMark, WroteStatus, anything, StaysAble, MadeFile, Appended, Synced}
+use Rattle.spawner.proofs.Marking.{mark_kept, mark_synced, did_it}
+use Rattle.stage1.specs.Notes.{IsRootInRun, status_path, status_text, mark_inner, status_inner, makes_own_mark, makes_status, writes_status, syncs_status, DidInTurn, MadeMark, WroteStatus, anything, StaysAble, MadeFile, Appended, Synced}
 
 -- what was done in turn was so whatever comes later
 did_kept : (me : ℕ) (asks : List (Request → Bool)) (trace more : List Event) → DidInTurn me asks trace → DidInTurn me asks (trace ++ more)
@@ -41,14 +40,6 @@ did_more : (me : ℕ) (asks : List (Request → Bool)) (ask : Request → Bool) 
 did_more me [] ask trace others e is d = (trace ++ others, e, [], sym (append_assoc trace others (e ∷ [])), is, tt)
 did_more me (a ∷ asks) ask trace others e is d = (d.0, d.1, d.2 ++ (others ++ e ∷ []), ap (λ (h : List Event). h ++ (others ++ e ∷ [])) d.3 ∙ append_assoc d.0 (d.1 ∷ d.2) (others ++ e ∷ []), d.4, did_more me asks ask d.2 others e is d.5)
 
--- a call that was done took place
-took : {me : ℕ} {before new : List Event} {request : Request} → is_late_reply request Done ≡ false → TookPlace before me request Done new ⊎ LeftNothing before me request Done new → TookPlace before me request Done new
-took timely (inl t) = t
-took timely (inr left) = let e : true ≡ false = sym left.late ∙ timely in cc
-
-did_it : (me : ℕ) (ask : Request → Bool) (request : Request) → is_kill request ≡ false → ask request ≡ true → did me ask (event me request Done) ≡ true
-did_it me ask request alive asked = rw (same_self me, alive, asked) refl
-
 did_call : {observed : Bool} {a b : DirAt} → observed ≡ true → (asks : List (Request → Bool)) (ask : Request → Bool) (request : Request) → is_late_reply request Done ≡ false → is_kill request ≡ false → ask request ≡ true → DirCall observed a request Done b → DidInTurn a.process asks a.trace → DidInTurn b.process (asks ++ ask ∷ []) b.trace
 did_call {observed} {a} {b} t asks ask request timely alive asked c d =
     let s = c.step t in
@@ -57,10 +48,6 @@ did_call {observed} {a} {b} t asks ask request timely alive asked c d =
     let grown : b.trace ≡ a.trace ++ (s.meanwhile.others ++ e ∷ []) = own.grown ∙ (ap (λ (h : List Event). h ++ e ∷ []) s.meanwhile.grown ∙ append_assoc a.trace s.meanwhile.others (e ∷ [])) in
     subst (λ (p : ℕ). DidInTurn p (asks ++ ask ∷ []) b.trace) (sym c.same)
     (subst (λ (h : List Event). DidInTurn a.process (asks ++ ask ∷ []) h) (sym grown) (did_more a.process asks ask a.trace s.meanwhile.others e (did_it a.process ask request alive asked) d))
-
--- the three steps of a status
-pub inner_self : (inner : Inner) → inner_eq inner inner ≡ true
-inner_self inner = and_both (spot_eq inner.spot inner.spot) (bytes_eq inner.path inner.path) (spot_self inner.spot) (same_bytes inner.path)
 
 pub wrote_status : {observed : Bool} {a b c d : DirAt} (root : RootPlace) (status : ℕ) → observed ≡ true → MadeFile observed root.spot (status_path root.app) a b → Appended observed root.spot (status_path root.app) (status_text status) b c → Synced observed root.spot (status_path root.app) c d → WroteStatus root status d
 wrote_status root status t made appended synced =
@@ -91,7 +78,7 @@ runs_call {observed} {old} {new} {request} {reply} t begins alive stand keep c n
   active = subst IsActive (sym (c.local ∙ keep)) r.active;
   seen = seen_replied r.seen request reply;
   knows = knows_call t r.knows begins alive c;
-  runs = ap (λ (s : Standing). holds_own name s && on_spot (λ spot. is_in Run spot.area) (last_of name s.moves)) (stand r.seen.standing) ∙ r.runs;
+  runs = ap (λ (s : Standing). holds_own name s && on_spot (λ spot. is_in Run spot.area) (last_move_of name s.moves)) (stand r.seen.standing) ∙ r.runs;
 }
 
 pub stays_call : {observed : Bool} {old new : DirAt} {request : Request} {reply : Reply} → observed ≡ true → is_begin request ≡ false → is_kill request ≡ false → ((s : Standing) → standing_replied s request reply ≡ s) → local_replied old.local request reply ≡ old.local → DirCall observed old request reply new → StaysAble old new
@@ -105,18 +92,18 @@ stays_none = record { runs = λ name r. r; may = λ root m. m; wrote = λ root s
 pub stays_more : {a b c : DirAt} → StaysAble a b → StaysAble b c → StaysAble a c
 stays_more ab bc = record { runs = λ name r. bc.runs name (ab.runs name r); may = λ root m. bc.may root (ab.may root m); wrote = λ root status w. bc.wrote root status (ab.wrote root status w) }
 
-pub worked_any : {observed : Bool} {asks : Request → Bool} {old new : DirAt} → Worked observed asks old new → Worked observed anything old new
+pub worked_any : {observed : Bool} {asks : Request → Bool} {old new : DirAt} → OnlyAsks observed asks old new → OnlyAsks observed anything old new
 worked_any w = worked_wider (λ r h. refl) w
 
 -- the mark
-of_self : (root : RootPlace) → IsPlaced root → is_of root.spot.name root.spot ≡ true
+of_self : (root : RootPlace) → IsRootInRun root → is_spot_of_pod root.spot.name root.spot ≡ true
 of_self root placed = and_both (is_stage root.spot.area) (bytes_eq root.spot.name root.spot.name) (ap is_stage placed.area) (same_bytes root.spot.name)
 
-pub marked : {observed : Bool} {a b c : DirAt} (root : RootPlace) → observed ≡ true → IsPlaced root → MadeFile observed root.spot (start_mark root.app) a b → Synced observed root.spot [] b c → MarkSynced c.process c.trace root
+pub marked : {observed : Bool} {a b c : DirAt} (root : RootPlace) → observed ≡ true → IsRootInRun root → MadeFile observed root.spot (start_mark root.app) a b → Synced observed root.spot [] b c → MarkSynced c.process c.trace root
 marked root t placed made synced =
     mark_synced root (inner_at root.spot (start_mark root.app)) (inner_at root.spot []) t made synced
-    (and_both (is_of root.spot.name root.spot) (bytes_eq (start_mark root.app) (start_mark root.app)) (of_self root placed) (same_bytes (start_mark root.app)))
-    (and_both (is_of root.spot.name root.spot) true (of_self root placed) refl)
+    (and_both (is_spot_of_pod root.spot.name root.spot) (bytes_eq (start_mark root.app) (start_mark root.app)) (of_self root placed) (same_bytes (start_mark root.app)))
+    (and_both (is_spot_of_pod root.spot.name root.spot) true (of_self root placed) refl)
 
 pub made_mark : {observed : Bool} {a b c : DirAt} (root : RootPlace) → observed ≡ true → MadeFile observed root.spot (start_mark root.app) a b → Synced observed root.spot [] b c → MadeMark root c
 made_mark {observed} {a} {b} {c} root t made synced =

@@ -14,8 +14,8 @@ use Rattle.stage1.specs.Sequences.{wait_call, handler_calls}
 use Rattle.stage1.specs.Asking.{Asks}
 use Rattle.stage1.specs.Cutting.{AreWaitedFor, waits_for, waits_on}
 use Rattle.stage1.specs.Beginnings.{WaitFor}
-use Rattle.stage1.specs.Programs.{wait_request, WasRefused, RanHandler, HandlerCut}
-use Rattle.stage1.specs.Endings.{times, AreWaitedBeside, StartsNone, WasWaitedFor, end_calls, HasEnded, IsEndCut, EndsSo, EndsCut, WereWaitedFor}
+use Rattle.stage1.specs.Programs.{wait_request, SpawnWasRefused, RanHandler, HandlerCut}
+use Rattle.stage1.specs.Endings.{count_of_child, AreWaitedBeside, StartsNone, WasWaitedFor, end_calls, AppHasEnded, IsEndCut, EndsFromStand, EndsCut, WereWaitedFor}
 use Rattle.stage1.proofs.Asked.{asks_more}
 use Rattle.stage1.proofs.Counting.{starts_more, waits_more}
 use Rattle.stage1.proofs.Cuts.{cut_whole, cut_before, cut_behind, cut_refused}
@@ -25,13 +25,13 @@ use Rattle.stage1.proofs.OneApp.{no_run, handler_waited}
 waits_counted : (other child : Child) (request : SpawnRequest) → request ≡ Wait child → waits_on other request ≡ (child.number == other.number)
 waits_counted other child request is = ap (λ (r : SpawnRequest). waits_on other r) is
 
-pub wait_times : (children : List Child) (calls : List SpawnCall) → WaitFor children calls → (other : Child) → waits_for other calls ≡ times other children
+pub wait_times : (children : List Child) (calls : List SpawnCall) → WaitFor children calls → (other : Child) → waits_for other calls ≡ count_of_child other children
 wait_times [] [] w other = refl
 wait_times [] (c ∷ calls) w other = absurd w
 wait_times (child ∷ children) [] w other = absurd w
 wait_times (child ∷ children) (c ∷ calls) w other = by (waits_on other c.request) (child.number == other.number) (waits_counted other child c.request w.0) (wait_times children calls w.1 other)
   where
-    by : (a b : Bool) → a ≡ b → waits_for other calls ≡ times other children → length (cond a (c ∷ filter (λ x. waits_on other x.request) calls) (filter (λ x. waits_on other x.request) calls)) ≡ length (cond b (child ∷ filter (λ x. x.number == other.number) children) (filter (λ x. x.number == other.number) children))
+    by : (a b : Bool) → a ≡ b → waits_for other calls ≡ count_of_child other children → length (cond a (c ∷ filter (λ x. waits_on other x.request) calls) (filter (λ x. waits_on other x.request) calls)) ≡ length (cond b (child ∷ filter (λ x. x.number == other.number) children) (filter (λ x. x.number == other.number) children))
     by true true e rest = ap suc rest
     by true false e rest = cc
     by false true e rest = cc
@@ -51,7 +51,7 @@ module _ {observed : Bool} {old new : SpawnerAt} (child : Child) where
   pub waited_done : (status : ℕ) → Asks observed old (wait_call child status ∷ []) new → WasWaitedFor observed child old new
   waited_done status a = record { status = status; calls = wait_call child status ∷ []; part = cut_whole (wait_call child status ∷ []); wait = (refl, tt); none = λ other. refl; asked = a }
 
-  pub waited_refused : WasRefused observed (wait_request child) old new → WasWaitedFor observed child old new
+  pub waited_refused : SpawnWasRefused observed (wait_request child) old new → WasWaitedFor observed child old new
   waited_refused w = record { status = 0; calls = call (Wait child) (Refused w.error) ∷ []; part = cut_refused [] (wait_call child 0) [] w.error; wait = (refl, tt); none = λ other. refl; asked = w.asked }
 
   pub waited_were : WasWaitedFor observed child old new → WereWaitedFor observed (child ∷ []) old new
@@ -74,7 +74,7 @@ module _ {observed : Bool} {old new : SpawnerAt} (child : Child) where
     }
 
     -- or the handler after the app, or neither
-    pub has_ended : (status : ℕ) (mid : SpawnerAt) (code : ℕ) → Asks observed old (wait_call child status ∷ []) mid → RanHandler observed app app.launch.post_stop code mid new → HasEnded observed app child status old new
+    pub has_ended : (status : ℕ) (mid : SpawnerAt) (code : ℕ) → Asks observed old (wait_call child status ∷ []) mid → RanHandler observed app app.launch.post_stop code mid new → AppHasEnded observed app child status old new
     has_ended status mid code a r = record { ran = r.ran; asked = asks_more (wait_call child status ∷ []) (handler_calls app r.ran app.launch.post_stop) a r.asked }
 
     pub end_cut_late : (status : ℕ) (mid : SpawnerAt) → Asks observed old (wait_call child status ∷ []) mid → HandlerCut observed app app.launch.post_stop mid new → IsEndCut observed app child old new
@@ -87,7 +87,7 @@ module _ {observed : Bool} {old new : SpawnerAt} (child : Child) where
       asked = asks_more (wait_call child status ∷ []) w.cut a w.asked;
     }
 
-    pub end_cut_whole : (status : ℕ) → HasEnded observed app child status old new → IsEndCut observed app child old new
+    pub end_cut_whole : (status : ℕ) → AppHasEnded observed app child status old new → IsEndCut observed app child old new
     end_cut_whole status e = record {
       status = status;
       ran = e.ran;
@@ -98,11 +98,11 @@ module _ {observed : Bool} {old new : SpawnerAt} (child : Child) where
     }
 
 -- what ended may have been cut short behind its end
-pub ends_cut : (observed : Bool) (old new : SpawnerAt) (app : AppStart) (stand : Stand) (status : ℕ) → EndsSo observed app stand status old new → EndsCut observed app stand old new
+pub ends_cut : (observed : Bool) (old new : SpawnerAt) (app : AppStart) (stand : Stand) (status : ℕ) → EndsFromStand observed app stand status old new → EndsCut observed app stand old new
 ends_cut observed old new app (Running child) status e = end_cut_whole child app status e
 ends_cut observed old new app (Ended other) status e = e.1
 
 -- nothing was asked before
-pub ends_after : {observed : Bool} (a : SpawnerAt) {b : SpawnerAt} (c : SpawnerAt) (app : AppStart) (stand : Stand) (status : ℕ) → Asks observed a [] b → EndsSo observed app stand status b c → EndsSo observed app stand status a c
+pub ends_after : {observed : Bool} (a : SpawnerAt) {b : SpawnerAt} (c : SpawnerAt) (app : AppStart) (stand : Stand) (status : ℕ) → Asks observed a [] b → EndsFromStand observed app stand status b c → EndsFromStand observed app stand status a c
 ends_after a c app (Running child) status none e = record { ran = e.ran; asked = asks_more [] (end_calls app child status e.ran) none e.asked }
 ends_after a c app (Ended other) status none e = (e.0, asks_more [] [] none e.1)

@@ -2,7 +2,7 @@
 use Rattle.std.proofs.Common.{arith, ◌≡◌, ◌<◌, ◌+◌, ℕ, zero, suc, Bool, List, [], ◌∷◌, ◌++◌, length, take, drop, map, get_or, sym, ap, subst, ◌∙◌, append-nil}
 use Rattle.std.specs.List.{AllByRecursion, flat_map}
 use Rattle.std.proofs.lemmas.Grind.{flat_map-append}
-use Rattle.std.proofs.lemmas.List.{take_more, drop_more, take-append-drop}
+use Rattle.std.proofs.lemmas.List.{drop_more, take-append-drop}
 use Rattle.dir_model.proofs.Lists.{all_weaker, map_push}
 use Rattle.dir_trait.specs.DirCalls.{DirAt}
 use Rattle.spawner.specs.declared.call.Child.{Child}
@@ -15,7 +15,7 @@ use Rattle.stage1.specs.declared.stand.Stand.TheVariants.{Running, Ended}
 use Rattle.stage1.specs.Sequences.{Beginning, first_calls}
 use Rattle.stage1.specs.Asking.{Asks, StartedIn}
 use Rattle.stage1.specs.Notes.{StaysAble, IsMarked}
-use Rattle.stage1.specs.Beginnings.{stand_of, AreMarked, IsStartedIn, AreStartedIn, IsWritten, AreWritten, HasBegun, HaveBegun}
+use Rattle.stage1.specs.Beginnings.{app_state_of, AreMarked, IsStartedIn, AreStartedIn, IsStatusWritten, AreStatusesWritten, AppHasBegun, HaveBegun}
 use Rattle.stage1.proofs.Asked.{asks_none, asks_more}
 
 -- an element of a list
@@ -23,9 +23,6 @@ pub at_place : {A : Type 0} (P : A → Type 0) (xs : List A) (i : ℕ) (x : A) �
 at_place P [] i x h is all = absurd (omega (arith, h))
 at_place P (y ∷ ys) zero x h is all = subst P (sym is) all.0
 at_place P (y ∷ ys) (suc i) x h is all = at_place P ys i x (omega (arith, h)) is all.1
-
-pub take_next : {A : Type 0} (xs : List A) (i : ℕ) (x : A) → i < length xs → x ≡ get_or xs i x → take (i + 1) xs ≡ take i xs ++ x ∷ []
-take_next xs i x h is = take_more xs i x h ∙ ap (λ y. take i xs ++ y ∷ []) (sym is)
 
 pub parted_at : {A : Type 0} (xs : List A) (i : ℕ) (x : A) → i < length xs → x ≡ get_or xs i x → xs ≡ take i xs ++ x ∷ drop (i + 1) xs
 parted_at xs i x h is = sym (take-append-drop i xs) ∙ ap (λ l. take i xs ++ l) (drop_more xs i x h ∙ ap (λ y. y ∷ drop (i + 1) xs) (sym is))
@@ -54,26 +51,26 @@ started_at calls (a ∷ starts) (s' ∷ stands) zero app stand h at at' s = subs
 started_at calls (a ∷ starts) (s' ∷ stands) (suc i) app stand h at at' s = started_at calls starts stands i app stand (omega (arith, h)) at at' s.1
 
 -- statuses stay written
-pub written_still : {old new : DirAt} → StaysAble old new → (app : AppStart) (stand : Stand) → IsWritten old app stand → IsWritten new app stand
+pub written_still : {old new : DirAt} → StaysAble old new → (app : AppStart) (stand : Stand) → IsStatusWritten old app stand → IsStatusWritten new app stand
 written_still stays app (Running child) w = tt
 written_still stays app (Ended status) w = stays.wrote app.root status w
 
-pub are_written_still : {old new : DirAt} → StaysAble old new → (starts : List AppStart) (stands : List Stand) → AreWritten old starts stands → AreWritten new starts stands
+pub are_written_still : {old new : DirAt} → StaysAble old new → (starts : List AppStart) (stands : List Stand) → AreStatusesWritten old starts stands → AreStatusesWritten new starts stands
 are_written_still stays [] [] w = tt
 are_written_still stays [] (stand ∷ stands) w = absurd w
 are_written_still stays (app ∷ starts) [] w = absurd w
 are_written_still stays (app ∷ starts) (stand ∷ stands) w = (written_still stays app stand w.0, are_written_still stays starts stands w.1)
 
-pub written_push : (d : DirAt) (starts : List AppStart) (stands : List Stand) (app : AppStart) (stand : Stand) → AreWritten d starts stands → IsWritten d app stand → AreWritten d (starts ++ app ∷ []) (stands ++ stand ∷ [])
+pub written_push : (d : DirAt) (starts : List AppStart) (stands : List Stand) (app : AppStart) (stand : Stand) → AreStatusesWritten d starts stands → IsStatusWritten d app stand → AreStatusesWritten d (starts ++ app ∷ []) (stands ++ stand ∷ [])
 written_push d [] [] app stand w one = (one, tt)
 written_push d [] (s ∷ stands) app stand w one = absurd w
 written_push d (a ∷ starts) [] app stand w one = absurd w
 written_push d (a ∷ starts) (s ∷ stands) app stand w one = (w.0, written_push d starts stands app stand w.1 one)
 
-pub written_at : (d : DirAt) (starts : List AppStart) (stands : List Stand) (i : ℕ) (app : AppStart) (stand : Stand) → i < length starts → app ≡ get_or starts i app → stand ≡ get_or stands i stand → AreWritten d starts stands → IsWritten d app stand
+pub written_at : (d : DirAt) (starts : List AppStart) (stands : List Stand) (i : ℕ) (app : AppStart) (stand : Stand) → i < length starts → app ≡ get_or starts i app → stand ≡ get_or stands i stand → AreStatusesWritten d starts stands → IsStatusWritten d app stand
 written_at d [] stands i app stand h at at' w = absurd (omega (arith, h))
 written_at d (a ∷ starts) [] i app stand h at at' w = absurd w
-written_at d (a ∷ starts) (s ∷ stands) zero app stand h at at' w = subst (λ (x : AppStart). IsWritten d x stand) (sym at) (subst (λ (x : Stand). IsWritten d a x) (sym at') w.0)
+written_at d (a ∷ starts) (s ∷ stands) zero app stand h at at' w = subst (λ (x : AppStart). IsStatusWritten d x stand) (sym at) (subst (λ (x : Stand). IsStatusWritten d a x) (sym at') w.0)
 written_at d (a ∷ starts) (s ∷ stands) (suc i) app stand h at at' w = written_at d starts stands i app stand (omega (arith, h)) at at' w.1
 
 -- whatever may be started may still
@@ -84,11 +81,11 @@ may_still {old} {new} stays starts m = all_weaker (λ app. IsMarked old app.root
 pub begun_none : {observed : Bool} {s : SpawnerAt} (starts : List AppStart) (stands : List Stand) → starts ≡ [] → stands ≡ [] → HaveBegun observed starts stands s s
 begun_none starts stands no_starts no_stands = record { begun = []; apps = sym no_starts; stand = no_stands; asked = asks_none }
 
-pub begun_more : {observed : Bool} {a b c : SpawnerAt} (starts : List AppStart) (stands : List Stand) (app : AppStart) (stand : Stand) → HaveBegun observed starts stands a b → HasBegun observed app stand b c → HaveBegun observed (starts ++ app ∷ []) (stands ++ stand ∷ []) a c
+pub begun_more : {observed : Bool} {a b c : SpawnerAt} (starts : List AppStart) (stands : List Stand) (app : AppStart) (stand : Stand) → HaveBegun observed starts stands a b → AppHasBegun observed app stand b c → HaveBegun observed (starts ++ app ∷ []) (stands ++ stand ∷ []) a c
 begun_more {observed} {a} {b} {c} starts stands app stand h one = record {
   begun = h.begun ++ one.begun ∷ [];
   apps = map_push (λ x. x.app) h.begun one.begun ∙ (ap (λ (l : List AppStart). l ++ one.begun.app ∷ []) h.apps ∙ ap (λ (x : AppStart). starts ++ x ∷ []) one.is);
-  stand = ap (λ (l : List Stand). l ++ stand ∷ []) h.stand ∙ (ap (λ (x : Stand). map stand_of h.begun ++ x ∷ []) one.stands ∙ sym (map_push stand_of h.begun one.begun));
+  stand = ap (λ (l : List Stand). l ++ stand ∷ []) h.stand ∙ (ap (λ (x : Stand). map app_state_of h.begun ++ x ∷ []) one.stands ∙ sym (map_push app_state_of h.begun one.begun));
   asked = subst (λ (l : List SpawnCall). Asks observed a l c) (sym (calls_push h.begun one.begun)) (asks_more (flat_map first_calls h.begun) (first_calls one.begun) h.asked one.asked);
 }
   where
@@ -98,5 +95,5 @@ begun_more {observed} {a} {b} {c} starts stands app stand h one = record {
 pub started_none : (calls : List SpawnCall) (starts : List AppStart) (stands : List Stand) → starts ≡ [] → stands ≡ [] → AreStartedIn calls starts stands
 started_none calls starts stands no_starts no_stands = rw (no_starts, no_stands) tt
 
-pub written_none : (d : DirAt) (starts : List AppStart) (stands : List Stand) → starts ≡ [] → stands ≡ [] → AreWritten d starts stands
+pub written_none : (d : DirAt) (starts : List AppStart) (stands : List Stand) → starts ≡ [] → stands ≡ [] → AreStatusesWritten d starts stands
 written_none d starts stands no_starts no_stands = rw (no_starts, no_stands) tt

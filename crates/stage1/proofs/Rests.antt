@@ -7,7 +7,7 @@ use Rattle.spawner.specs.declared.call.SpawnCall.{SpawnCall}
 use Rattle.spawner.specs.Calls.{SpawnerAt}
 use Rattle.stage1.specs.declared.start.AppStart.{AppStart}
 use Rattle.stage1.specs.declared.stand.Stand.{Stand}
-use Rattle.stage1.specs.Beginnings.{stand_of, AreStartedIn, HaveBegun, AreBrokenOff}
+use Rattle.stage1.specs.Beginnings.{app_state_of, AreStartedIn, HaveBegun, AreInterrupted}
 use Rattle.stage1.specs.Endings.{AreEndsCut}
 
 abbrev pub rest_of : {A : Type 0} → ℕ → List A → List A
@@ -51,7 +51,7 @@ others_are starts stands n e = rest_is n stands ∙ (ap (λ (k : ℕ). drop k st
 
 -- as many stands as apps that have begun
 pub begun_each : {observed : Bool} {a b : SpawnerAt} (starts : List AppStart) (stands : List Stand) → HaveBegun observed starts stands a b → length starts ≡ length stands
-begun_each starts stands h = sym (ap length h.apps) ∙ (length-map h.begun (λ b. b.app) ∙ (sym (length-map h.begun stand_of) ∙ sym (ap length h.stand)))
+begun_each starts stands h = sym (ap length h.apps) ∙ (length-map h.begun (λ b. b.app) ∙ (sym (length-map h.begun app_state_of) ∙ sym (ap length h.stand)))
 
-pub broken_each : {observed : Bool} {a b : SpawnerAt} (starts : List AppStart) (stands : List Stand) → AreBrokenOff observed starts stands a b → length stands ≤ length starts
+pub broken_each : {observed : Bool} {a b : SpawnerAt} (starts : List AppStart) (stands : List Stand) → AreInterrupted observed starts stands a b → length stands ≤ length starts
 broken_each starts stands o = omega (arith, ap length o.parted, length-append o.done (o.next ∷ o.rest), begun_each o.done stands o.begun)

@@ -1,43 +1,25 @@
 -- The roots of the apps, read one after the other.
-use Rattle.std.proofs.Common.{◌≡◌, ◌<◌, ◌+◌, ℕ, Bool, true, List, [], ◌∷◌, ◌++◌, length, take, drop, map, get_or, refl, sym, ap, subst, ◌∙◌}
-use Rattle.std.proofs.lemmas.List.{take_more, drop_more, take-append-drop}
+use Rattle.std.proofs.Common.{◌≡◌, ◌<◌, ◌+◌, ℕ, Bool, true, List, [], ◌∷◌, ◌++◌, length, take, get_or, sym, subst}
 use Rattle.manifests.specs.declared.runtime_app.RuntimeApp.{RuntimeApp}
-use Rattle.dir_model.proofs.Lists.{map_push}
 use Rattle.dir_model.specs.declared.pod.PodId.{PodId}
 use Rattle.dir_trait.specs.DirCalls.{DirAt}
 use Rattle.image_reading.proofs.Widths.{file_after, file_before}
 use Rattle.stage1.specs.declared.root.Root.{Root}
 use Rattle.pod_files.specs.Looks.{OnlyReadsPod}
-use Rattle.stage1.specs.AppFiles.{ReadsRoot, AddsRoot, AreRoots}
+use Rattle.pod_files.proofs.AppNames.{names, names_more}
+use Rattle.stage1.specs.AppFiles.{ReadsRoot, AddsRoot, AreAppRoots}
 use Rattle.stage1.specs.declared.start.AppStart.{AppStart}
 use Rattle.stage1.specs.Starts.{FindsStarts}
 
--- the names of apps
-abbrev pub names : List RuntimeApp → List (List ℕ)
-names apps = map (λ a. a.name) apps
-
-names_append : (xs ys : List RuntimeApp) → names (xs ++ ys) ≡ names xs ++ names ys
-names_append [] ys = refl
-names_append (x ∷ xs) ys = ap (λ (l : List (List ℕ)). x.name ∷ l) (names_append xs ys)
-
-names_more : (apps : List RuntimeApp) (i : ℕ) (app : RuntimeApp) → i < length apps → app ≡ get_or apps i app → names (take (i + 1) apps) ≡ names (take i apps) ++ app.name ∷ []
-names_more apps i app h is = ap names (take_more apps i app h ∙ ap (λ (a : RuntimeApp). take i apps ++ a ∷ []) (sym is)) ∙ map_push (λ a. a.name) (take i apps) app
-
--- one of them, the ones before it and those behind
-pub names_around : (apps : List RuntimeApp) (i : ℕ) (app : RuntimeApp) → i < length apps → app ≡ get_or apps i app → names apps ≡ names (take i apps) ++ app.name ∷ names (drop (i + 1) apps)
-names_around apps i app h is =
-    ap names (sym (take-append-drop i apps) ∙ ap (λ (l : List RuntimeApp). take i apps ++ l) (drop_more apps i app h ∙ ap (λ (a : RuntimeApp). a ∷ drop (i + 1) apps) (sym is)))
-    ∙ names_append (take i apps) (app ∷ drop (i + 1) apps)
-
 module _ {observed : Bool} (t : observed ≡ true) (pod : PodId) where
   -- in a part of the time
-  pub roots_before : (a : DirAt) (apps : List (List ℕ)) (roots : List Root) {b c : DirAt} → AreRoots pod apps roots a b → OnlyReadsPod observed pod b c → AreRoots pod apps roots a c
+  pub roots_before : (a : DirAt) (apps : List (List ℕ)) (roots : List Root) {b c : DirAt} → AreAppRoots pod apps roots a b → OnlyReadsPod observed pod b c → AreAppRoots pod apps roots a c
   roots_before a [] [] are bc = tt
   roots_before a [] (root ∷ roots) are bc = absurd are
   roots_before a (app ∷ apps) [] are bc = absurd are
   roots_before a (app ∷ apps) (root ∷ roots) are bc = (file_before t are.0 bc, roots_before a apps roots are.1 bc)
 
-  pub roots_after : (apps : List (List ℕ)) (roots : List Root) {a b : DirAt} (c : DirAt) → OnlyReadsPod observed pod a b → AreRoots pod apps roots b c → AreRoots pod apps roots a c
+  pub roots_after : (apps : List (List ℕ)) (roots : List Root) {a b : DirAt} (c : DirAt) → OnlyReadsPod observed pod a b → AreAppRoots pod apps roots b c → AreAppRoots pod apps roots a c
   roots_after [] [] c ab are = tt
   roots_after [] (root ∷ roots) c ab are = absurd are
   roots_after (app ∷ apps) [] c ab are = absurd are
@@ -47,19 +29,19 @@ module _ {observed : Bool} (t : observed ≡ true) (pod : PodId) where
   finds_after address {apps = apps} c ab found = record { roots = found.roots; read = roots_after (names apps) found.roots c ab found.read; are = found.are }
 
   -- one more
-  push_root : (a c : DirAt) (apps : List (List ℕ)) (roots : List Root) (app : List ℕ) (root : Root) → AreRoots pod apps roots a c → ReadsRoot pod app root a c → AreRoots pod (apps ++ app ∷ []) (roots ++ root ∷ []) a c
+  push_root : (a c : DirAt) (apps : List (List ℕ)) (roots : List Root) (app : List ℕ) (root : Root) → AreAppRoots pod apps roots a c → ReadsRoot pod app root a c → AreAppRoots pod (apps ++ app ∷ []) (roots ++ root ∷ []) a c
   push_root a c [] [] app root are read = (read, tt)
   push_root a c [] (r ∷ roots) app root are read = absurd are
   push_root a c (n ∷ apps) [] app root are read = absurd are
   push_root a c (n ∷ apps) (r ∷ roots) app root are read = (are.0, push_root a c apps roots app root are.1 read)
 
-  pub one_root_more : (a c : DirAt) (apps : List (List ℕ)) (roots : List Root) (app : List ℕ) (root : Root) {b : DirAt} → OnlyReadsPod observed pod a b → AreRoots pod apps roots a b → OnlyReadsPod observed pod b c → ReadsRoot pod app root b c → AreRoots pod (apps ++ app ∷ []) (roots ++ root ∷ []) a c
+  pub one_root_more : (a c : DirAt) (apps : List (List ℕ)) (roots : List Root) (app : List ℕ) (root : Root) {b : DirAt} → OnlyReadsPod observed pod a b → AreAppRoots pod apps roots a b → OnlyReadsPod observed pod b c → ReadsRoot pod app root b c → AreAppRoots pod (apps ++ app ∷ []) (roots ++ root ∷ []) a c
   one_root_more a c apps roots app root ab are bc read = push_root a c apps roots app root (roots_before a apps roots are bc) (file_after t ab read)
 
-  pub roots_next : (a c : DirAt) (apps : List RuntimeApp) (i : ℕ) (app : RuntimeApp) → i < length apps → app ≡ get_or apps i app → (before after : List Root) {b : DirAt} → OnlyReadsPod observed pod a b → AreRoots pod (names (take i apps)) before a b → OnlyReadsPod observed pod b c → AddsRoot pod app.name before after b c → AreRoots pod (names (take (i + 1) apps)) after a c
+  pub roots_next : (a c : DirAt) (apps : List RuntimeApp) (i : ℕ) (app : RuntimeApp) → i < length apps → app ≡ get_or apps i app → (before after : List Root) {b : DirAt} → OnlyReadsPod observed pod a b → AreAppRoots pod (names (take i apps)) before a b → OnlyReadsPod observed pod b c → AddsRoot pod app.name before after b c → AreAppRoots pod (names (take (i + 1) apps)) after a c
   roots_next a c apps i app h is before after ab are bc adds =
-      subst (λ (ns : List (List ℕ)). AreRoots pod ns after a c) (sym (names_more apps i app h is))
-      (subst (λ (rs : List Root). AreRoots pod (names (take i apps) ++ app.name ∷ []) rs a c) (sym adds.added) (one_root_more a c (names (take i apps)) before app.name adds.root ab are bc adds.read))
+      subst (λ (ns : List (List ℕ)). AreAppRoots pod ns after a c) (sym (names_more apps i app h is))
+      (subst (λ (rs : List Root). AreAppRoots pod (names (take i apps) ++ app.name ∷ []) rs a c) (sym adds.added) (one_root_more a c (names (take i apps)) before app.name adds.root ab are bc adds.read))
 
-pub roots_none : (pod : PodId) (apps : List (List ℕ)) (roots : List Root) (d : DirAt) → apps ≡ [] → roots ≡ [] → AreRoots pod apps roots d d
+pub roots_none : (pod : PodId) (apps : List (List ℕ)) (roots : List Root) (d : DirAt) → apps ≡ [] → roots ≡ [] → AreAppRoots pod apps roots d d
 roots_none pod apps roots d no_apps no_roots = rw (no_apps, no_roots) tt

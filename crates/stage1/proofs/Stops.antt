@@ -1,6 +1,7 @@
 -- What comes of a run: each app's status, or why it stopped.
 use Rattle.std.proofs.Common.{◌≡◌, ◌<◌, ◌+◌, ℕ, Bool, List, [], ◌∷◌, ◌++◌, length, take, get_or, refl, sym, ap, subst, ◌∙◌}
 use Rattle.std.proofs.lemmas.List.{take_more, length-map}
+use Rattle.plain_laws.proofs.Lists.{take_next}
 use Rattle.dir_trait.specs.DirCalls.{DirAt}
 use Rattle.spawner.specs.Calls.{SpawnerAt}
 use Rattle.stage1.specs.declared.start.AppStart.{AppStart}
@@ -10,9 +11,8 @@ use Rattle.stage1.specs.declared.error.Fault.TheVariants.{Spawn, Dir, Stray, NoM
 use Rattle.stage1.specs.declared.error.RunError.{RunError}
 use Rattle.stage1.specs.declared.error.RunError.TheVariants as run
 use Rattle.stage1.specs.Refusals.{fault_refusal, RunCause}
-use Rattle.stage1.specs.Sequences.{status_of}
+use Rattle.stage1.specs.Sequences.{app_status_of}
 use Rattle.stage1.specs.Runs.{HaveRun, end_of, AreEnds, StopCause}
-use Rattle.stage1.proofs.Pairs.{take_next}
 
 ends_push : (starts : List AppStart) (statuses : List ℕ) (ends : List AppEnd) (app : AppStart) (status : ℕ) → AreEnds starts statuses ends → AreEnds (starts ++ app ∷ []) (statuses ++ status ∷ []) (ends ++ end_of app status ∷ [])
 ends_push (a ∷ starts) (n ∷ statuses) (e ∷ ends) app status are = (are.0, ends_push starts statuses ends app status are.1)
@@ -30,7 +30,7 @@ ends_none ends none = rw none tt
 
 -- as many statuses as apps
 pub run_each : {observed : Bool} {old new : SpawnerAt} (starts : List AppStart) (statuses : List ℕ) → HaveRun observed starts statuses old new → length starts ≡ length statuses
-run_each starts statuses h = sym (ap length h.apps) ∙ (length-map h.endings (λ e. e.begun.app) ∙ (sym (length-map h.endings status_of) ∙ ap length h.statuses_are))
+run_each starts statuses h = sym (ap length h.apps) ∙ (length-map h.endings (λ e. e.begun.app) ∙ (sym (length-map h.endings app_status_of) ∙ ap length h.statuses_are))
 
 -- why it stopped
 pub stop_cause : (seen : Bool) (f : Fault) (d d' : DirAt) (s s' : SpawnerAt) → RunCause seen f d d' s s' → StopCause seen (fault_refusal f) d d' s s'

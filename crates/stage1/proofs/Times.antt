@@ -6,7 +6,7 @@ use Rattle.stage1.specs.declared.start.AppStart.{AppStart}
 use Rattle.stage1.specs.declared.error.Fault.{Fault}
 use Rattle.stage1.specs.declared.stand.Stand.{Stand}
 use Rattle.stage1.specs.declared.stand.Stand.TheVariants.{Running, Ended}
-use Rattle.stage1.specs.Keeping.{Keeps, mark_times, app_times, begun_times, end_times, going_times, beginning_times, all_begun_times, all_end_times, all_times}
+use Rattle.stage1.specs.Keeping.{NotesAtMost, mark_times, app_times, begun_times, end_times, going_times, beginning_times, all_begun_times, all_end_times, all_times}
 use Rattle.stage1.proofs.Keeping.{keeps_more, keeps_wider}
 use Rattle.stage1.proofs.Rests.{rest_of, rest_is}
 
@@ -26,10 +26,10 @@ beginning_within app (Ok (Running child)) i = omega arith
 beginning_within app (Ok (Ended status)) i = omega arith
 beginning_within app (Err fault) i = omega arith
 
-pub keeps_marked_only : {a b : DirAt} (app : AppStart) (r : Result Stand Fault) → Keeps (mark_times app.root) a b → Keeps (beginning_times app r) a b
+pub keeps_marked_only : {a b : DirAt} (app : AppStart) (r : Result Stand Fault) → NotesAtMost (mark_times app.root) a b → NotesAtMost (beginning_times app r) a b
 keeps_marked_only app r ab = keeps_wider (mark_within app r) ab
 
-pub keeps_begun : {a b c : DirAt} (app : AppStart) (r : Result Stand Fault) → Keeps (mark_times app.root) a b → Keeps (going_times app r) b c → Keeps (beginning_times app r) a c
+pub keeps_begun : {a b c : DirAt} (app : AppStart) (r : Result Stand Fault) → NotesAtMost (mark_times app.root) a b → NotesAtMost (going_times app r) b c → NotesAtMost (beginning_times app r) a c
 keeps_begun app r ab bc = keeps_wider (going_within app r) (keeps_more ab bc)
 
 -- one app more has begun, in part or whole
@@ -45,10 +45,10 @@ begun_part [] (s ∷ stands) app rest h i = absurd (omega (arith, h))
 begun_part (a ∷ done) [] app rest h i = absurd (omega (arith, h))
 begun_part (a ∷ done) (s ∷ stands) app rest h i = omega (arith, begun_part done stands app rest (omega (arith, h)) i)
 
-pub keeps_push : {a b c : DirAt} (apps : List AppStart) (stands : List Stand) (app : AppStart) (stand : Stand) → length apps ≡ length stands → Keeps (all_begun_times apps stands) a b → Keeps (begun_times app stand) b c → Keeps (all_begun_times (apps ++ app ∷ []) (stands ++ stand ∷ [])) a c
+pub keeps_push : {a b c : DirAt} (apps : List AppStart) (stands : List Stand) (app : AppStart) (stand : Stand) → length apps ≡ length stands → NotesAtMost (all_begun_times apps stands) a b → NotesAtMost (begun_times app stand) b c → NotesAtMost (all_begun_times (apps ++ app ∷ []) (stands ++ stand ∷ [])) a c
 keeps_push apps stands app stand h ab bc = keeps_wider (begun_push apps stands app stand h) (keeps_more ab bc)
 
-pub keeps_broken : {a b c : DirAt} (done : List AppStart) (stands : List Stand) (app : AppStart) (rest : List AppStart) (r : Result Stand Fault) → length done ≡ length stands → Keeps (all_begun_times done stands) a b → Keeps (beginning_times app r) b c → Keeps (all_begun_times (done ++ app ∷ rest) stands) a c
+pub keeps_broken : {a b c : DirAt} (done : List AppStart) (stands : List Stand) (app : AppStart) (rest : List AppStart) (r : Result Stand Fault) → length done ≡ length stands → NotesAtMost (all_begun_times done stands) a b → NotesAtMost (beginning_times app r) b c → NotesAtMost (all_begun_times (done ++ app ∷ rest) stands) a c
 keeps_broken done stands app rest r h ab bc = keeps_wider (begun_part done stands app rest h) (keeps_more ab (keeps_wider (beginning_within app r) bc))
 
 -- one app more has ended
@@ -58,7 +58,7 @@ end_push [] (s ∷ stands) app stand h i = absurd (omega (arith, h))
 end_push (a ∷ apps) [] app stand h i = absurd (omega (arith, h))
 end_push (a ∷ apps) (s ∷ stands) app stand h i = omega (arith, end_push apps stands app stand (omega (arith, h)) i)
 
-pub keeps_end_push : {a b c : DirAt} (apps : List AppStart) (stands : List Stand) (app : AppStart) (stand : Stand) → length apps ≡ length stands → Keeps (all_end_times apps stands) a b → Keeps (end_times app stand) b c → Keeps (all_end_times (apps ++ app ∷ []) (stands ++ stand ∷ [])) a c
+pub keeps_end_push : {a b c : DirAt} (apps : List AppStart) (stands : List Stand) (app : AppStart) (stand : Stand) → length apps ≡ length stands → NotesAtMost (all_end_times apps stands) a b → NotesAtMost (end_times app stand) b c → NotesAtMost (all_end_times (apps ++ app ∷ []) (stands ++ stand ∷ [])) a c
 keeps_end_push apps stands app stand h ab bc = keeps_wider (end_push apps stands app stand h) (keeps_more ab bc)
 
 -- some of them, and the rest
@@ -78,13 +78,13 @@ end_parts (suc n) [] stands i = omega arith
 end_parts (suc n) (a ∷ apps) [] i = omega (arith, no_stands (drop n apps) i)
 end_parts (suc n) (a ∷ apps) (s ∷ stands) i = omega (arith, end_parts n apps stands i)
 
-pub keeps_front : {a b : DirAt} (n : ℕ) (apps : List AppStart) (stands : List Stand) → Keeps (all_end_times (take n apps) (take n stands)) a b → Keeps (all_end_times apps stands) a b
+pub keeps_front : {a b : DirAt} (n : ℕ) (apps : List AppStart) (stands : List Stand) → NotesAtMost (all_end_times (take n apps) (take n stands)) a b → NotesAtMost (all_end_times apps stands) a b
 keeps_front n apps stands ab = keeps_wider (end_front n apps stands) ab
 
-pub keeps_parts : {a b c : DirAt} (n : ℕ) (apps : List AppStart) (stands : List Stand) → Keeps (all_end_times (take n apps) (take n stands)) a b → Keeps (all_end_times (rest_of n apps) (rest_of n stands)) b c → Keeps (all_end_times apps stands) a c
+pub keeps_parts : {a b c : DirAt} (n : ℕ) (apps : List AppStart) (stands : List Stand) → NotesAtMost (all_end_times (take n apps) (take n stands)) a b → NotesAtMost (all_end_times (rest_of n apps) (rest_of n stands)) b c → NotesAtMost (all_end_times apps stands) a c
 keeps_parts {a} {b} {c} n apps stands ab bc =
     keeps_wider (end_parts n apps stands) (keeps_more ab
-    (subst (λ (l : List AppStart). Keeps (all_end_times l (drop n stands)) b c) (rest_is n apps) (subst (λ (l : List Stand). Keeps (all_end_times (rest_of n apps) l) b c) (rest_is n stands) bc)))
+    (subst (λ (l : List AppStart). NotesAtMost (all_end_times l (drop n stands)) b c) (rest_is n apps) (subst (λ (l : List Stand). NotesAtMost (all_end_times (rest_of n apps) l) b c) (rest_is n stands) bc)))
 
 -- both parts of the run
 begun_and_ended : (apps : List AppStart) (stands : List Stand) (i : Inner) → all_begun_times apps stands i + all_end_times apps stands i ≤ all_times apps i
@@ -93,5 +93,5 @@ begun_and_ended (a ∷ apps) [] i = omega (arith, begun_and_ended apps [] i)
 begun_and_ended (a ∷ apps) (Running child ∷ stands) i = omega (arith, begun_and_ended apps stands i)
 begun_and_ended (a ∷ apps) (Ended status ∷ stands) i = omega (arith, begun_and_ended apps stands i)
 
-pub keeps_both : {a b c : DirAt} (apps : List AppStart) (stands : List Stand) → Keeps (all_begun_times apps stands) a b → Keeps (all_end_times apps stands) b c → Keeps (all_times apps) a c
+pub keeps_both : {a b c : DirAt} (apps : List AppStart) (stands : List Stand) → NotesAtMost (all_begun_times apps stands) a b → NotesAtMost (all_end_times apps stands) b c → NotesAtMost (all_times apps) a c
 keeps_both apps stands ab bc = keeps_wider (begun_and_ended apps stands) (keeps_more ab bc)

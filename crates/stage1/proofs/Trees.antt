@@ -2,7 +2,7 @@
 use Rattle.std.proofs.Common.{◌≡◌, ℕ, true, codes, List, ◌++◌, refl}
 use Rattle.dir_model.specs.Paths.{is_path}
 use Rattle.ac_types.specs.Names.{IsAcName}
-use Rattle.pod_files.proofs.Names.{app_name, plain_behind, stage2_path}
+use Rattle.dir_laws.proofs.Names.{app_name, plain_behind, stage2_path}
 use Rattle.stage1.specs.AppPlaces.{tree_path}
 
 -- the listing of an app's root

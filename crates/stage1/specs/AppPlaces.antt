@@ -3,7 +3,7 @@ use Rattle.std.specs.Prelude.{ℕ, List, ◌++◌, codes}
 use Rattle.dir_model.specs.declared.pod.PodId.{PodId}
 use Rattle.dir_model.specs.Pods.{pod_text}
 use Rattle.spawner.specs.declared.call.RootPlace.{RootPlace}
-pub use Rattle.pod_files.specs.Places.{run_spot, pod_file, manifest_name, token_name}
+use Rattle.pod_files.specs.Places.{run_spot, pod_file, pod_manifest_name, token_name}
 
 -- the listing of an app's root
 abbrev pub tree_path : List ℕ → List ℕ
@@ -14,5 +14,5 @@ abbrev pub told_path : PodId → List ℕ → List ℕ
 told_path pod path = pod_text pod.bytes ++ (codes "/" ++ path)
 
 -- the root of an app
-abbrev pub root_of : PodId → List ℕ → RootPlace
-root_of pod app = record { spot = run_spot pod; app = app }
+abbrev pub app_root_of : PodId → List ℕ → RootPlace
+app_root_of pod app = record { spot = run_spot pod; app = app }

@@ -16,6 +16,7 @@ abbrev pub is_noted_reply : SpawnReply → Bool
 is_noted_reply (Refused NoMemory) = false
 is_noted_reply reply = true
 
+-- the call's reply says that a child was started or has ended
 abbrev pub is_noted : SpawnCall → Bool
 is_noted c = is_noted_reply c.reply
 
@@ -24,6 +25,7 @@ abbrev pub IsTrueReply : (ℕ → ℕ) → SpawnRequest → SpawnReply → Type 
 IsTrueReply status (Wait child) (Ended n) = n ≡ status child.number
 IsTrueReply status request reply = Unit {0}
 
+-- the call's reply is a true one, each child having this status
 abbrev pub IsTrueCall : (ℕ → ℕ) → SpawnCall → Type 0
 IsTrueCall status c = IsTrueReply status c.request c.reply
 

@@ -6,26 +6,26 @@ use Rattle.spawner.specs.Calls.{SpawnerAt}
 use Rattle.stage1.specs.declared.start.AppStart.{AppStart}
 use Rattle.stage1.specs.declared.stand.Stand.{Stand}
 use Rattle.stage1.specs.declared.stand.Stand.TheVariants.{Running, Ended}
-use Rattle.stage1.specs.Sequences.{Ran, wait_call, handler_calls}
+use Rattle.stage1.specs.Sequences.{ProgramRun, wait_call, handler_calls}
 use Rattle.stage1.specs.Asking.{Asks}
-use Rattle.stage1.specs.Cutting.{IsCutOff, starts_of, waits_for}
+use Rattle.stage1.specs.Cutting.{IsCutOff, count_of_starts, waits_for}
 use Rattle.stage1.specs.Beginnings.{running, WaitFor}
 
 -- a child is waited for that ends with this status, and then the handler after its app runs
-abbrev pub end_calls : AppStart → Child → ℕ → Ran → List SpawnCall
+abbrev pub end_calls : AppStart → Child → ℕ → ProgramRun → List SpawnCall
 end_calls app child status ran = wait_call child status ∷ handler_calls app ran app.launch.post_stop
 
 -- how often a child is among some
-abbrev pub times : Child → List Child → ℕ
-times child children = length (filter (λ c. c.number == child.number) children)
+abbrev pub count_of_child : Child → List Child → ℕ
+count_of_child child children = length (filter (λ c. c.number == child.number) children)
 
 -- each of these children, and each that was started, was waited for
 abbrev pub AreWaitedBeside : List Child → List SpawnCall → Type 0
-AreWaitedBeside children calls = (child : Child) → waits_for child calls ≡ starts_of child calls + times child children
+AreWaitedBeside children calls = (child : Child) → waits_for child calls ≡ count_of_starts child calls + count_of_child child children
 
 -- no child was started
 abbrev pub StartsNone : List SpawnCall → Type 0
-StartsNone calls = (child : Child) → starts_of child calls ≡ 0
+StartsNone calls = (child : Child) → count_of_starts child calls ≡ 0
 
 -- the child was waited for, and nothing else was asked
 pub record WasWaitedFor (observed : Bool) (child : Child) (old new : SpawnerAt) : Type 0 where
@@ -37,24 +37,25 @@ pub record WasWaitedFor (observed : Bool) (child : Child) (old new : SpawnerAt) 
   pub asked : Asks observed old calls new
 
 -- the app whose main program ran has ended
-pub record HasEnded (observed : Bool) (app : AppStart) (child : Child) (status : ℕ) (old new : SpawnerAt) : Type 0 where
-  pub ran : Ran
+pub record AppHasEnded (observed : Bool) (app : AppStart) (child : Child) (status : ℕ) (old new : SpawnerAt) : Type 0 where
+  pub ran : ProgramRun
   pub asked : Asks observed old (end_calls app child status ran) new
 
 -- its ending was cut short, after its main program was waited for
 pub record IsEndCut (observed : Bool) (app : AppStart) (child : Child) (old new : SpawnerAt) : Type 0 where
   pub status : ℕ
-  pub ran : Ran
+  pub ran : ProgramRun
   pub cut : List SpawnCall
   pub part : IsCutOff (end_calls app child status ran) cut
   pub waited : AreWaitedBeside (child ∷ []) cut
   pub asked : Asks observed old cut new
 
 -- an app has ended from where it stood
-abbrev pub EndsSo : Bool → AppStart → Stand → ℕ → SpawnerAt → SpawnerAt → Type 0
-EndsSo observed app (Running child) status old new = HasEnded observed app child status old new
-EndsSo observed app (Ended other) status old new = (status ≡ other) × Asks observed old [] new
+abbrev pub EndsFromStand : Bool → AppStart → Stand → ℕ → SpawnerAt → SpawnerAt → Type 0
+EndsFromStand observed app (Running child) status old new = AppHasEnded observed app child status old new
+EndsFromStand observed app (Ended other) status old new = (status ≡ other) × Asks observed old [] new
 
+-- the calls of an app's end were cut off
 abbrev pub EndsCut : Bool → AppStart → Stand → SpawnerAt → SpawnerAt → Type 0
 EndsCut observed app (Running child) old new = IsEndCut observed app child old new
 EndsCut observed app (Ended other) old new = Asks observed old [] new
@@ -63,14 +64,15 @@ EndsCut observed app (Ended other) old new = Asks observed old [] new
 pub record AddsEnd (observed : Bool) (app : AppStart) (stand : Stand) (before after : List ℕ) (old new : SpawnerAt) : Type 0 where
   pub status : ℕ
   pub added : after ≡ before ++ status ∷ []
-  pub ends : EndsSo observed app stand status old new
+  pub ends : EndsFromStand observed app stand status old new
 
 -- the apps have ended, one after the other
 pub record ThenEnd (observed : Bool) (app : AppStart) (stand : Stand) (status : ℕ) (Later : SpawnerAt → Type 0) (old : SpawnerAt) : Type 0 where
   pub between : SpawnerAt
-  pub ends : EndsSo observed app stand status old between
+  pub ends : EndsFromStand observed app stand status old between
   pub later : Later between
 
+-- each app has ended, one after the other, with these statuses
 abbrev pub HaveEnded : Bool → List AppStart → List Stand → List ℕ → SpawnerAt → SpawnerAt → Type 0
 HaveEnded observed (app ∷ starts) (stand ∷ stands) (status ∷ statuses) old new = ThenEnd observed app stand status (λ between. HaveEnded observed starts stands statuses between new) old
 HaveEnded observed [] [] [] old new = Asks observed old [] new

@@ -12,30 +12,32 @@ use Rattle.dir_trait.specs.DirCalls.{DirAt}
 use Rattle.stage1.specs.declared.load_error.LoadError.{LoadError}
 use Rattle.stage1.specs.declared.load_error.LoadError.TheVariants.{NoManifest, Damaged, NoProgram, DirFault, NoMemory}
 use Rattle.stage1.specs.declared.root.Root.{Root}
-use Rattle.stage1.specs.AppPlaces.{token_name, tree_path, told_path}
-use Rattle.stage1.specs.AppFiles.{ReadsManifest, LacksManifest, ReadsToken, LacksToken, LacksRoot, AreRoots}
+use Rattle.stage1.specs.AppPlaces.{tree_path, told_path}
+use Rattle.stage1.specs.AppFiles.{LacksRootListing, AreAppRoots}
+use Rattle.pod_files.specs.Places.{token_name}
+use Rattle.pod_files.specs.Files.{ReadsPodManifest, ReadsNoPodManifest, ReadsToken, ReadsNoToken}
 
 -- the directory failed, or memory ran out
-abbrev pub IsOutside : LoadError → Type 0
-IsOutside DirFault = Unit {0}
-IsOutside NoMemory = Unit {0}
-IsOutside error = ⊥
+abbrev pub IsLoadFailure : LoadError → Type 0
+IsLoadFailure DirFault = Unit {0}
+IsLoadFailure NoMemory = Unit {0}
+IsLoadFailure error = ⊥
 
 -- or there is no manifest, for this reason
-abbrev pub IsLack : Type 0 → LoadError → Type 0
-IsLack Why NoManifest = Why
-IsLack Why error = IsOutside error
+abbrev pub IsManifestLack : Type 0 → LoadError → Type 0
+IsManifestLack Why NoManifest = Why
+IsManifestLack Why error = IsLoadFailure error
 
 -- or the file at this path is damaged, for this reason
 abbrev pub IsDamageFor : List ℕ → Type 0 → LoadError → Type 0
 IsDamageFor at Why (Damaged path) = (path ≡ at) × Why
-IsDamageFor at Why error = IsOutside error
+IsDamageFor at Why error = IsLoadFailure error
 
 -- the file at this path is damaged, or memory ran out
-abbrev pub IsDamage : List ℕ → LoadError → Type 0
-IsDamage at (Damaged path) = path ≡ at
-IsDamage at NoMemory = Unit {0}
-IsDamage at error = ⊥
+abbrev pub IsLoadDamage : List ℕ → LoadError → Type 0
+IsLoadDamage at (Damaged path) = path ≡ at
+IsLoadDamage at NoMemory = Unit {0}
+IsLoadDamage at error = ⊥
 
 -- this came about, and after it that
 pub record InTurn (First Later : DirAt → DirAt → Type 0) (old new : DirAt) : Type 0 where
@@ -47,32 +49,34 @@ pub record InTurn (First Later : DirAt → DirAt → Type 0) (old new : DirAt) :
   pub later : Later between new
 
 -- the roots of the apps before this one were read, and then its listing was damaged
-pub record LacksListing (pod : PodId) (apps : List (List ℕ)) (path : List ℕ) (old new : DirAt) : Type 0 where
+pub record AppLacksListing (pod : PodId) (apps : List (List ℕ)) (path : List ℕ) (old new : DirAt) : Type 0 where
   pub before : List (List ℕ)
   pub app : List ℕ
   pub after : List (List ℕ)
   pub roots : List Root
   pub are : apps ≡ before ++ app ∷ after
   pub stands : path ≡ told_path pod (tree_path app)
-  pub lacks : InTurn (AreRoots pod before roots) (LacksRoot pod app) old new
+  pub lacks : InTurn (AreAppRoots pod before roots) (LacksRootListing pod app) old new
 
+-- why the roots of apps can't be read
 abbrev pub IsRootsLack : PodId → List (List ℕ) → LoadError → DirAt → DirAt → Type 0
-IsRootsLack pod apps (Damaged path) old new = LacksListing pod apps path old new
-IsRootsLack pod apps error old new = IsOutside error
+IsRootsLack pod apps (Damaged path) old new = AppLacksListing pod apps path old new
+IsRootsLack pod apps error old new = IsLoadFailure error
 
 -- this app has no program for this word, or memory ran out
-abbrev pub IsMissing : List ℕ → List ℕ → LoadError → Type 0
-IsMissing app word (NoProgram other missing) = (other ≡ app) × (missing ≡ word)
-IsMissing app word NoMemory = Unit {0}
-IsMissing app word error = ⊥
+abbrev pub IsProgramMissing : List ℕ → List ℕ → LoadError → Type 0
+IsProgramMissing app word (NoProgram other missing) = (other ≡ app) × (missing ≡ word)
+IsProgramMissing app word NoMemory = Unit {0}
+IsProgramMissing app word error = ⊥
 
 -- the app has no program for this word in this root, and it is the first such word
-pub record Lacks (app : RuntimeApp) (root : Root) (name word : List ℕ) : Type 0 where
+pub record AppLacksProgram (app : RuntimeApp) (root : Root) (name word : List ℕ) : Type 0 where
   pub named : name ≡ app.name
   pub missing : missing_word (option_map app_data app.app) (entry_at root.tree) ≡ Some word
 
+-- why an app's programs can't be found
 abbrev pub AreMissing : RuntimeApp → Root → LoadError → Type 0
-AreMissing app root (NoProgram name word) = Lacks app root name word
+AreMissing app root (NoProgram name word) = AppLacksProgram app root name word
 AreMissing app root NoMemory = Unit {0}
 AreMissing app root error = ⊥
 
@@ -82,9 +86,10 @@ HasAll app root = missing_word (option_map app_data app.app) (entry_at root.tree
 
 -- the first app that lacks one lacks this
 abbrev pub FirstLacks : List RuntimeApp → List Root → List ℕ → List ℕ → Type 0
-FirstLacks (app ∷ apps) (root ∷ roots) name word = Lacks app root name word ⊎ (HasAll app root × FirstLacks apps roots name word)
+FirstLacks (app ∷ apps) (root ∷ roots) name word = AppLacksProgram app root name word ⊎ (HasAll app root × FirstLacks apps roots name word)
 FirstLacks _ _ name word = ⊥
 
+-- why the programs of apps can't be found: the first that lacks one tells
 abbrev pub IsMissingAmong : List RuntimeApp → List Root → LoadError → Type 0
 IsMissingAmong apps roots (NoProgram name word) = FirstLacks apps roots name word
 IsMissingAmong apps roots NoMemory = Unit {0}
@@ -93,13 +98,13 @@ IsMissingAmong apps roots error = ⊥
 -- by the roots that were read, this is the first app that has no program for a word, and its first such word
 pub record LacksProgram (pod : PodId) (apps : List RuntimeApp) (name word : List ℕ) (old new : DirAt) : Type 0 where
   pub roots : List Root
-  pub read : AreRoots pod (map (λ a. a.name) apps) roots old new
+  pub read : AreAppRoots pod (map (λ a. a.name) apps) roots old new
   pub lacks : FirstLacks apps roots name word
 
 -- why it isn't known of these apps
 abbrev pub LacksStarts : PodId → List RuntimeApp → LoadError → DirAt → DirAt → Type 0
 LacksStarts pod apps NoManifest old new = ⊥
-LacksStarts pod apps (Damaged path) old new = LacksListing pod (map (λ a. a.name) apps) path old new
+LacksStarts pod apps (Damaged path) old new = AppLacksListing pod (map (λ a. a.name) apps) path old new
 LacksStarts pod apps (NoProgram name word) old new = LacksProgram pod apps name word old new
 LacksStarts pod apps error old new = Unit {0}
 
@@ -107,17 +112,17 @@ LacksStarts pod apps error old new = Unit {0}
 pub record LacksTokenOf (pod : PodId) (path : List ℕ) (old new : DirAt) : Type 0 where
   pub manifest : PodManifest
   pub stands : path ≡ told_path pod token_name
-  pub lacks : InTurn (ReadsManifest pod (pod_data manifest)) (LacksToken pod) old new
+  pub lacks : InTurn (ReadsPodManifest pod (pod_data manifest)) (ReadsNoToken pod) old new
 
 -- the pod's manifest was read, then its token, and then it wasn't known of its apps
 pub record LacksSome (pod : PodId) (error : LoadError) (old new : DirAt) : Type 0 where
   pub manifest : PodManifest
   pub token : List ℕ
-  pub lacks : InTurn (ReadsManifest pod (pod_data manifest)) (InTurn (ReadsToken pod token) (LacksStarts pod manifest.apps error)) old new
+  pub lacks : InTurn (ReadsPodManifest pod (pod_data manifest)) (InTurn (ReadsToken pod token) (LacksStarts pod manifest.apps error)) old new
 
 -- why it isn't known of the pod
 abbrev pub LoadCause : PodId → LoadError → DirAt → DirAt → Type 0
-LoadCause pod NoManifest old new = LacksManifest pod old new
+LoadCause pod NoManifest old new = ReadsNoPodManifest pod old new
 LoadCause pod (Damaged path) old new = LacksTokenOf pod path old new ⊎ LacksSome pod (Damaged path) old new
 LoadCause pod (NoProgram name word) old new = LacksSome pod (NoProgram name word) old new
 LoadCause pod error old new = Unit {0}

@@ -21,12 +21,15 @@ use Rattle.spawner.specs.Conditions.{start_mark, did, StillRuns, MayStart}
 abbrev pub status_path : List ℕ → List ℕ
 status_path app = status_directory ++ 47 ∷ app
 
+-- what a status file holds: the status in decimal and a line feed
 abbrev pub status_text : ℕ → List ℕ
 status_text status = decimal status ++ 10 ∷ []
 
+-- where the mark of an app's start is
 abbrev pub mark_inner : RootPlace → Inner
 mark_inner root = inner_at root.spot (start_mark root.app)
 
+-- where an app's status file is
 abbrev pub status_inner : RootPlace → Inner
 status_inner root = inner_at root.spot (status_path root.app)
 
@@ -34,14 +37,16 @@ status_inner root = inner_at root.spot (status_path root.app)
 abbrev pub MadeFile : Bool → Spot → List ℕ → DirAt → DirAt → Type 0
 MadeFile observed spot path old new = DirCall observed old (MakeFileIn (inner_at spot path)) Done new
 
+-- a piece was appended, and that was answered Ok
 abbrev pub Appended : Bool → Spot → List ℕ → List ℕ → DirAt → DirAt → Type 0
 Appended observed spot path piece old new = AppendCall observed old (AppendIn (inner_at spot path) piece) (Ok tt) new
 
+-- something was synced, and that was answered Ok
 abbrev pub Synced : Bool → Spot → List ℕ → DirAt → DirAt → Type 0
 Synced observed spot path old new = DirCall observed old (SyncIn (inner_at spot path)) Done new
 
 -- it is the root of an app of a pod in run
-pub record IsPlaced (root : RootPlace) : Type 0 where
+pub record IsRootInRun (root : RootPlace) : Type 0 where
   pub area : root.spot.area ≡ Run
   pub named : IsAcName root.app
 
@@ -66,10 +71,12 @@ abbrev pub makes_status : RootPlace → Request → Bool
 makes_status root (MakeFileIn inner) = inner_eq inner (status_inner root)
 makes_status root _ = false
 
+-- it appends the app's status to its file
 abbrev pub writes_status : RootPlace → ℕ → Request → Bool
 writes_status root status (AppendIn inner piece) = inner_eq inner (status_inner root) && bytes_eq piece (status_text status)
 writes_status root status _ = false
 
+-- it syncs the app's status file
 abbrev pub syncs_status : RootPlace → Request → Bool
 syncs_status root (SyncIn inner) = inner_eq inner (status_inner root)
 syncs_status root _ = false

@@ -7,7 +7,7 @@ use Rattle.dir_model.specs.declared.request.Reply.{Reply}
 use Rattle.dir_model.specs.declared.request.Request.{Request}
 use Rattle.dir_model.specs.Calls.{CallStep}
 use Rattle.dir_model.specs.Causes.{Rose}
-use Rattle.folder_building.specs.Work.{is_stray}
+use Rattle.folder_building.specs.Work.{is_stray_building}
 use Rattle.dir_trait.specs.DirCalls.{DirAt}
 use Rattle.spawner.specs.declared.call.SpawnError.{SpawnError}
 use Rattle.spawner.specs.declared.call.SpawnError.TheVariants as spawn
@@ -19,6 +19,7 @@ use Rattle.stage1.specs.declared.error.Fault.TheVariants as fault
 use Rattle.stage1.specs.declared.error.RunError.{RunError}
 use Rattle.stage1.specs.declared.error.RunError.TheVariants as run
 
+-- what the spawner's errors mean
 abbrev pub spawn_fault : SpawnError → Fault
 spawn_fault spawn.Failed = fault.Spawn
 spawn_fault spawn.NoMemory = fault.NoMemory
@@ -29,6 +30,7 @@ change_fault dir.Failed = fault.Dir
 change_fault dir.NoMemory = fault.NoMemory
 change_fault error = fault.Stray
 
+-- what it means that apps couldn't be loaded
 abbrev pub load_refusal : LoadError → RunError
 load_refusal load.NoManifest = run.NoManifest
 load_refusal (load.Damaged path) = run.Damaged path
@@ -36,6 +38,7 @@ load_refusal (load.NoProgram app word) = run.NoProgram app word
 load_refusal load.DirFault = run.DirFault
 load_refusal load.NoMemory = run.NoMemory
 
+-- what a fault means for the run
 abbrev pub fault_refusal : Fault → RunError
 fault_refusal fault.Spawn = run.SpawnFault
 fault_refusal fault.Dir = run.DirFault
@@ -56,24 +59,25 @@ pub record WasStrayIn (me : ℕ) (old new : List Event) : Type 0 where
   pub later : List Event
   pub request : Request
   pub reply : Reply
-  pub stray : is_stray request reply ≡ true
+  pub stray : is_stray_building request reply ≡ true
   pub begins : before ≡ old ++ earlier
   pub step : CallStep me before request reply after
   pub ends : new ≡ after ++ later
 
-abbrev pub WasStrayBetween : DirAt → DirAt → Type 0
-WasStrayBetween old new = WasStrayIn old.process old.trace new.trace
+-- the same between two moments
+abbrev pub WasStrayRunBetween : DirAt → DirAt → Type 0
+WasStrayRunBetween old new = WasStrayIn old.process old.trace new.trace
 
 -- a part that asks only the directory
 abbrev pub NoteCause : Bool → Fault → DirAt → DirAt → Type 0
 NoteCause observed fault.Dir old new = Rose old.faults new.faults
 NoteCause observed fault.Spawn old new = ⊥
-NoteCause observed fault.Stray old new = observed ≡ true → WasStrayBetween old new
+NoteCause observed fault.Stray old new = observed ≡ true → WasStrayRunBetween old new
 NoteCause observed fault.NoMemory old new = Unit {0}
 
 -- a part that asks both
 abbrev pub RunCause : Bool → Fault → DirAt → DirAt → SpawnerAt → SpawnerAt → Type 0
 RunCause observed fault.Dir d d' s s' = Rose d.faults d'.faults
 RunCause observed fault.Spawn d d' s s' = Rose s.faults s'.faults
-RunCause observed fault.Stray d d' s s' = observed ≡ true → WasStrayBetween d d'
+RunCause observed fault.Stray d d' s s' = observed ≡ true → WasStrayRunBetween d d'
 RunCause observed fault.NoMemory d d' s s' = Unit {0}

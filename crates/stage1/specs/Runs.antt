@@ -11,8 +11,8 @@ use Rattle.dir_trait.specs.DirCalls.{DirAt, DirCall, ExtendsBy}
 use Rattle.spawner.specs.declared.call.RootPlace.{RootPlace}
 use Rattle.spawner.specs.Calls.{SpawnerAt}
 use Rattle.stage1.specs.declared.start.AppStart.{AppStart}
-use Rattle.stage1.specs.AppPlaces.{run_spot}
 use Rattle.pod_files.specs.Looks.{reads_pod}
+use Rattle.pod_files.specs.Places.{run_spot}
 use Rattle.stage1.specs.Starts.{ReadsStarts}
 use Rattle.stage1.specs.declared.load_error.LoadError.TheVariants as load
 use Rattle.stage1.specs.LoadRefusals.{LoadCause}
@@ -20,8 +20,8 @@ use Rattle.folder_building.specs.Work.{either}
 use Rattle.stage1.specs.declared.end.AppEnd.{AppEnd}
 use Rattle.stage1.specs.declared.error.RunError.{RunError}
 use Rattle.stage1.specs.declared.error.RunError.TheVariants.{NoManifest, Damaged, NoProgram, SpawnFault, DirFault, Stray, NoMemory}
-use Rattle.stage1.specs.Refusals.{WasStrayBetween}
-use Rattle.stage1.specs.Sequences.{Ending, launch_sequence, status_of}
+use Rattle.stage1.specs.Refusals.{WasStrayRunBetween}
+use Rattle.stage1.specs.Sequences.{Ending, launch_sequence, app_status_of}
 use Rattle.stage1.specs.Asking.{Asks}
 use Rattle.stage1.specs.Cutting.{IsCutShort}
 use Rattle.stage1.specs.Beginnings.{AreMarked}
@@ -33,24 +33,19 @@ abbrev pub closes : Handle → Request → Bool
 closes own (Close handle) = handle.number == own.number
 closes own _ = false
 
+-- what a run asks for: reads of the pod's files, and notes in it
 abbrev pub runs_pod : PodId → Request → Bool
 runs_pod pod = either (reads_pod pod) (notes_at (run_spot pod))
 
+-- and the close of the handle by which it holds the pod
 abbrev pub runs_and_closes : PodId → Handle → Request → Bool
 runs_and_closes pod own = either (closes own) (runs_pod pod)
-
--- calls were made, each for something of this kind, and this is open after them
-pub record Went (observed : Bool) (asks : Request → Bool) (local : Local) (old new : DirAt) : Type 0 where
-  pub same : new.process ≡ old.process
-  pub faults : old.faults ≤ new.faults
-  pub local_is : new.local ≡ local
-  pub extends : observed ≡ true → ExtendsBy asks old new
 
 -- all apps have begun and ended, with these statuses
 pub record HaveRun (observed : Bool) (starts : List AppStart) (statuses : List ℕ) (old new : SpawnerAt) : Type 0 where
   pub endings : List Ending
   pub apps : map (λ e. e.begun.app) endings ≡ starts
-  pub statuses_are : map status_of endings ≡ statuses
+  pub statuses_are : map app_status_of endings ≡ statuses
   pub asked : Asks observed old (launch_sequence endings) new
 
 -- the status of each was written
@@ -69,6 +64,7 @@ pub record AddsWritten (root : RootPlace) (before after : List ℕ) (d : DirAt) 
 abbrev pub end_of : AppStart → ℕ → AppEnd
 end_of app status = record { app = app.name; status = status }
 
+-- each app with its status
 abbrev pub AreEnds : List AppStart → List ℕ → List AppEnd → Type 0
 AreEnds (app ∷ starts) (status ∷ statuses) (end ∷ ends) = (end ≡ end_of app status) × AreEnds starts statuses ends
 AreEnds [] [] [] = Unit {0}
@@ -107,16 +103,16 @@ pub record HasRun (seen observed : Bool) (pod : PodId) (own : Handle) (address :
 abbrev pub StopCause : Bool → RunError → DirAt → DirAt → SpawnerAt → SpawnerAt → Type 0
 StopCause seen SpawnFault d d' s s' = Rose s.faults s'.faults
 StopCause seen DirFault d d' s s' = Rose d.faults d'.faults
-StopCause seen Stray d d' s s' = seen ≡ true → WasStrayBetween d d'
+StopCause seen Stray d d' s s' = seen ≡ true → WasStrayRunBetween d d'
 StopCause seen NoMemory d d' s s' = Unit {0}
 StopCause seen error d d' s s' = ⊥
 
 -- what a refusal rests on
-abbrev pub RefusedFor : Bool → PodId → RunError → DirAt → DirAt → SpawnerAt → SpawnerAt → Type 0
-RefusedFor seen pod NoManifest d d' s s' = seen ≡ true → LoadCause pod load.NoManifest d d'
-RefusedFor seen pod (Damaged path) d d' s s' = seen ≡ true → LoadCause pod (load.Damaged path) d d'
-RefusedFor seen pod (NoProgram app word) d d' s s' = seen ≡ true → LoadCause pod (load.NoProgram app word) d d'
-RefusedFor seen pod error d d' s s' = StopCause seen error d d' s s'
+abbrev pub RunRefusedFor : Bool → PodId → RunError → DirAt → DirAt → SpawnerAt → SpawnerAt → Type 0
+RunRefusedFor seen pod NoManifest d d' s s' = seen ≡ true → LoadCause pod load.NoManifest d d'
+RunRefusedFor seen pod (Damaged path) d d' s s' = seen ≡ true → LoadCause pod (load.Damaged path) d d'
+RunRefusedFor seen pod (NoProgram app word) d d' s s' = seen ≡ true → LoadCause pod (load.NoProgram app word) d d'
+RunRefusedFor seen pod error d d' s s' = StopCause seen error d d' s s'
 
 -- nothing was started before every program was found
 abbrev pub is_early : RunError → Bool
@@ -133,7 +129,7 @@ reads_or_closes _ = false
 
 -- the pod wasn't run to its end: whatever was started was waited for. What was refused so early was refused by reads
 pub record IsRefusedRun (seen observed : Bool) (pod : PodId) (address : List ℕ) (error : RunError) (d d' : DirAt) (s s' : SpawnerAt) : Type 0 where
-  pub cause : RefusedFor seen pod error d d' s s'
+  pub cause : RunRefusedFor seen pod error d d' s s'
   pub early : is_early error ≡ true → Asks observed s [] s'
   pub unchanged : is_early error ≡ true → seen ≡ true → ExtendsBy reads_or_closes d d'
   pub starts : List AppStart

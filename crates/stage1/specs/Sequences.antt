@@ -9,46 +9,49 @@ use Rattle.spawner.specs.Calls.{call}
 use Rattle.stage1.specs.declared.start.AppStart.{AppStart}
 
 -- a program that was started, and that ended with this status
-pub record Ran : Type 0 where
+pub record ProgramRun : Type 0 where
   pub child : Child
   pub status : ℕ
 
 -- how an app began: what its handler before it came to, where it has one, and the child of its main program, where that was started
 pub record Beginning : Type 0 where
   pub app : AppStart
-  pub handler : Ran
+  pub handler : ProgramRun
   pub main : Child
 
 -- how it ended: the status of its main program, and what its handler after it came to
 pub record Ending : Type 0 where
   pub begun : Beginning
   pub status : ℕ
-  pub handler : Ran
+  pub handler : ProgramRun
 
 -- the calls: an app's root is made ready, a program of it is started, a child is waited for
 abbrev pub ready_call : AppStart → SpawnCall
 ready_call app = call (Ready app.root app.listing.items) Done
 
+-- a program was started as this child
 abbrev pub start_call : AppStart → List (List ℕ) → Child → SpawnCall
 start_call app argv child = call (Start app.root argv app.launch.environment app.launch.directory) (Started child)
 
+-- a child was waited for, and ended with this status
 abbrev pub wait_call : Child → ℕ → SpawnCall
 wait_call child status = call (Wait child) (Ended status)
 
 -- a program runs to its end
-abbrev pub program_calls : AppStart → Ran → List (List ℕ) → List SpawnCall
+abbrev pub program_calls : AppStart → ProgramRun → List (List ℕ) → List SpawnCall
 program_calls app ran argv = start_call app argv ran.child ∷ wait_call ran.child ran.status ∷ []
 
 -- a handler does, where there is one
-abbrev pub handler_calls : AppStart → Ran → Option (List (List ℕ)) → List SpawnCall
+abbrev pub handler_calls : AppStart → ProgramRun → Option (List (List ℕ)) → List SpawnCall
 handler_calls app ran None = []
 handler_calls app ran (Some argv) = program_calls app ran argv
 
 -- what it comes to: 0 where there is none
-abbrev pub handler_status : Ran → Option (List (List ℕ)) → ℕ
+abbrev pub handler_status : ProgramRun → Option (List (List ℕ)) → ℕ
 handler_status ran None = 0
 handler_status ran (Some argv) = ran.status
 
+-- the status of the pre-start program: 0 where there is none
 abbrev pub first_status : Beginning → ℕ
 first_status b = handler_status b.handler b.app.launch.pre_start
 
@@ -56,6 +59,7 @@ first_status b = handler_status b.handler b.app.launch.pre_start
 abbrev pub starts_main : Beginning → Bool
 starts_main b = first_status b == 0
 
+-- the start of the main program, where it is started
 abbrev pub main_calls : Beginning → List SpawnCall
 main_calls b = cond (starts_main b) (start_call b.app b.app.launch.main b.main ∷ []) []
 
@@ -68,8 +72,8 @@ abbrev pub later_calls : Ending → List SpawnCall
 later_calls e = cond (starts_main e.begun) (wait_call e.begun.main e.status ∷ handler_calls e.begun.app e.handler e.begun.app.launch.post_stop) []
 
 -- its status: its main program's, or else its handler's
-abbrev pub status_of : Ending → ℕ
-status_of e = cond (starts_main e.begun) e.status (first_status e.begun)
+abbrev pub app_status_of : Ending → ℕ
+app_status_of e = cond (starts_main e.begun) e.status (first_status e.begun)
 
 -- all apps begin in their order, and then all end in their order
 abbrev pub launch_sequence : List Ending → List SpawnCall

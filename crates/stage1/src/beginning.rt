@@ -3,20 +3,20 @@ ghost use Rattle.std.specs.Prelude.{◌≡◌, ◌≤◌, ◌+◌, ◌<◌, ◌+
 ghost use Rattle.std.specs.List.{AllByRecursion};
 ghost use Rattle.dir_model.specs.declared.spot.Spot.{Spot};
 ghost use Rattle.dir_model.specs.Local.{IsActive};
-ghost use Rattle.folder_building.specs.Work.{Worked};
 ghost use Rattle.spawner.specs.Conditions.{StillRuns};
 ghost use Rattle.stage1.specs.Notes.{anything, notes_at, StaysAble, IsMarked};
-ghost use Rattle.stage1.specs.Beginnings.{IsInRun, AreAt, RunsEach, AreMarked, IsStartedIn, AreStartedIn, IsWritten, AreWritten};
-ghost use Rattle.stage1.specs.Beginnings.{RanPrelude, PreludeCut, WentOn, GoingCut, HasBegun, IsBrokenOff, HaveBegun, AreBrokenOff};
+ghost use Rattle.stage1.specs.Beginnings.{IsInRun, AreAt, RunsEach, AreMarked, IsStartedIn, AreStartedIn, IsStatusWritten, AreStatusesWritten};
+ghost use Rattle.stage1.specs.Beginnings.{RanPrelude, PreludeCut, StartedMain, MainStartCut, AppHasBegun, IsInterrupted, HaveBegun, AreInterrupted};
 ghost use Rattle.stage1.specs.Refusals.{SpawnCause, RunCause};
-ghost use Rattle.stage1.specs.Keeping.{Keeps, going_times, beginning_times, all_begun_times};
+ghost use Rattle.stage1.specs.Keeping.{NotesAtMost, going_times, beginning_times, all_begun_times};
+ghost use Rattle.dir_trait.specs.Effects.{OnlyAsks};
 
+use crate::AppStart;
 use crate::error::{Fault, out_of_memory};
 use crate::notes::{mark_started, note_status};
 use crate::programs::{make_ready, run_handler, start_program};
 use crate::stand::Stand;
 use dir_trait::Dir;
-use crate::AppStart;
 use spawner::Spawner;
 use std::alloc::Global;
 
@@ -31,14 +31,14 @@ fn go_on<D: Dir, S: Spawner>(
     requires active { IsActive (D.shown dir.old).local }
     requires place { IsInRun app.now }
     requires may { D.observed ≡ true → IsMarked (D.shown dir.old) app.now.root }
-    ensures worked { Worked D.observed (notes_at app.now.root.spot) (D.shown dir.old) (D.shown dir.new) }
+    ensures worked { OnlyAsks D.observed (notes_at app.now.root.spot) (D.shown dir.old) (D.shown dir.new) }
     ensures stays { D.observed ≡ true → StaysAble (D.shown dir.old) (D.shown dir.new) }
     ensures cause { IfErr result (λ f. RunCause D.observed f (D.shown dir.old) (D.shown dir.new) (S.shown spawner.old) (S.shown spawner.new)) }
-    ensures went { IfOk result (λ stand. WentOn S.observed app.now status stand (S.shown spawner.old) (S.shown spawner.new)) }
-    ensures cut { IfErr result (λ f. GoingCut S.observed app.now status (S.shown spawner.old) (S.shown spawner.new)) }
+    ensures went { IfOk result (λ stand. StartedMain S.observed app.now status stand (S.shown spawner.old) (S.shown spawner.new)) }
+    ensures cut { IfErr result (λ f. MainStartCut S.observed app.now status (S.shown spawner.old) (S.shown spawner.new)) }
     ensures started { IfOk result (λ stand. S.observed ≡ true → IsStartedIn (S.shown spawner.new).calls app.now stand) }
-    ensures wrote { IfOk result (λ stand. D.observed ≡ true → IsWritten (D.shown dir.new) app.now stand) }
-    ensures keeps { D.observed ≡ true → Keeps (going_times app.now result) (D.shown dir.old) (D.shown dir.new) }
+    ensures wrote { IfOk result (λ stand. D.observed ≡ true → IsStatusWritten (D.shown dir.new) app.now stand) }
+    ensures keeps { D.observed ≡ true → NotesAtMost (going_times app.now result) (D.shown dir.old) (D.shown dir.new) }
 {
     if status == 0 {
         match start_program(alloc, dir, spawner, app, &app.launch.main) {
@@ -80,15 +80,15 @@ fn begin_app<D: Dir, S: Spawner>(
     requires active { IsActive (D.shown dir.old).local }
     requires place { IsInRun app.now }
     requires runs { D.observed ≡ true → StillRuns (D.shown dir.old) app.now.root.spot.name }
-    ensures worked { Worked D.observed (notes_at app.now.root.spot) (D.shown dir.old) (D.shown dir.new) }
+    ensures worked { OnlyAsks D.observed (notes_at app.now.root.spot) (D.shown dir.old) (D.shown dir.new) }
     ensures stays { D.observed ≡ true → StaysAble (D.shown dir.old) (D.shown dir.new) }
     ensures cause { IfErr result (λ f. RunCause D.observed f (D.shown dir.old) (D.shown dir.new) (S.shown spawner.old) (S.shown spawner.new)) }
-    ensures begun { IfOk result (λ stand. HasBegun S.observed app.now stand (S.shown spawner.old) (S.shown spawner.new)) }
-    ensures broken { IfErr result (λ f. IsBrokenOff S.observed app.now (S.shown spawner.old) (S.shown spawner.new)) }
+    ensures begun { IfOk result (λ stand. AppHasBegun S.observed app.now stand (S.shown spawner.old) (S.shown spawner.new)) }
+    ensures broken { IfErr result (λ f. IsInterrupted S.observed app.now (S.shown spawner.old) (S.shown spawner.new)) }
     ensures may { IfOk result (λ stand. D.observed ≡ true → IsMarked (D.shown dir.new) app.now.root) }
     ensures started { IfOk result (λ stand. S.observed ≡ true → IsStartedIn (S.shown spawner.new).calls app.now stand) }
-    ensures wrote { IfOk result (λ stand. D.observed ≡ true → IsWritten (D.shown dir.new) app.now stand) }
-    ensures keeps { D.observed ≡ true → Keeps (beginning_times app.now result) (D.shown dir.old) (D.shown dir.new) }
+    ensures wrote { IfOk result (λ stand. D.observed ≡ true → IsStatusWritten (D.shown dir.new) app.now stand) }
+    ensures keeps { D.observed ≡ true → NotesAtMost (beginning_times app.now result) (D.shown dir.old) (D.shown dir.new) }
 {
     mark_started(alloc, dir, &app.root)?;
     let status = prelude(alloc, dir, spawner, app)?;
@@ -122,16 +122,16 @@ pub(crate) fn begin_apps<D: Dir, S: Spawner>(
     requires runs { D.observed ≡ true → RunsEach (D.shown dir.old) apps.now }
     requires none { stands.old.items ≡ [] }
     requires room { length apps.now ≤ vec_capacity stands.old }
-    ensures went { Worked D.observed anything (D.shown dir.old) (D.shown dir.new) }
-    ensures worked { (spot : Spot) → AreAt spot apps.now → Worked D.observed (notes_at spot) (D.shown dir.old) (D.shown dir.new) }
+    ensures went { OnlyAsks D.observed anything (D.shown dir.old) (D.shown dir.new) }
+    ensures worked { (spot : Spot) → AreAt spot apps.now → OnlyAsks D.observed (notes_at spot) (D.shown dir.old) (D.shown dir.new) }
     ensures stays { D.observed ≡ true → StaysAble (D.shown dir.old) (D.shown dir.new) }
     ensures cause { IfErr result (λ f. RunCause D.observed f (D.shown dir.old) (D.shown dir.new) (S.shown spawner.old) (S.shown spawner.new)) }
     ensures begun { IfOk result (λ done. HaveBegun S.observed apps.now stands.new.items (S.shown spawner.old) (S.shown spawner.new)) }
-    ensures broken { IfErr result (λ f. AreBrokenOff S.observed apps.now stands.new.items (S.shown spawner.old) (S.shown spawner.new)) }
+    ensures broken { IfErr result (λ f. AreInterrupted S.observed apps.now stands.new.items (S.shown spawner.old) (S.shown spawner.new)) }
     ensures may { D.observed ≡ true → AreMarked (D.shown dir.new) (take (length stands.new.items) apps.now) }
     ensures started { S.observed ≡ true → AreStartedIn (S.shown spawner.new).calls (take (length stands.new.items) apps.now) stands.new.items }
-    ensures wrote { D.observed ≡ true → AreWritten (D.shown dir.new) (take (length stands.new.items) apps.now) stands.new.items }
-    ensures keeps { D.observed ≡ true → Keeps (all_begun_times apps.now stands.new.items) (D.shown dir.old) (D.shown dir.new) }
+    ensures wrote { D.observed ≡ true → AreStatusesWritten (D.shown dir.new) (take (length stands.new.items) apps.now) stands.new.items }
+    ensures keeps { D.observed ≡ true → NotesAtMost (all_begun_times apps.now stands.new.items) (D.shown dir.old) (D.shown dir.new) }
 {
     'apps: for app in apps {
         let stand = begin_app(alloc, dir, spawner, app)?;

@@ -2,9 +2,9 @@
 ghost use Rattle.std.specs.Prelude.{◌≡◌, IfOk};
 ghost use Rattle.stage1.specs.Refusals.{spawn_fault, change_fault, load_refusal, fault_refusal};
 
+use crate::LoadError;
 use ac_types::{AcName, NoMemory, Text, memory};
 use dir_trait::DirError;
-use crate::LoadError;
 use spawner::SpawnError;
 use std::alloc::AllocError;
 

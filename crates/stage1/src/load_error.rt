@@ -1,7 +1,7 @@
 // Why it isn't known with what the apps of a pod start.
 ghost use Rattle.std.specs.Prelude.{◌≡◌};
 ghost use Rattle.stage1.specs.AppPlaces.{told_path};
-ghost use Rattle.stage1.specs.LoadRefusals.{IsOutside, IsDamage};
+ghost use Rattle.stage1.specs.LoadRefusals.{IsLoadFailure, IsLoadDamage};
 
 use crate::run_place::told_path;
 use ac_types::{AcName, NoMemory, Text};
@@ -46,7 +46,7 @@ pub(crate) fn short_of_memory<T: Drop>(_refused: AllocFailed<T>) -> LoadError
 /// The refusal of a read of a file.
 pub(crate) fn read_error(error: ReadError) -> LoadError
     ensures fault { result ≡ LoadError.DirFault → error ≡ ReadError.DirFault }
-    ensures outside { IsOutside result }
+    ensures outside { IsLoadFailure result }
 {
     match error {
         ReadError::DirFault => LoadError::DirFault,
@@ -56,7 +56,7 @@ pub(crate) fn read_error(error: ReadError) -> LoadError
 
 /// The refusal where the file at the path in the pod's folder is damaged.
 pub(crate) fn damaged(alloc: Global, pod: PodId, path: &str) -> LoadError
-    ensures damage { IsDamage (told_path pod path.now) result }
+    ensures damage { IsLoadDamage (told_path pod path.now) result }
     ensures calm { result ≡ LoadError.DirFault → ⊥ }
 {
     match told_path(alloc, pod, path) {

@@ -5,8 +5,8 @@ ghost use Rattle.dir_model.specs.Local.{IsActive};
 ghost use Rattle.manifests.specs.PodData.{pod_data};
 ghost use Rattle.manifests.specs.ManifestRules.{IsPodManifest};
 ghost use Rattle.pod_files.specs.Looks.{OnlyReadsPod};
-ghost use Rattle.stage1.specs.AppFiles.{ReadsManifest, LacksManifest};
-ghost use Rattle.stage1.specs.LoadRefusals.{IsLack};
+ghost use Rattle.pod_files.specs.Files.{ReadsPodManifest, ReadsNoPodManifest};
+ghost use Rattle.stage1.specs.LoadRefusals.{IsManifestLack};
 
 use crate::load_error::LoadError;
 use dir_trait::{Dir, PodId};
@@ -25,8 +25,8 @@ pub(crate) fn read_manifest<D: Dir>(
     ensures cause { IsErrOf result LoadError.DirFault → Rose (D.shown dir.old).faults (D.shown dir.new).faults }
     ensures only { OnlyReadsPod D.observed pod (D.shown dir.old) (D.shown dir.new) }
     ensures kind { IfOk result (λ manifest. IsPodManifest (pod_data manifest)) }
-    ensures read { IfOk result (λ manifest. D.observed ≡ true → ReadsManifest pod (pod_data manifest) (D.shown dir.old) (D.shown dir.new)) }
-    ensures lacks { IfErr result (IsLack (D.observed ≡ true → LacksManifest pod (D.shown dir.old) (D.shown dir.new))) }
+    ensures read { IfOk result (λ manifest. D.observed ≡ true → ReadsPodManifest pod (pod_data manifest) (D.shown dir.old) (D.shown dir.new)) }
+    ensures lacks { IfErr result (IsManifestLack (D.observed ≡ true → ReadsNoPodManifest pod (D.shown dir.old) (D.shown dir.new))) }
 {
     match pod_files::read_manifest(alloc, dir, pod) {
         Ok(manifest) => Ok(manifest),

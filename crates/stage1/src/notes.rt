@@ -4,11 +4,11 @@ ghost use Rattle.dir_model.specs.Local.{IsActive};
 ghost use Rattle.dir_model.specs.Paths.{is_path};
 ghost use Rattle.dir_model.specs.declared.request.Request.TheVariants.{MakeFileIn, AppendIn, SyncIn};
 ghost use Rattle.folder_building.specs.Making.{inner_at};
-ghost use Rattle.folder_building.specs.Work.{Worked};
 ghost use Rattle.spawner.specs.Conditions.{start_mark, StillRuns};
-ghost use Rattle.stage1.specs.Notes.{status_path, status_text, MadeFile, Appended, Synced, IsPlaced, notes_at, WroteStatus, StaysAble, IsMarked};
+ghost use Rattle.stage1.specs.Notes.{status_path, status_text, MadeFile, Appended, Synced, IsRootInRun, notes_at, WroteStatus, StaysAble, IsMarked};
 ghost use Rattle.stage1.specs.Refusals.{NoteCause};
-ghost use Rattle.stage1.specs.Keeping.{Called, Keeps, mark_times, status_times};
+ghost use Rattle.stage1.specs.Keeping.{CallsDirectory, NotesAtMost, mark_times, status_times};
+ghost use Rattle.dir_trait.specs.Effects.{OnlyAsks};
 
 use crate::error::{Fault, change_fault, out_of_memory};
 use dir_trait::{Dir, Spot};
@@ -46,11 +46,11 @@ fn status_text(alloc: Global, status: u8) -> Result<String, AllocError>
 fn make_file<D: Dir>(alloc: Global, dir: &mut D, spot: &Spot, path: &str) -> Result<(), Fault>
     requires active { IsActive (D.shown dir.old).local }
     requires form { is_path path.now ≡ true }
-    ensures worked { Worked D.observed (notes_at spot.now) (D.shown dir.old) (D.shown dir.new) }
+    ensures worked { OnlyAsks D.observed (notes_at spot.now) (D.shown dir.old) (D.shown dir.new) }
     ensures cause { IfErr result (λ f. NoteCause D.observed f (D.shown dir.old) (D.shown dir.new)) }
     ensures stays { D.observed ≡ true → StaysAble (D.shown dir.old) (D.shown dir.new) }
     ensures done { IfOk result (λ done. MadeFile D.observed spot.now path.now (D.shown dir.old) (D.shown dir.new)) }
-    ensures called { D.observed ≡ true → Called D.observed (MakeFileIn (inner_at spot.now path.now)) (D.shown dir.old) (D.shown dir.new) }
+    ensures called { D.observed ≡ true → CallsDirectory D.observed (MakeFileIn (inner_at spot.now path.now)) (D.shown dir.old) (D.shown dir.new) }
 {
     let spot = *spot;
     match dir.make_file_in(alloc, spot, path) {
@@ -69,11 +69,11 @@ fn append<D: Dir>(
 ) -> Result<(), Fault>
     requires active { IsActive (D.shown dir.old).local }
     requires form { is_path path.now ≡ true }
-    ensures worked { Worked D.observed (notes_at spot.now) (D.shown dir.old) (D.shown dir.new) }
+    ensures worked { OnlyAsks D.observed (notes_at spot.now) (D.shown dir.old) (D.shown dir.new) }
     ensures cause { IfErr result (λ f. NoteCause D.observed f (D.shown dir.old) (D.shown dir.new)) }
     ensures stays { D.observed ≡ true → StaysAble (D.shown dir.old) (D.shown dir.new) }
     ensures done { IfOk result (λ done. Appended D.observed spot.now path.now piece.now (D.shown dir.old) (D.shown dir.new)) }
-    ensures called { D.observed ≡ true → Called D.observed (AppendIn (inner_at spot.now path.now) piece.now) (D.shown dir.old) (D.shown dir.new) }
+    ensures called { D.observed ≡ true → CallsDirectory D.observed (AppendIn (inner_at spot.now path.now) piece.now) (D.shown dir.old) (D.shown dir.new) }
 {
     let spot = *spot;
     match dir.append_in(alloc, spot, path, piece) {
@@ -86,11 +86,11 @@ fn append<D: Dir>(
 fn sync<D: Dir>(alloc: Global, dir: &mut D, spot: &Spot, path: &str) -> Result<(), Fault>
     requires active { IsActive (D.shown dir.old).local }
     requires form { is_path path.now ≡ true }
-    ensures worked { Worked D.observed (notes_at spot.now) (D.shown dir.old) (D.shown dir.new) }
+    ensures worked { OnlyAsks D.observed (notes_at spot.now) (D.shown dir.old) (D.shown dir.new) }
     ensures cause { IfErr result (λ f. NoteCause D.observed f (D.shown dir.old) (D.shown dir.new)) }
     ensures stays { D.observed ≡ true → StaysAble (D.shown dir.old) (D.shown dir.new) }
     ensures done { IfOk result (λ done. Synced D.observed spot.now path.now (D.shown dir.old) (D.shown dir.new)) }
-    ensures called { D.observed ≡ true → Called D.observed (SyncIn (inner_at spot.now path.now)) (D.shown dir.old) (D.shown dir.new) }
+    ensures called { D.observed ≡ true → CallsDirectory D.observed (SyncIn (inner_at spot.now path.now)) (D.shown dir.old) (D.shown dir.new) }
 {
     let spot = *spot;
     match dir.sync_in(alloc, spot, path) {
@@ -104,13 +104,13 @@ fn make_mark<D: Dir>(alloc: Global, dir: &mut D, root: &RootPlace, path: &str) -
     requires active { IsActive (D.shown dir.old).local }
     requires form { is_path path.now ≡ true }
     requires path { path.now ≡ start_mark root.now.app }
-    requires place { IsPlaced root.now }
+    requires place { IsRootInRun root.now }
     requires runs { D.observed ≡ true → StillRuns (D.shown dir.old) root.now.spot.name }
-    ensures worked { Worked D.observed (notes_at root.now.spot) (D.shown dir.old) (D.shown dir.new) }
+    ensures worked { OnlyAsks D.observed (notes_at root.now.spot) (D.shown dir.old) (D.shown dir.new) }
     ensures cause { IfErr result (λ f. NoteCause D.observed f (D.shown dir.old) (D.shown dir.new)) }
     ensures stays { D.observed ≡ true → StaysAble (D.shown dir.old) (D.shown dir.new) }
     ensures may { IfOk result (λ done. D.observed ≡ true → IsMarked (D.shown dir.new) root.now) }
-    ensures keeps { D.observed ≡ true → Keeps (mark_times root.now) (D.shown dir.old) (D.shown dir.new) }
+    ensures keeps { D.observed ≡ true → NotesAtMost (mark_times root.now) (D.shown dir.old) (D.shown dir.new) }
 {
     make_file(alloc, dir, &root.spot, path)?;
     sync(alloc, dir, &root.spot, "")
@@ -124,13 +124,13 @@ pub(crate) fn mark_started<D: Dir>(
     root: &RootPlace,
 ) -> Result<(), Fault>
     requires active { IsActive (D.shown dir.old).local }
-    requires place { IsPlaced root.now }
+    requires place { IsRootInRun root.now }
     requires runs { D.observed ≡ true → StillRuns (D.shown dir.old) root.now.spot.name }
-    ensures worked { Worked D.observed (notes_at root.now.spot) (D.shown dir.old) (D.shown dir.new) }
+    ensures worked { OnlyAsks D.observed (notes_at root.now.spot) (D.shown dir.old) (D.shown dir.new) }
     ensures cause { IfErr result (λ f. NoteCause D.observed f (D.shown dir.old) (D.shown dir.new)) }
     ensures stays { D.observed ≡ true → StaysAble (D.shown dir.old) (D.shown dir.new) }
     ensures may { IfOk result (λ done. D.observed ≡ true → IsMarked (D.shown dir.new) root.now) }
-    ensures keeps { D.observed ≡ true → Keeps (mark_times root.now) (D.shown dir.old) (D.shown dir.new) }
+    ensures keeps { D.observed ≡ true → NotesAtMost (mark_times root.now) (D.shown dir.old) (D.shown dir.new) }
 {
     match mark_path(alloc, root.app.as_str()) {
         Ok(path) => make_mark(alloc, dir, root, path.as_str()),
@@ -149,12 +149,12 @@ fn write_status<D: Dir>(
     requires active { IsActive (D.shown dir.old).local }
     requires form { is_path path.now ≡ true }
     requires path { path.now ≡ status_path root.now.app }
-    requires place { IsPlaced root.now }
-    ensures worked { Worked D.observed (notes_at root.now.spot) (D.shown dir.old) (D.shown dir.new) }
+    requires place { IsRootInRun root.now }
+    ensures worked { OnlyAsks D.observed (notes_at root.now.spot) (D.shown dir.old) (D.shown dir.new) }
     ensures cause { IfErr result (λ f. NoteCause D.observed f (D.shown dir.old) (D.shown dir.new)) }
     ensures stays { D.observed ≡ true → StaysAble (D.shown dir.old) (D.shown dir.new) }
     ensures wrote { IfOk result (λ done. D.observed ≡ true → (status : ℕ) → text.now ≡ status_text status → WroteStatus root.now status (D.shown dir.new)) }
-    ensures keeps { D.observed ≡ true → Keeps (status_times root.now) (D.shown dir.old) (D.shown dir.new) }
+    ensures keeps { D.observed ≡ true → NotesAtMost (status_times root.now) (D.shown dir.old) (D.shown dir.new) }
 {
     make_file(alloc, dir, &root.spot, path)?;
     append(alloc, dir, &root.spot, path, text.as_bytes())?;
@@ -169,12 +169,12 @@ pub(crate) fn note_status<D: Dir>(
     status: u8,
 ) -> Result<(), Fault>
     requires active { IsActive (D.shown dir.old).local }
-    requires place { IsPlaced root.now }
-    ensures worked { Worked D.observed (notes_at root.now.spot) (D.shown dir.old) (D.shown dir.new) }
+    requires place { IsRootInRun root.now }
+    ensures worked { OnlyAsks D.observed (notes_at root.now.spot) (D.shown dir.old) (D.shown dir.new) }
     ensures cause { IfErr result (λ f. NoteCause D.observed f (D.shown dir.old) (D.shown dir.new)) }
     ensures stays { D.observed ≡ true → StaysAble (D.shown dir.old) (D.shown dir.new) }
     ensures wrote { IfOk result (λ done. D.observed ≡ true → WroteStatus root.now status (D.shown dir.new)) }
-    ensures keeps { D.observed ≡ true → Keeps (status_times root.now) (D.shown dir.old) (D.shown dir.new) }
+    ensures keeps { D.observed ≡ true → NotesAtMost (status_times root.now) (D.shown dir.old) (D.shown dir.new) }
 {
     match status_path(alloc, root.app.as_str()) {
         Ok(path) => match status_text(alloc, status) {

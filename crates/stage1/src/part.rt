@@ -4,9 +4,9 @@ ghost use Rattle.dir_model.specs.Causes.{Rose};
 ghost use Rattle.dir_model.specs.Paths.{is_path};
 ghost use Rattle.dir_model.specs.Local.{IsActive};
 ghost use Rattle.dir_files.specs.Reads.{ReadsUp, WasMissing};
-ghost use Rattle.stage1.specs.AppPlaces.{pod_file};
 ghost use Rattle.pod_files.specs.Looks.{OnlyReadsPod};
-ghost use Rattle.stage1.specs.LoadRefusals.{IsOutside};
+ghost use Rattle.pod_files.specs.Places.{pod_file};
+ghost use Rattle.stage1.specs.LoadRefusals.{IsLoadFailure};
 
 use crate::load_error::{LoadError, read_error};
 use dir_trait::{Dir, PodId};
@@ -25,7 +25,7 @@ pub(crate) fn read_part<D: Dir>(
     requires most { 0 < most }
     ensures cause { IsErrOf result LoadError.DirFault → Rose (D.shown dir.old).faults (D.shown dir.new).faults }
     ensures only { OnlyReadsPod D.observed pod (D.shown dir.old) (D.shown dir.new) }
-    ensures refusals { IfErr result IsOutside }
+    ensures refusals { IfErr result IsLoadFailure }
     ensures most { IfOk result (λ found. IfSome found (λ bytes. length bytes.items ≤ most)) }
     ensures read { IfOk result (λ found. D.observed ≡ true → MatchOption found
         (WasMissing (pod_file pod path.now) (D.shown dir.old) (D.shown dir.new))

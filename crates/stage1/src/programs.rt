@@ -4,12 +4,12 @@ ghost use Rattle.spawner.specs.Conditions.{MayWait};
 ghost use Rattle.stage1.specs.Notes.{IsMarked};
 ghost use Rattle.stage1.specs.Sequences.{ready_call, start_call, wait_call};
 ghost use Rattle.stage1.specs.Asking.{Asks, StartedIn};
-ghost use Rattle.stage1.specs.Programs.{WasRefused, ready_request, start_request, wait_request, RanProgram, ProgramCut, RanHandler, HandlerCut};
+ghost use Rattle.stage1.specs.Programs.{SpawnWasRefused, ready_request, start_request, wait_request, RanProgram, ProgramCut, RanHandler, HandlerCut};
 ghost use Rattle.stage1.specs.Refusals.{SpawnCause};
 
+use crate::AppStart;
 use crate::error::{Fault, spawn_fault};
 use dir_trait::Dir;
-use crate::AppStart;
 use spawner::{Child, Spawner, Words};
 use std::alloc::Global;
 
@@ -22,7 +22,7 @@ pub(crate) fn make_ready<D: Dir, S: Spawner>(
 ) -> Result<(), Fault>
     requires may { D.observed ≡ true → IsMarked (D.shown dir.now) app.now.root }
     ensures asked { IfOk result (λ done. Asks S.observed (S.shown spawner.old) (ready_call app.now ∷ []) (S.shown spawner.new)) }
-    ensures refused { IfErr result (λ f. WasRefused S.observed (ready_request app.now) (S.shown spawner.old) (S.shown spawner.new)) }
+    ensures refused { IfErr result (λ f. SpawnWasRefused S.observed (ready_request app.now) (S.shown spawner.old) (S.shown spawner.new)) }
     ensures cause { IfErr result (λ f. SpawnCause f (S.shown spawner.old) (S.shown spawner.new)) }
 {
     match spawner.ready(alloc, dir, &app.root, app.listing.as_slice()) {
@@ -42,7 +42,7 @@ pub(crate) fn start_program<D: Dir, S: Spawner>(
     requires may { D.observed ≡ true → IsMarked (D.shown dir.now) app.now.root }
     ensures asked { IfOk result (λ child. Asks S.observed (S.shown spawner.old) (start_call app.now argv.now child ∷ []) (S.shown spawner.new)) }
     ensures started { IfOk result (λ child. S.observed ≡ true → StartedIn app.now.root child (S.shown spawner.new).calls) }
-    ensures refused { IfErr result (λ f. WasRefused S.observed (start_request app.now argv.now) (S.shown spawner.old) (S.shown spawner.new)) }
+    ensures refused { IfErr result (λ f. SpawnWasRefused S.observed (start_request app.now argv.now) (S.shown spawner.old) (S.shown spawner.new)) }
     ensures cause { IfErr result (λ f. SpawnCause f (S.shown spawner.old) (S.shown spawner.new)) }
 {
     let launch = &app.launch;
@@ -68,7 +68,7 @@ pub(crate) fn wait_for<D: Dir, S: Spawner>(
 ) -> Result<u8, Fault>
     requires may { D.observed ≡ true → S.observed ≡ true → MayWait (D.shown dir.now) (S.shown spawner.old).calls child }
     ensures asked { IfOk result (λ status. Asks S.observed (S.shown spawner.old) (wait_call child status ∷ []) (S.shown spawner.new)) }
-    ensures refused { IfErr result (λ f. WasRefused S.observed (wait_request child) (S.shown spawner.old) (S.shown spawner.new)) }
+    ensures refused { IfErr result (λ f. SpawnWasRefused S.observed (wait_request child) (S.shown spawner.old) (S.shown spawner.new)) }
     ensures cause { IfErr result (λ f. SpawnCause f (S.shown spawner.old) (S.shown spawner.new)) }
 {
     match spawner.wait(alloc, dir, child) {

@@ -1,11 +1,11 @@
 // The programs of the apps are found in their roots.
 ghost use Rattle.std.specs.Prelude.{◌≡◌, IfOk, IfErr, length};
-ghost use Rattle.stage1.specs.Starts.{IsStart, AddsStart, AreStarts};
-ghost use Rattle.stage1.specs.LoadRefusals.{IsMissing, AreMissing, IsMissingAmong};
+ghost use Rattle.stage1.specs.Starts.{IsAppStart, AddsStart, AreStarts};
+ghost use Rattle.stage1.specs.LoadRefusals.{IsProgramMissing, AreMissing, IsMissingAmong};
 
 use crate::load_error::{LoadError, no_memory, short_of_memory};
-use crate::run_place::root_of;
 use crate::root::Root;
+use crate::run_place::root_of;
 use crate::start::AppStart;
 use ac_types::{AcName, Text};
 use dir_trait::PodId;
@@ -15,7 +15,7 @@ use std::alloc::Global;
 
 // The refusal where an app has no program for a word.
 fn no_program(app: &AcName, word: Text) -> LoadError
-    ensures { IsMissing app.now word result }
+    ensures { IsProgramMissing app.now word result }
 {
     match app.copy() {
         Ok(app) => LoadError::NoProgram(app, word),
@@ -32,7 +32,7 @@ fn app_start(
     address: &str,
     token: &str,
 ) -> Result<AppStart, LoadError>
-    ensures start { IfOk result (IsStart pod address.now token.now app.now root) }
+    ensures start { IfOk result (IsAppStart pod address.now token.now app.now root) }
     ensures missing { IfErr result (AreMissing app.now root) }
 {
     match app_launch(alloc, app, &root.tree, address, token) {

@@ -4,7 +4,7 @@ ghost use Rattle.dir_model.specs.Causes.{Rose};
 ghost use Rattle.dir_model.specs.Local.{IsActive};
 ghost use Rattle.stage1.specs.AppPlaces.{tree_path, told_path};
 ghost use Rattle.pod_files.specs.Looks.{OnlyReadsPod};
-ghost use Rattle.stage1.specs.AppFiles.{IsRootOf, IsNoListing, ReadsRoot, LacksRoot, AddsRoot, AreRoots};
+ghost use Rattle.stage1.specs.AppFiles.{IsAppRootOf, IsNoListing, ReadsRoot, LacksRootListing, AddsRoot, AreAppRoots};
 ghost use Rattle.stage1.specs.LoadRefusals.{IsDamageFor, IsRootsLack};
 
 use crate::load_error::{LoadError, damaged, no_memory, short_of_memory};
@@ -29,7 +29,7 @@ pub(crate) struct Root {
 
 // The root of which the bytes are the listing.
 fn root_with(alloc: Global, pod: PodId, path: &str, bytes: Vec<u8>) -> Result<Root, LoadError>
-    ensures ok { IfOk result (IsRootOf bytes.items) }
+    ensures ok { IfOk result (IsAppRootOf bytes.items) }
     ensures fault { IfErr result (IsDamageFor (told_path pod path.now) (IsNoListing bytes.items)) }
     ensures calm { IsErrOf result LoadError.DirFault → ⊥ }
 {
@@ -59,7 +59,7 @@ fn root_at<D: Dir>(
     ensures cause { IsErrOf result LoadError.DirFault → Rose (D.shown dir.old).faults (D.shown dir.new).faults }
     ensures only { OnlyReadsPod D.observed pod (D.shown dir.old) (D.shown dir.new) }
     ensures read { IfOk result (λ root. D.observed ≡ true → ReadsRoot pod app.now root (D.shown dir.old) (D.shown dir.new)) }
-    ensures lacks { IfErr result (IsDamageFor (told_path pod path.now) (D.observed ≡ true → LacksRoot pod app.now (D.shown dir.old) (D.shown dir.new))) }
+    ensures lacks { IfErr result (IsDamageFor (told_path pod path.now) (D.observed ≡ true → LacksRootListing pod app.now (D.shown dir.old) (D.shown dir.new))) }
 {
     let _name = app.as_str();
     match read_part(alloc, dir, pod, path, MOST_OF_TREE) {
@@ -80,7 +80,7 @@ fn read_root<D: Dir>(
     ensures cause { IsErrOf result LoadError.DirFault → Rose (D.shown dir.old).faults (D.shown dir.new).faults }
     ensures only { OnlyReadsPod D.observed pod (D.shown dir.old) (D.shown dir.new) }
     ensures read { IfOk result (λ root. D.observed ≡ true → ReadsRoot pod app.now root (D.shown dir.old) (D.shown dir.new)) }
-    ensures lacks { IfErr result (IsDamageFor (told_path pod (tree_path app.now)) (D.observed ≡ true → LacksRoot pod app.now (D.shown dir.old) (D.shown dir.new))) }
+    ensures lacks { IfErr result (IsDamageFor (told_path pod (tree_path app.now)) (D.observed ≡ true → LacksRootListing pod app.now (D.shown dir.old) (D.shown dir.new))) }
 {
     match tree_path(alloc, app.as_str()) {
         Ok(path) => root_at(alloc, dir, pod, app, path.as_str()),
@@ -101,7 +101,7 @@ fn add_root<D: Dir>(
     ensures only { OnlyReadsPod D.observed pod (D.shown dir.old) (D.shown dir.new) }
     ensures one { IfOk result (λ done. length roots.new.items ≡ length roots.old.items + 1) }
     ensures added { IfOk result (λ done. D.observed ≡ true → AddsRoot pod app.now roots.old.items roots.new.items (D.shown dir.old) (D.shown dir.new)) }
-    ensures lacks { IfErr result (IsDamageFor (told_path pod (tree_path app.now)) (D.observed ≡ true → LacksRoot pod app.now (D.shown dir.old) (D.shown dir.new))) }
+    ensures lacks { IfErr result (IsDamageFor (told_path pod (tree_path app.now)) (D.observed ≡ true → LacksRootListing pod app.now (D.shown dir.old) (D.shown dir.new))) }
 {
     let root = read_root(alloc, dir, pod, app)?;
     match roots.push(root) {
@@ -122,7 +122,7 @@ pub(crate) fn read_roots<D: Dir>(
     ensures cause { IsErrOf result LoadError.DirFault → Rose (D.shown dir.old).faults (D.shown dir.new).faults }
     ensures only { OnlyReadsPod D.observed pod (D.shown dir.old) (D.shown dir.new) }
     ensures each { IfOk result (λ roots. length roots.items ≡ length apps.now) }
-    ensures read { IfOk result (λ roots. D.observed ≡ true → AreRoots pod (map (λ a. a.name) apps.now) roots.items (D.shown dir.old) (D.shown dir.new)) }
+    ensures read { IfOk result (λ roots. D.observed ≡ true → AreAppRoots pod (map (λ a. a.name) apps.now) roots.items (D.shown dir.old) (D.shown dir.new)) }
     ensures lacks { IfErr result (λ e. D.observed ≡ true → IsRootsLack pod (map (λ a. a.name) apps.now) e (D.shown dir.old) (D.shown dir.new)) }
 {
     let mut roots = Vec::new(alloc);

@@ -1,6 +1,6 @@
 // The paths of a pod's files, and the roots of its apps.
 ghost use Rattle.std.specs.Prelude.{◌≡◌, IfOk, string_bytes};
-ghost use Rattle.stage1.specs.AppPlaces.{tree_path, told_path, root_of};
+ghost use Rattle.stage1.specs.AppPlaces.{tree_path, told_path, app_root_of};
 
 use ac_types::{AcName, NoMemory, Text};
 use dir_trait::{FileName, PodId};
@@ -31,7 +31,7 @@ pub(crate) fn told_path(alloc: Global, pod: PodId, path: &str) -> Result<Text, N
 
 /// The root of an app. An app's name is a file name.
 pub(crate) fn root_of(pod: PodId, app: &AcName) -> RootPlace
-    ensures { result ≡ root_of pod app.now }
+    ensures { result ≡ app_root_of pod app.now }
 {
     match FileName::of(app.as_str()) {
         Some(name) => RootPlace {

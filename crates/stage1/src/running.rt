@@ -4,23 +4,23 @@ ghost use Rattle.std.specs.List.{AllByRecursion};
 ghost use Rattle.dir_model.specs.declared.spot.Spot.{Spot};
 ghost use Rattle.dir_model.specs.Local.{IsActive, IsOpen, without};
 ghost use Rattle.lifecycle.specs.Executions.{IsConforming};
-ghost use Rattle.folder_building.specs.Work.{Worked};
 ghost use Rattle.pod_locks.specs.Running.{RunsPod};
 ghost use Rattle.stage1.specs.Notes.{anything, notes_at, StaysAble};
-ghost use Rattle.stage1.specs.Beginnings.{IsInRun, AreAt, RunsEach, AreMarked, AreStartedIn, AreWritten};
+ghost use Rattle.stage1.specs.Beginnings.{IsInRun, AreAt, RunsEach, AreMarked, AreStartedIn, AreStatusesWritten};
 ghost use Rattle.stage1.specs.Cutting.{IsCutShort};
 ghost use Rattle.stage1.specs.Endings.{HaveEnded, AreEndsBroken};
 ghost use Rattle.stage1.specs.Refusals.{RunCause};
-ghost use Rattle.stage1.specs.Keeping.{Keeps, all_end_times, all_times, KeepsRules, KeepsToEnd};
-ghost use Rattle.stage1.specs.Runs.{Went, StopCause, end_of, runs_pod, runs_and_closes, HaveRun, AreWrittenAll, AreEnds, HasRunStarts, HasRunHeld, HasRun, IsRefusedRun};
+ghost use Rattle.stage1.specs.Keeping.{NotesAtMost, all_end_times, all_times, RunnerKeepsRules, KeepsToEnd};
+ghost use Rattle.stage1.specs.Runs.{StopCause, end_of, runs_pod, runs_and_closes, HaveRun, AreWrittenAll, AreEnds, HasRunStarts, HasRunHeld, HasRun, IsRefusedRun};
+ghost use Rattle.dir_trait.specs.Effects.{OnlyAsks, LeavesOpen};
 
 use crate::beginning::{begin_apps, room_for};
 use crate::end::AppEnd;
 use crate::ending::{end_apps, wait_rest};
 use crate::error::{Fault, RunError, fault_refusal, load_refusal, no_memory};
 use crate::stand::Stand;
-use dir_trait::{Dir, PodId};
 use crate::{AppStart, pod_launches};
+use dir_trait::{Dir, PodId};
 use pod_locks::Owned;
 use spawner::Spawner;
 use std::alloc::Global;
@@ -38,15 +38,15 @@ fn end_all<D: Dir, S: Spawner>(
     requires each { length apps.now ≡ length stands.now }
     requires may { D.observed ≡ true → AreMarked (D.shown dir.old) apps.now }
     requires started { S.observed ≡ true → AreStartedIn (S.shown spawner.old).calls apps.now stands.now }
-    requires wrote { D.observed ≡ true → AreWritten (D.shown dir.old) apps.now stands.now }
-    ensures went { Worked D.observed anything (D.shown dir.old) (D.shown dir.new) }
-    ensures worked { (spot : Spot) → AreAt spot apps.now → Worked D.observed (notes_at spot) (D.shown dir.old) (D.shown dir.new) }
+    requires wrote { D.observed ≡ true → AreStatusesWritten (D.shown dir.old) apps.now stands.now }
+    ensures went { OnlyAsks D.observed anything (D.shown dir.old) (D.shown dir.new) }
+    ensures worked { (spot : Spot) → AreAt spot apps.now → OnlyAsks D.observed (notes_at spot) (D.shown dir.old) (D.shown dir.new) }
     ensures stays { D.observed ≡ true → StaysAble (D.shown dir.old) (D.shown dir.new) }
     ensures cause { IfErr result (λ f. RunCause D.observed f (D.shown dir.old) (D.shown dir.new) (S.shown spawner.old) (S.shown spawner.new)) }
     ensures ended { IfOk result (λ statuses. HaveEnded S.observed apps.now stands.now statuses.items (S.shown spawner.old) (S.shown spawner.new)) }
     ensures broken { IfErr result (λ f. AreEndsBroken S.observed apps.now stands.now (S.shown spawner.old) (S.shown spawner.new)) }
     ensures wrote { IfOk result (λ statuses. D.observed ≡ true → AreWrittenAll (D.shown dir.new) apps.now statuses.items) }
-    ensures keeps { D.observed ≡ true → Keeps (all_end_times apps.now stands.now) (D.shown dir.old) (D.shown dir.new) }
+    ensures keeps { D.observed ≡ true → NotesAtMost (all_end_times apps.now stands.now) (D.shown dir.old) (D.shown dir.new) }
 {
     match end_apps(alloc, dir, spawner, apps, stands) {
         Ok(statuses) => Ok(statuses),
@@ -73,15 +73,15 @@ fn run_apps<D: Dir, S: Spawner>(
     requires active { IsActive (D.shown dir.old).local }
     requires place { AllByRecursion IsInRun apps.now }
     requires runs { D.observed ≡ true → RunsEach (D.shown dir.old) apps.now }
-    ensures went { Worked D.observed anything (D.shown dir.old) (D.shown dir.new) }
-    ensures worked { (spot : Spot) → AreAt spot apps.now → Worked D.observed (notes_at spot) (D.shown dir.old) (D.shown dir.new) }
+    ensures went { OnlyAsks D.observed anything (D.shown dir.old) (D.shown dir.new) }
+    ensures worked { (spot : Spot) → AreAt spot apps.now → OnlyAsks D.observed (notes_at spot) (D.shown dir.old) (D.shown dir.new) }
     ensures stays { D.observed ≡ true → StaysAble (D.shown dir.old) (D.shown dir.new) }
     ensures cause { IfErr result (λ f. RunCause D.observed f (D.shown dir.old) (D.shown dir.new) (S.shown spawner.old) (S.shown spawner.new)) }
     ensures ran { IfOk result (λ statuses. HaveRun S.observed apps.now statuses.items (S.shown spawner.old) (S.shown spawner.new)) }
     ensures cut { IfErr result (λ f. IsCutShort S.observed apps.now (S.shown spawner.old) (S.shown spawner.new)) }
     ensures marked { IfOk result (λ statuses. D.observed ≡ true → AreMarked (D.shown dir.new) apps.now) }
     ensures wrote { IfOk result (λ statuses. D.observed ≡ true → AreWrittenAll (D.shown dir.new) apps.now statuses.items) }
-    ensures keeps { D.observed ≡ true → Keeps (all_times apps.now) (D.shown dir.old) (D.shown dir.new) }
+    ensures keeps { D.observed ≡ true → NotesAtMost (all_times apps.now) (D.shown dir.old) (D.shown dir.new) }
 {
     let mut stands = room_for(alloc, apps.len())?;
     match begin_apps(alloc, dir, spawner, apps, &mut stands) {
@@ -128,13 +128,13 @@ fn run_starts<D: Dir, S: Spawner>(
     requires active { IsActive (D.shown dir.old).local }
     requires place { AllByRecursion IsInRun apps.now }
     requires runs { D.observed ≡ true → RunsEach (D.shown dir.old) apps.now }
-    ensures went { Worked D.observed anything (D.shown dir.old) (D.shown dir.new) }
-    ensures worked { (spot : Spot) → AreAt spot apps.now → Worked D.observed (notes_at spot) (D.shown dir.old) (D.shown dir.new) }
+    ensures went { OnlyAsks D.observed anything (D.shown dir.old) (D.shown dir.new) }
+    ensures worked { (spot : Spot) → AreAt spot apps.now → OnlyAsks D.observed (notes_at spot) (D.shown dir.old) (D.shown dir.new) }
     ensures stays { D.observed ≡ true → StaysAble (D.shown dir.old) (D.shown dir.new) }
     ensures ran { IfOk result (λ ends. HasRunStarts D.observed S.observed apps.now ends.items (D.shown dir.new) (S.shown spawner.old) (S.shown spawner.new)) }
     ensures cut { IfErr result (λ e. IsCutShort S.observed apps.now (S.shown spawner.old) (S.shown spawner.new)) }
     ensures cause { IfErr result (λ e. StopCause D.observed e (D.shown dir.old) (D.shown dir.new) (S.shown spawner.old) (S.shown spawner.new)) }
-    ensures keeps { D.observed ≡ true → Keeps (all_times apps.now) (D.shown dir.old) (D.shown dir.new) }
+    ensures keeps { D.observed ≡ true → NotesAtMost (all_times apps.now) (D.shown dir.old) (D.shown dir.new) }
 {
     match run_apps(alloc, dir, spawner, apps) {
         Ok(statuses) => ends_of(alloc, apps, &statuses),
@@ -152,10 +152,10 @@ fn run_held<D: Dir, S: Spawner>(
 ) -> Result<Vec<AppEnd>, RunError>
     requires active { IsActive (D.shown dir.old).local }
     requires runs { D.observed ≡ true → RunsPod pod (D.shown dir.old) }
-    ensures worked { Worked D.observed (runs_pod pod) (D.shown dir.old) (D.shown dir.new) }
+    ensures worked { OnlyAsks D.observed (runs_pod pod) (D.shown dir.old) (D.shown dir.new) }
     ensures ran { IfOk result (λ ends. HasRunHeld D.observed S.observed pod address.now ends.items (D.shown dir.old) (D.shown dir.new) (S.shown spawner.old) (S.shown spawner.new)) }
     ensures refused { IfErr result (λ e. IsRefusedRun D.observed S.observed pod address.now e (D.shown dir.old) (D.shown dir.new) (S.shown spawner.old) (S.shown spawner.new)) }
-    ensures keeps { D.observed ≡ true → KeepsRules pod (D.shown dir.old) (D.shown dir.new) }
+    ensures keeps { D.observed ≡ true → RunnerKeepsRules pod (D.shown dir.old) (D.shown dir.new) }
 {
     match pod_launches(alloc, dir, pod, address) {
         Ok(apps) => run_starts(alloc, dir, spawner, &apps),
@@ -183,7 +183,7 @@ pub fn run_pod<D: Dir, S: Spawner>(
     requires active { IsActive (D.shown dir.old).local }
     requires open { IsOpen (D.shown dir.old).local owned.own }
     requires runs { D.observed ≡ true → RunsPod owned.pod (D.shown dir.old) }
-    ensures went { Went D.observed (runs_and_closes owned.pod owned.own) (without (D.shown dir.old).local owned.own) (D.shown dir.old) (D.shown dir.new) }
+    ensures went { LeavesOpen D.observed (runs_and_closes owned.pod owned.own) (without (D.shown dir.old).local owned.own) (D.shown dir.old) (D.shown dir.new) }
     ensures ran { IfOk result (λ ends. HasRun D.observed S.observed owned.pod owned.own address.now ends.items (D.shown dir.old) (D.shown dir.new) (S.shown spawner.old) (S.shown spawner.new)) }
     ensures refused { IfErr result (λ e. IsRefusedRun D.observed S.observed owned.pod address.now e (D.shown dir.old) (D.shown dir.new) (S.shown spawner.old) (S.shown spawner.new)) }
     ensures keeps { D.observed ≡ true → KeepsToEnd owned.pod owned.own (D.shown dir.old) (D.shown dir.new) }

@@ -2,9 +2,10 @@
 ghost use Rattle.std.specs.Prelude.{◌≡◌, true, IfOk, IfErr, IsErrOf};
 ghost use Rattle.dir_model.specs.Causes.{Rose};
 ghost use Rattle.dir_model.specs.Local.{IsActive};
-ghost use Rattle.stage1.specs.AppPlaces.{token_name, told_path};
+ghost use Rattle.stage1.specs.AppPlaces.{told_path};
 ghost use Rattle.pod_files.specs.Looks.{OnlyReadsPod};
-ghost use Rattle.stage1.specs.AppFiles.{ReadsToken, LacksToken};
+ghost use Rattle.pod_files.specs.Places.{token_name};
+ghost use Rattle.pod_files.specs.Files.{ReadsToken, ReadsNoToken};
 ghost use Rattle.stage1.specs.LoadRefusals.{IsDamageFor};
 
 use crate::load_error::{LoadError, damaged};
@@ -20,7 +21,7 @@ pub(crate) fn read_token<D: Dir>(alloc: Global, dir: &mut D, pod: PodId) -> Resu
     ensures cause { IsErrOf result LoadError.DirFault → Rose (D.shown dir.old).faults (D.shown dir.new).faults }
     ensures only { OnlyReadsPod D.observed pod (D.shown dir.old) (D.shown dir.new) }
     ensures read { IfOk result (λ token. D.observed ≡ true → ReadsToken pod token (D.shown dir.old) (D.shown dir.new)) }
-    ensures lacks { IfErr result (IsDamageFor (told_path pod token_name) (D.observed ≡ true → LacksToken pod (D.shown dir.old) (D.shown dir.new))) }
+    ensures lacks { IfErr result (IsDamageFor (told_path pod token_name) (D.observed ≡ true → ReadsNoToken pod (D.shown dir.old) (D.shown dir.new))) }
 {
     match pod_files::read_token(alloc, dir, pod) {
         Ok(token) => Ok(token),

@@ -16,18 +16,18 @@ use Rattle.dir_trait.specs.DirCalls.{DirAt}
 use Rattle.dir_files.specs.Reads.{inner_at, bytes_in, file_at, TellsFile, IsPiece, AreTold}
 use Rattle.folder_contents.specs.Entries.{entries_in}
 use Rattle.folder_contents.specs.UnderGate.{keeps_handles, shares_images, KnowsAlong}
-use Rattle.gate_reading.specs.Gate.{HasGate, GoesOn}
-use Rattle.gate_reading.specs.Files.{is_plain}
+use Rattle.gate_reading.specs.Gate.{HasGate, GoesOnUnderLock}
+use Rattle.gate_reading.specs.Files.{is_outside_stage1}
 use Rattle.gate_reading.proofs.OwnSteps.{knows_to, stays_after}
 use Rattle.gate_reading.proofs.GoingOn.{lived_at_first, has_gate}
 use Rattle.gate_reading.proofs.PlainPaths.{plain_own}
+use Rattle.gate_reading.proofs.StoredFiles.{same_file}
 use Rattle.image_reading.specs.Places.{image_inner, image_spot}
 use Rattle.image_reading.specs.Files.{ReadsFile}
 use Rattle.standing_images.proofs.LastSteps.{LastOwn}
-use Rattle.standing_images.proofs.SameFiles.{same_file}
 use Rattle.standing_images.proofs.Pieces.{all_told, is_front}
 
-module _ {asks : Request → Bool} {s : Seen} {old new : DirAt} (g : GoesOn asks s old new) (l : LastOwn old.process g.extends.more) where
+module _ {asks : Request → Bool} {s : Seen} {old new : DirAt} (g : GoesOnUnderLock asks s old new) (l : LastOwn old.process g.extends.more) where
   abbrev pub me : ℕ
   me = old.process
 
@@ -78,7 +78,7 @@ module _ {asks : Request → Bool} {s : Seen} {old new : DirAt} (g : GoesOn asks
   up_to u v e is own =
       l.covers u v e (same_rest old.trace g.extends.more (u ++ e ∷ v) (sym g.extends.grown ∙ (is ∙ append_assoc old.trace u (e ∷ v)))) own
 
-  module _ (spot : Spot) (path : List ℕ) (is : is_in Images spot.area ≡ true) (plain : is_plain path ≡ true) where
+  module _ (spot : Spot) (path : List ℕ) (is : is_in Images spot.area ≡ true) (plain : is_outside_stage1 path ≡ true) where
     abbrev last_file : Option (List ℕ)
     last_file = file_at (state_after end) (inner_at spot path)
 
@@ -115,7 +115,7 @@ module _ {asks : Request → Bool} {s : Seen} {old new : DirAt} (g : GoesOn asks
             (ap (λ (h : List Event). entries_in folder (state_after h).entries) place ∙ sym stays.1)) told
 
   -- what was read of a file of an image is the front of the file that stands there at the end
-  pub file_front : (key : StoreKey) (name : List ℕ) (most : ℕ) (P : List ℕ → Type 0) → is_plain name ≡ true → 0 < most →
+  pub file_front : (key : StoreKey) (name : List ℕ) (most : ℕ) (P : List ℕ → Type 0) → is_outside_stage1 name ≡ true → 0 < most →
       ReadsFile (image_inner key name) most P old new →
       (file : List ℕ) × (file_at (state_after end) (image_inner key name) ≡ Some file) × P (take most file)
   file_front key name most P plain some r =

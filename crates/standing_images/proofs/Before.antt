@@ -6,6 +6,7 @@ use Rattle.ac_types.specs.declared.image_id.ImageId.{ImageId}
 use Rattle.ac_types.specs.Ids.{id_text}
 use Rattle.dep_match.specs.declared.stored.Stored.{Stored}
 use Rattle.manifests.specs.declared.image_manifest.ImageManifest.{ImageManifest}
+use Rattle.manifest_laws.proofs.Heads.{manifest_so}
 use Rattle.dir_model.specs.declared.area.Area.TheVariants.{Images}
 use Rattle.dir_model.specs.declared.event.Event.{Event}
 use Rattle.dir_model.specs.declared.request.Request.{Request}
@@ -24,24 +25,24 @@ use Rattle.dir_files.specs.Reads.{inner_at, bytes_in, file_at, TellsFile, IsPiec
 use Rattle.dir_files.specs.Listed.{Stretch, ShowsArea, ShowsDirectory}
 use Rattle.folder_contents.specs.Entries.{entries_in}
 use Rattle.gate_reading.specs.Areas.{is_image}
-use Rattle.gate_reading.specs.Files.{is_plain}
+use Rattle.gate_reading.specs.Files.{is_outside_stage1}
 use Rattle.gate_reading.specs.Listings.{has_direct}
 use Rattle.gate_reading.proofs.Listed.{throughout, sometime}
 use Rattle.gate_reading.proofs.PlainPaths.{plain_own}
+use Rattle.gate_reading.proofs.AreaNames.{image_named}
+use Rattle.gate_reading.proofs.StoredFiles.{same_file}
 use Rattle.image_reading.specs.Within.{Within}
-use Rattle.image_reading.specs.Places.{image_spot, image_inner, manifest_name, id_name, IsAbsent, IsPresent}
-use Rattle.image_reading.specs.Files.{IsManifestOf, IsIdOf, ReadsFile, ReadsManifest, ReadsId, ShowsMarks, most_of_manifest, most_of_id}
+use Rattle.image_reading.specs.Places.{image_spot, image_inner, manifest_name, id_name, IsImageAbsent, IsPresent}
+use Rattle.image_reading.specs.Files.{IsImageManifestOf, IsIdOf, ReadsFile, ReadsImageManifest, ReadsId, ShowsImportMarks, most_of_manifest, most_of_id}
 use Rattle.image_reading.specs.Images.{ReadsImage}
 use Rattle.image_reading.specs.Store.{ReadsStore}
 use Rattle.image_reading.proofs.Values.{id_front}
-use Rattle.standing_images.specs.Images.{SameImages, ImagesStay, HasFile, StandsSo, KeysRise, AreStore}
-use Rattle.standing_images.proofs.AreaNames.{place, image_named}
+use Rattle.standing_images.specs.Images.{SameImages, ImagesStay, HasFile, StandsWithItsFiles, KeysRise, AreStore}
+use Rattle.standing_images.proofs.AreaNames.{place}
 use Rattle.standing_images.proofs.Keys.{key_among, keys_rise}
 use Rattle.standing_images.proofs.Moments.{has_mark, is_newest}
 use Rattle.standing_images.proofs.Pieces.{all_told, is_front}
-use Rattle.standing_images.proofs.SameFiles.{same_file}
 use Rattle.standing_images.proofs.Shown.{shows_names}
-use Rattle.standing_images.proofs.Stores.{manifest_so}
 
 module _ (me : ℕ) (old new : List Event) (stay : ImagesStay old new) where
   abbrev s : DirState
@@ -64,13 +65,13 @@ module _ (me : ℕ) (old new : List Event) (stay : ImagesStay old new) where
       by None none = ap (bytes_in t.entries path) (same.places spot is ∙ none) ∙ sym (ap (bytes_in s.entries path) none)
       by (Some folder) there = same_file t s (inner_at spot path) folder (same.places spot is ∙ there) there (same.trees spot folder is there)
 
-  pub told_before : (key : StoreKey) (name : List ℕ) (P : Option (List ℕ) → Type 0) → is_plain name ≡ true →
+  pub told_before : (key : StoreKey) (name : List ℕ) (P : Option (List ℕ) → Type 0) → is_outside_stage1 name ≡ true →
       AtOwnStep me old new (TellsFile (image_inner key name) P) → P (file_at s (image_inner key name))
   told_before key name P plain at =
       let here : List Event = at.before ++ at.step ∷ [] in
       subst P (file_same (state_after here) (same_step at) (image_spot key) name refl) (at.holds (plain_own here (image_inner key name) plain))
 
-  pub absent_before : (key : StoreKey) → AtOwnStep me old new (IsAbsent key) → IsAbsent key s
+  pub absent_before : (key : StoreKey) → AtOwnStep me old new (IsImageAbsent key) → IsImageAbsent key s
   absent_before key at = sym ((same_step at).places (image_spot key) refl) ∙ at.holds
 
   pub present_before : (key : StoreKey) → AtOwnStep me old new (IsPresent key) → IsPresent key s
@@ -98,7 +99,7 @@ module _ (old new : DirAt) (stay : ImagesStay old.trace new.trace) where
   before = state_after old.trace
 
   -- what was read of a file of an image is the front of the file that stood there
-  pub front_before : (key : StoreKey) (name : List ℕ) (most : ℕ) (P : List ℕ → Type 0) → is_plain name ≡ true → 0 < most →
+  pub front_before : (key : StoreKey) (name : List ℕ) (most : ℕ) (P : List ℕ → Type 0) → is_outside_stage1 name ≡ true → 0 < most →
       ReadsFile (image_inner key name) most P old new →
       (file : List ℕ) × (file_at before (image_inner key name) ≡ Some file) × P (take most file)
   front_before key name most P plain some r =
@@ -111,9 +112,9 @@ module _ (old new : DirAt) (stay : ImagesStay old.trace new.trace) where
       w.first.trace w.earlier w.begins reads.pieces w.last.trace w.later w.ends told) in
       (f.file, f.is, subst P f.front r.holds)
 
-  manifest_before : (key : StoreKey) (manifest : ImageManifest) → ReadsManifest key manifest old new → HasFile key manifest_name (IsManifestOf manifest) before
+  manifest_before : (key : StoreKey) (manifest : ImageManifest) → ReadsImageManifest key manifest old new → HasFile key manifest_name (IsImageManifestOf manifest) before
   manifest_before key manifest r =
-      let f = front_before key manifest_name most_of_manifest (IsManifestOf manifest) refl (omega arith) r in
+      let f = front_before key manifest_name most_of_manifest (IsImageManifestOf manifest) refl (omega arith) r in
       record { bytes = f.0; there = f.1; holds = sym (manifest_so f.0) ∙ f.2 }
 
   pub id_before : (key : StoreKey) (id : ImageId) → ReadsId key id old new → HasFile key id_name (IsIdOf key id) before
@@ -122,7 +123,7 @@ module _ (old new : DirAt) (stay : ImagesStay old.trace new.trace) where
       record { bytes = f.0; there = f.1; holds = id_front key f.0 id f.2 }
 
   -- a listing of an image shows what stood in it
-  pub items_before : (key : StoreKey) (P : List ℕ → Type 0) (m : ShowsMarks key P old new) →
+  pub items_before : (key : StoreKey) (P : List ℕ → Type 0) (m : ShowsImportMarks key P old new) →
       (folder : ℕ) × (folder_at before.namespace (image_spot key) ≡ Some folder)
       × ((name : List ℕ) → has_name (item_names m.items) name ≡ has_direct (entries_in folder before.entries) name)
   items_before key P m =
@@ -139,7 +140,7 @@ module _ (old new : DirAt) (stay : ImagesStay old.trace new.trace) where
       )
 
   -- an image that was read stood so
-  pub image_before : (image : Stored) → ReadsImage image old new → StandsSo image before
+  pub image_before : (image : Stored) → ReadsImage image old new → StandsWithItsFiles image before
   image_before image r =
       let i = items_before image.key _ r.moment in
       record {
@@ -182,7 +183,7 @@ module _ (old new : DirAt) (stay : ImagesStay old.trace new.trace) where
   -- and what was read is the store as it was
   pub store_before : (images : List Stored) → ReadsStore images old new → AreStore images before
   store_before images r = record {
-    together = all_weaker (λ image. ReadsImage image old new) (λ image. StandsSo image before) image_before images r.read.each;
+    together = all_weaker (λ image. ReadsImage image old new) (λ image. StandsWithItsFiles image before) image_before images r.read.each;
     all = λ key are there.
         subst (λ (ks : List StoreKey). Contains ks key) (sym r.read.of_names)
         (key_among r.names key are (names_before r.names r.shown (id_text key.bytes) ∙ ap is_some there.1));

@@ -1,8 +1,8 @@
 -- The last own event of a stretch.
 use Rattle.std.proofs.Common.{◌≡◌, ◌⊎◌, inl, inr, ℕ, Bool, true, false, List, [], ◌∷◌, ◌++◌, refl, ap, ◌∙◌}
+use Rattle.plain_laws.proofs.Booleans.{clash}
 use Rattle.dir_model.specs.declared.event.Event.{Event}
 use Rattle.dir_model.specs.Calls.{is_foreign}
-use Rattle.lifecycle.proofs.Handles.{clash}
 
 -- each own event of the stretch is the last one or comes before it
 pub record LastOwn (me : ℕ) (more : List Event) : Type 0 where

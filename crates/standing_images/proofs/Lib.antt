@@ -1,7 +1,5 @@
 pub mod Reading
 pub mod LastSteps
-pub mod SameFiles
-pub mod Fronts
 pub mod Pieces
 pub mod AtEnd
 pub mod Listed

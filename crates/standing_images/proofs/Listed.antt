@@ -24,7 +24,7 @@ use Rattle.dir_files.specs.Listed.{Stretch, ShowsArea, ShowsDirectory}
 use Rattle.folder_contents.specs.Entries.{entries_in}
 use Rattle.folder_contents.specs.UnderGate.{keeps_handles, shares_images, KnowsAlong}
 use Rattle.gate_reading.specs.Areas.{is_image}
-use Rattle.gate_reading.specs.Gate.{HasGate, GoesOn}
+use Rattle.gate_reading.specs.Gate.{HasGate, GoesOnUnderLock}
 use Rattle.gate_reading.specs.Listings.{ShowsEntries}
 use Rattle.gate_reading.proofs.AreaNames.{areas_tell}
 use Rattle.gate_reading.proofs.ImageItems.{listings_tell}
@@ -104,7 +104,7 @@ module _ (old : List Event) {first last new : List Event} (earlier later : List 
   pub same_names : (state_after (mid ++ start ∷ [])).namespace ≡ (state_after mid).namespace
   same_names = ap (λ (z : DirState). z.namespace) (state_after-push mid start)
 
-module _ {asks : Request → Bool} {s : Seen} {old new : DirAt} (g : GoesOn asks s old new) (l : LastOwn old.process g.extends.more)
+module _ {asks : Request → Bool} {s : Seen} {old new : DirAt} (g : GoesOnUnderLock asks s old new) (l : LastOwn old.process g.extends.more)
     {first last : List Event} (earlier later : List Event) (begins : first ≡ old.trace ++ earlier) (ends : new.trace ≡ last ++ later) where
   module _ (request : Request) (reply : Reply) (alive : is_kill request ≡ false) (st : Stretch old.process first last request reply) where
     abbrev opening : Event

@@ -2,11 +2,12 @@
 use Rattle.std.proofs.Common.{arith, ◌≡◌, ◌⊎◌, inl, inr, ◌≤◌, ℕ, Bool, true, false, ◌||◌, bytes_eq, Option, Some, None, List, [], ◌∷◌, refl, sym, ap, ◌∙◌}
 use Rattle.std.specs.Prelude.{Contains}
 use Rattle.std.specs.List.{AllByRecursion, cons_option}
+use Rattle.plain_laws.proofs.Texts.{same_text}
 use Rattle.dir_model.specs.declared.item.Item.{Item}
 use Rattle.dir_model.specs.State.{DirState}
 use Rattle.dir_model.specs.Listings.{has_name, item_names}
 use Rattle.dir_model.proofs.Lists.{or_last}
-use Rattle.lifecycle.proofs.Places.{name_same, same_name}
+use Rattle.lifecycle.proofs.Places.{same_name}
 use Rattle.folder_contents.specs.Entries.{entries_in}
 use Rattle.gate_reading.specs.Listings.{has_direct}
 use Rattle.image_reading.specs.Marks.{imported_moment, imported_moments, IsGreatest}
@@ -56,9 +57,9 @@ not_later (x ∷ xs) most name moment all there is =
         AllByRecursion (λ n. n ≤ most) (cons_option o (imported_moments xs))
         → (AllByRecursion (λ n. n ≤ most) (imported_moments xs) → has_name (item_names xs) name ≡ true → moment ≤ most) → moment ≤ most
     by true same t None m a go =
-        let no : None ≡ Some moment = sym m ∙ (ap imported_moment (name_same x.name name same) ∙ is) in absurd (cc)
+        let no : None ≡ Some moment = sym m ∙ (ap imported_moment (same_text x.name name same) ∙ is) in absurd (cc)
     by true same t (Some n) m a go =
-        let one : Some n ≡ Some moment = sym m ∙ (ap imported_moment (name_same x.name name same) ∙ is) in
+        let one : Some n ≡ Some moment = sym m ∙ (ap imported_moment (same_text x.name name same) ∙ is) in
         let e : n ≡ moment = cc in
         let below : n ≤ most = a.0 in
         omega (arith, e, below)
@@ -74,7 +75,7 @@ none_named (x ∷ xs) name moment none there is =
     by : (b : Bool) → bytes_eq x.name name ≡ b → (b || has_name (item_names xs) name) ≡ true → (o : Option ℕ) → imported_moment x.name ≡ o →
         cons_option o (imported_moments xs) ≡ [] → (imported_moments xs ≡ [] → has_name (item_names xs) name ≡ true → ⊥) → ⊥
     by true same t None m none go =
-        let no : None ≡ Some moment = sym m ∙ (ap imported_moment (name_same x.name name same) ∙ is) in cc
+        let no : None ≡ Some moment = sym m ∙ (ap imported_moment (same_text x.name name same) ∙ is) in cc
     by true same t (Some n) m none go = cc
     by false other t None m none go = go none t
     by false other t (Some n) m none go = cc

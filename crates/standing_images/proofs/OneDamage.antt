@@ -15,28 +15,28 @@ use Rattle.manifests.specs.ImageData.{image_data}
 use Rattle.dir_model.specs.State.{DirState}
 use Rattle.image_reading.specs.Places.{mark_name}
 use Rattle.image_reading.specs.Store.{keys}
-use Rattle.standing_images.specs.Images.{StandsSo, StandTogether, AreStore}
-use Rattle.standing_images.specs.Damage.{HasMoment, IsWhole, LacksPart, IsBefore, IsFirstDamage}
+use Rattle.standing_images.specs.Images.{StandsWithItsFiles, StandTogether, AreStore}
+use Rattle.standing_images.specs.Damage.{HasMoment, IsWholeImage, LacksPart, IsBefore, IsFirstDamage}
 use Rattle.standing_images.proofs.Members.{contains_none, contains_cases}
 
 -- an image that stands so is whole
-pub stands_whole : (s : DirState) (image : Stored) → StandsSo image s → IsWhole image.key s
+pub stands_whole : (s : DirState) (image : Stored) → StandsWithItsFiles image s → IsWholeImage image.key s
 stands_whole s image x = record {
   manifest = record { bytes = x.manifest.bytes; there = x.manifest.there; holds = (image_data image.manifest, x.manifest.holds) };
   id = record { bytes = x.id.bytes; there = x.id.there; holds = (image.id, x.id.holds) };
   moment = record { folder = x.folder; here = x.here; moment = image.moment; mark = x.mark };
 }
 
-pub store_whole : (s : DirState) (images : List Stored) (key : StoreKey) → StandTogether images s → Contains (keys images) key → IsWhole key s
+pub store_whole : (s : DirState) (images : List Stored) (key : StoreKey) → StandTogether images s → Contains (keys images) key → IsWholeImage key s
 store_whole s [] key all there = absurd (contains_none key there)
 store_whole s (x ∷ xs) key all there = by (contains_cases x.key (keys xs) key there) (λ t. store_whole s xs key all.1 t)
   where
-    by : (x.key ≡ key) ⊎ Contains (keys xs) key → (Contains (keys xs) key → IsWhole key s) → IsWhole key s
-    by (inl same) go = subst (λ (k : StoreKey). IsWhole k s) same (stands_whole s x all.0)
+    by : (x.key ≡ key) ⊎ Contains (keys xs) key → (Contains (keys xs) key → IsWholeImage key s) → IsWholeImage key s
+    by (inl same) go = subst (λ (k : StoreKey). IsWholeImage k s) same (stands_whole s x all.0)
     by (inr later) go = go later
 
 -- a whole image lacks nothing
-pub lacks_none : (s : DirState) (key : StoreKey) (path : List ℕ) → IsWhole key s → LacksPart key mark_name (HasMoment key s) path s → ⊥
+pub lacks_none : (s : DirState) (key : StoreKey) (path : List ℕ) → IsWholeImage key s → LacksPart key mark_name (HasMoment key s) path s → ⊥
 lacks_none s key path x (inl l) = l.1 x.manifest
 lacks_none s key path x (inr (inl l)) = l.2 x.id
 lacks_none s key path x (inr (inr l)) = l.3 x.moment

@@ -1,14 +1,14 @@
 -- At one state one list of images is the store, by what is seen of them.
-use Rattle.std.proofs.Common.{arith, ◌≡◌, ◌⊎◌, inl, inr, ◌<◌, ◌≤◌, ℕ, Less, Greater, Some, List, [], ◌∷◌, map, length, take, refl, sym, ap, subst, ◌∙◌}
+use Rattle.std.proofs.Common.{arith, ◌≡◌, ◌⊎◌, inl, inr, ◌<◌, ◌≤◌, ℕ, Less, Some, List, [], ◌∷◌, map, length, take, refl, sym, ap, subst, ◌∙◌}
 use Rattle.std.specs.Prelude.{Contains, slice_index}
 use Rattle.std.specs.List.{AllByRecursion}
 use Rattle.std.specs.List.Sorted.{IsStrictlySortedBy}
-use Rattle.std.specs.Ordering.{nat_cmp, ordering_reverse}
+use Rattle.std.specs.Ordering.{nat_cmp}
 use Rattle.std.specs.Cmp.Lexicographic.{slice_cmp}
 use Rattle.std.proofs.lemmas.Bool.{cases_lt}
-use Rattle.std.proofs.lemmas.Cmp.{nat_list_cmp_total}
 use Rattle.std.proofs.lemmas.Grind.{common_steps}
 use Rattle.std.proofs.lemmas.List.{append_cancel_right, get_or-take, get_or_past}
+use Rattle.plain_laws.proofs.Texts.{none_below}
 use Rattle.ac_types.specs.declared.image_id.ImageId.{ImageId}
 use Rattle.ac_types.specs.declared.store_key.StoreKey.{StoreKey}
 use Rattle.ac_types.specs.Ids.{AreBytes, id_text, id_read}
@@ -23,7 +23,7 @@ use Rattle.dir_files.specs.Reads.{file_at}
 use Rattle.image_reading.specs.Places.{image_spot, image_inner, manifest_name, id_name, IsPresent}
 use Rattle.image_reading.specs.Files.{IsIdOf}
 use Rattle.image_reading.specs.Store.{keys}
-use Rattle.standing_images.specs.Images.{HasFile, HasMark, StandsSo, StandTogether, AreAll, KeysRise, AreStore}
+use Rattle.standing_images.specs.Images.{HasFile, HasMark, StandsWithItsFiles, StandTogether, AreAll, KeysRise, AreStore}
 use Rattle.standing_images.proofs.Members.{contains_none, contains_first, contains_more, contains_cases}
 
 -- one image
@@ -41,7 +41,7 @@ same_texts k j a b bytes x y =
     let same : a.bytes ≡ b.bytes = cc in
     ap (λ (l : List ℕ). let i : ImageId = record { bytes = l } in i) same
 
-module _ (s : DirState) (a b : Stored) (x : StandsSo a s) (y : StandsSo b s) (same : a.key ≡ b.key) where
+module _ (s : DirState) (a b : Stored) (x : StandsWithItsFiles a s) (y : StandsWithItsFiles b s) (same : a.key ≡ b.key) where
   same_folder : x.folder ≡ y.folder
   same_folder =
       let e : Some x.folder ≡ Some y.folder = sym x.here ∙ (ap (λ (k : StoreKey). folder_at s.namespace (image_spot k)) same ∙ y.here) in
@@ -67,9 +67,6 @@ module _ (s : DirState) (a b : Stored) (x : StandsSo a s) (y : StandsSo b s) (sa
   same_data = rw (same, same_id, same_manifest, same_moment) refl
 
 -- lists of keys that rise
-
-pub none_below : (a b : List ℕ) → slice_cmp nat_cmp a b ≡ Less → slice_cmp nat_cmp b a ≡ Less → ⊥
-none_below a b x y = let e : Less ≡ Greater = sym x ∙ (nat_list_cmp_total.antisymm a b ∙ ap ordering_reverse y) in cc
 
 above : (P : List ℕ → Type 0) (ks : List StoreKey) (k : StoreKey) → AllByRecursion P (map (λ (key : StoreKey). id_text key.bytes) ks) →
     Contains ks k → P (id_text k.bytes)

@@ -1,16 +1,16 @@
 -- Pieces of one file, and the file that they are.
 use Rattle.std.proofs.Common.{arith, ◌≡◌, ◌⊎◌, inl, inr, ◌<◌, ◌≤◌, ℕ, Option, Some, None, List, [], ◌∷◌, ◌++◌, length, take, append_assoc, append-nil, refl, sym, ap, subst, ◌∙◌}
+use Rattle.plain_laws.proofs.Fronts.{taken_past, next_first, short_whole}
 use Rattle.dir_model.specs.declared.event.Event.{Event}
 use Rattle.dir_model.specs.declared.item.Inner.{Inner}
 use Rattle.dir_model.specs.Calls.{AtOwnStep}
 use Rattle.dir_model.proofs.Moments.{at_grown, at_within}
-use Rattle.dir_files.specs.Reads.{TellsFile, IsPiece, Piece, joined, AreTold, IsShort}
-use Rattle.standing_images.proofs.Fronts.{taken_past, next_first, short_whole}
+use Rattle.dir_files.specs.Reads.{TellsFile, IsPiece, Piece, joined_pieces, AreTold, IsShort}
 
 -- each is a piece of this file, where the earlier ones end
 abbrev pub ArePieces : Option (List ℕ) → List Piece → Type 0
 ArePieces found [] = Unit {0}
-ArePieces found (p ∷ earlier) = IsPiece (length (joined earlier)) p.room p.bytes found × ArePieces found earlier
+ArePieces found (p ∷ earlier) = IsPiece (length (joined_pieces earlier)) p.room p.bytes found × ArePieces found earlier
 
 pub told_grown : (me : ℕ) (inner : Inner) (old : List Event) (pieces : List Piece) {new : List Event} → AreTold me inner old pieces new →
     (more : List Event) × (new ≡ old ++ more)
@@ -20,13 +20,13 @@ told_grown me inner old (p ∷ earlier) {new} told =
     let g = at_grown told.told in
     (e.0 ++ g.0, g.1 ∙ (ap (λ (h : List Event). h ++ g.0) e.1 ∙ append_assoc old e.0 g.0))
 
-are_front : (file : List ℕ) (pieces : List Piece) → ArePieces (Some file) pieces → joined pieces ≡ take (length (joined pieces)) file
+are_front : (file : List ℕ) (pieces : List Piece) → ArePieces (Some file) pieces → joined_pieces pieces ≡ take (length (joined_pieces pieces)) file
 are_front file [] are = refl
-are_front file (p ∷ earlier) are = next_first file (joined earlier) p.bytes p.room (are_front file earlier are.1) are.0
+are_front file (p ∷ earlier) are = next_first file (joined_pieces earlier) p.bytes p.room (are_front file earlier are.1) are.0
 
-are_whole : (file : List ℕ) (pieces : List Piece) → ArePieces (Some file) pieces → IsShort pieces → joined pieces ≡ file
+are_whole : (file : List ℕ) (pieces : List Piece) → ArePieces (Some file) pieces → IsShort pieces → joined_pieces pieces ≡ file
 are_whole file [] are short = absurd short
-are_whole file (p ∷ earlier) are short = short_whole file (joined earlier) p.bytes p.room (are_front file earlier are.1) are.0 short
+are_whole file (p ∷ earlier) are short = short_whole file (joined_pieces earlier) p.bytes p.room (are_front file earlier are.1) are.0 short
 
 -- the file is there, and its first bytes are those
 pub record IsFront (most : ℕ) (bytes : List ℕ) (found : Option (List ℕ)) : Type 0 where
@@ -34,7 +34,7 @@ pub record IsFront (most : ℕ) (bytes : List ℕ) (found : Option (List ℕ)) :
   pub is : found ≡ Some file
   pub front : bytes ≡ take most file
 
-front_of : (most : ℕ) (bytes : List ℕ) (pieces : List Piece) (file : List ℕ) → bytes ≡ joined pieces → length bytes ≤ most →
+front_of : (most : ℕ) (bytes : List ℕ) (pieces : List Piece) (file : List ℕ) → bytes ≡ joined_pieces pieces → length bytes ≤ most →
     (length bytes ≡ most) ⊎ IsShort pieces → ArePieces (Some file) pieces → bytes ≡ take most file
 front_of most bytes pieces file whole few (inl full) are =
     subst (λ (l : List ℕ). l ≡ take (length l) file) (sym whole) (are_front file pieces are) ∙ ap (λ (n : ℕ). take n file) full
@@ -43,7 +43,7 @@ front_of most bytes pieces file whole few (inr short) are =
     all ∙ sym (taken_past most file (subst (λ (l : List ℕ). length l ≤ most) all few))
 
 -- pieces that end, or are as many bytes as were wanted, are a file's front
-pub is_front : (most : ℕ) (bytes : List ℕ) (pieces : List Piece) (found : Option (List ℕ)) → 0 < most → bytes ≡ joined pieces →
+pub is_front : (most : ℕ) (bytes : List ℕ) (pieces : List Piece) (found : Option (List ℕ)) → 0 < most → bytes ≡ joined_pieces pieces →
     length bytes ≤ most → (length bytes ≡ most) ⊎ IsShort pieces → ArePieces found pieces → IsFront most bytes found
 is_front most bytes [] found some whole few (inl full) are = let e = ap length whole in absurd (omega (arith, e, full, some))
 is_front most bytes [] found some whole few (inr short) are = absurd short
@@ -62,6 +62,6 @@ all_told me inner old new found tell first x begins (p ∷ earlier) last y ends 
     let m = at_grown told.told in
     let from : told.between ≡ old ++ (x ++ e.0) = e.1 ∙ (ap (λ (h : List Event). h ++ e.0) begins ∙ append_assoc old x e.0) in
     let to : new ≡ told.between ++ (m.0 ++ y) = ends ∙ (ap (λ (h : List Event). h ++ y) m.1 ∙ append_assoc told.between m.0 y) in (
-      tell (length (joined earlier)) p.room p.bytes (at_within (x ++ e.0) y from ends told.told),
+      tell (length (joined_pieces earlier)) p.room p.bytes (at_within (x ++ e.0) y from ends told.told),
       all_told me inner old new found tell first x begins earlier told.between (m.0 ++ y) to told.earlier,
     )

@@ -24,7 +24,7 @@ use Rattle.gate_reading.specs.Listings.{has_direct}
 use Rattle.image_reading.specs.Looks.{reads_images}
 use Rattle.image_reading.specs.Places.{image_spot, image_inner, manifest_name, id_name}
 use Rattle.image_reading.specs.Store.{keys}
-use Rattle.standing_images.specs.Images.{HasFile, HasMark, StandsSo, StandTogether, AreAll, AreStore, StoodTogether, SameImages, ImagesStay}
+use Rattle.standing_images.specs.Images.{HasFile, HasMark, StandsWithItsFiles, StandTogether, AreAll, AreStore, StoodTogether, SameImages, ImagesStay}
 use Rattle.standing_images.specs.Laws.{leaves_store}
 
 -- the same folders stand, and hold the same
@@ -153,7 +153,7 @@ module _ (s t : DirState) (same : SameStore s t) where
     there = subst (λ (es : List TreeEntry). has_direct (entries_in folder es) m.name ≡ true) (sym same.entries) m.there;
   }
 
-  image_back : (image : Stored) → StandsSo image t → StandsSo image s
+  image_back : (image : Stored) → StandsWithItsFiles image t → StandsWithItsFiles image s
   image_back image h = record {
     folder = h.folder;
     here = sym (same_at (image_spot image.key)) ∙ h.here;
@@ -164,7 +164,7 @@ module _ (s t : DirState) (same : SameStore s t) where
   }
 
   all_back : (images : List Stored) → StandTogether images t → StandTogether images s
-  all_back images h = all_weaker (λ image. StandsSo image t) (λ image. StandsSo image s) image_back images h
+  all_back images h = all_weaker (λ image. StandsWithItsFiles image t) (λ image. StandsWithItsFiles image s) image_back images h
 
   whole_back : (ks : List StoreKey) → AreAll ks t → AreAll ks s
   whole_back ks h key are there = h key are (there.0, same_at (image_spot key) ∙ there.1)

@@ -1,42 +1,25 @@
 -- What a listing of an image shows, while the image stays as it is.
 use Rattle.std.proofs.Common.{◌≡◌, ℕ, Bool, true, false, ◌||◌, bytes_eq, List, [], ◌∷◌, ◌++◌, refl, sym, ap, subst, ◌∙◌}
-use Rattle.std.specs.List.{list_any}
+use Rattle.plain_laws.proofs.Texts.{same_text}
+use Rattle.plain_laws.proofs.Booleans.{same_test}
 use Rattle.dir_model.specs.declared.event.Event.{Event}
 use Rattle.dir_model.specs.declared.item.Item.{Item}
 use Rattle.dir_model.specs.declared.item.ItemKind.TheVariants as kind
 use Rattle.dir_model.specs.declared.spot.Spot.{Spot}
-use Rattle.dir_model.specs.Paths.{is_file_name}
 use Rattle.dir_model.specs.State.{DirState}
 use Rattle.dir_model.specs.Trace.{states_next, state_after}
 use Rattle.dir_model.specs.Listings.{has_name, item_names, has_item, is_item, kind_number}
-use Rattle.dir_model.proofs.Lists.{and_left, and_right, and_both, or_last, any_of_map, same_self}
+use Rattle.dir_model.proofs.Lists.{and_both, or_last, any_of_map, same_self}
 use Rattle.dir_rules.specs.declared.seen.Entry.{Entry}
 use Rattle.dir_laws.specs.Stretches.{StandsNamed, StandsInside}
 use Rattle.dir_files.specs.Reads.{inner_at}
 use Rattle.dir_files.specs.Listed.{ShowsInside, ShowsDirectory}
-use Rattle.lifecycle.proofs.Places.{name_same, same_name}
+use Rattle.lifecycle.proofs.Places.{same_name}
 use Rattle.folder_contents.specs.Entries.{entries_in}
-use Rattle.gate_reading.specs.Listings.{has_direct, item_of, has_direct_item}
+use Rattle.gate_reading.specs.Listings.{has_direct, has_direct_item}
 use Rattle.gate_reading.proofs.DirectItems.{named_direct, item_direct}
 use Rattle.gate_reading.proofs.Listed.{throughout, sometime}
-use Rattle.gate_reading.proofs.ImageItems.{same_test}
-
-any_named : (item : Item) (es : List Entry) → list_any (λ e. is_item item (item_of e)) es ≡ true → list_any (λ e. bytes_eq e.path item.name) es ≡ true
-any_named item [] h = cc
-any_named item (e ∷ es) h = by (is_item item (item_of e)) refl h (λ l. any_named item es l)
-  where
-    by : (b : Bool) → is_item item (item_of e) ≡ b → (b || list_any (λ x. is_item item (item_of x)) es) ≡ true →
-        (list_any (λ x. is_item item (item_of x)) es ≡ true → list_any (λ x. bytes_eq x.path item.name) es ≡ true) →
-        (bytes_eq e.path item.name || list_any (λ x. bytes_eq x.path item.name) es) ≡ true
-    by true is h go = ap (λ c. c || list_any (λ x. bytes_eq x.path item.name) es) (and_left (bytes_eq e.path item.name) _ is)
-    by false is h go = or_last (bytes_eq e.path item.name) (list_any (λ x. bytes_eq x.path item.name) es) (go h)
-
--- an item that stands has its name among the entries
-item_named : (es : List Entry) (item : Item) → has_direct_item es item ≡ true → has_direct es item.name ≡ true
-item_named es item h =
-    and_both (is_file_name item.name) (list_any (λ e. bytes_eq e.path item.name) es)
-    (and_left (is_file_name item.name) (list_any (λ e. is_item item (item_of e)) es) h)
-    (any_named item es (and_right (is_file_name item.name) (list_any (λ e. is_item item (item_of e)) es) h))
+use Rattle.gate_reading.proofs.ImageItems.{item_named}
 
 -- a name that is shown is some item's
 shown_so : (P : List ℕ → Type 0) (items : List Item) → ((item : Item) → has_item items item ≡ true → P item.name) → (name : List ℕ) →
@@ -50,7 +33,7 @@ shown_so P (x ∷ xs) each name h = by (bytes_eq x.name name) refl h (λ l. show
 
     by : (b : Bool) → bytes_eq x.name name ≡ b → (b || has_name (item_names xs) name) ≡ true →
         (has_name (item_names xs) name ≡ true → P name) → P name
-    by true is h go = subst P (name_same x.name name is) first
+    by true is h go = subst P (same_text x.name name is) first
     by false is h go = go h
 
 -- a listing in whose whole time a folder had these entries shows their names

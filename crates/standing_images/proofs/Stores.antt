@@ -1,17 +1,12 @@
 -- What was read of the store under the gate stood there together.
-use Rattle.std.proofs.Common.{arith, ◌≡◌, ℕ, Bool, true, false, nat_le, is_some, List, [], ◌∷◌, ◌++◌, take, length, append_assoc, codes, refl, sym, ap, subst, ◌∙◌, ◌+◌}
+use Rattle.std.proofs.Common.{arith, ◌≡◌, ℕ, Bool, true, is_some, List, [], ◌∷◌, ◌++◌, append_assoc, refl, sym, ap, subst, ◌∙◌}
 use Rattle.std.specs.Prelude.{Contains}
-use Rattle.std.proofs.lemmas.Bool.Decides.{nat_tests}
-use Rattle.std.proofs.lemmas.Grind.{common_steps}
 use Rattle.ac_types.specs.declared.store_key.StoreKey.{StoreKey}
 use Rattle.ac_types.specs.declared.image_id.ImageId.{ImageId}
-use Rattle.ac_types.specs.declared.fault.FaultKind.TheVariants.{TooLong}
 use Rattle.ac_types.specs.Ids.{id_text}
-use Rattle.ac_types.specs.Outcomes.{fails}
 use Rattle.dep_match.specs.declared.stored.Stored.{Stored}
 use Rattle.manifests.specs.declared.image_manifest.ImageManifest.{ImageManifest}
-use Rattle.manifests.specs.ImageForm.{image_manifest}
-use Rattle.manifest_parts.specs.DocumentForm.{document}
+use Rattle.manifest_laws.proofs.Heads.{manifest_so}
 use Rattle.dir_model.specs.declared.area.Area.TheVariants.{Images}
 use Rattle.dir_model.specs.declared.event.Event.{Event}
 use Rattle.dir_model.specs.declared.request.Request.{Request}
@@ -30,14 +25,14 @@ use Rattle.lifecycle.proofs.Draws.{conforming_left}
 use Rattle.folder_contents.specs.UnderGate.{shares_images}
 use Rattle.dir_files.specs.Listed.{ShowsArea, ShowsDirectory}
 use Rattle.gate_reading.specs.Areas.{is_image}
-use Rattle.gate_reading.specs.Gate.{GoesOn}
+use Rattle.gate_reading.specs.Gate.{GoesOnUnderLock}
 use Rattle.image_reading.specs.Places.{image_spot, image_inner, manifest_name, id_name}
-use Rattle.image_reading.specs.Files.{IsManifestOf, IsIdOf, ReadsManifest, ReadsId, most_of_manifest, most_of_id}
+use Rattle.image_reading.specs.Files.{IsImageManifestOf, IsIdOf, ReadsImageManifest, ReadsId, most_of_manifest, most_of_id}
 use Rattle.image_reading.specs.Images.{ReadsImage}
 use Rattle.image_reading.specs.Looks.{reads_images}
 use Rattle.image_reading.specs.Store.{keys, ReadsStore}
 use Rattle.image_reading.proofs.Values.{id_front}
-use Rattle.standing_images.specs.Images.{HasFile, StandsSo, AreAll, KeysRise, StoodTogether}
+use Rattle.standing_images.specs.Images.{HasFile, StandsWithItsFiles, AreAll, KeysRise, StoodTogether}
 use Rattle.standing_images.proofs.Reading.{reads_on}
 use Rattle.standing_images.proofs.LastSteps.{LastOwn, last_own}
 use Rattle.standing_images.proofs.AtEnd.{end, whole, file_front}
@@ -45,29 +40,11 @@ use Rattle.standing_images.proofs.Listed.{lead, start, ends_own, items_last, nam
 use Rattle.standing_images.proofs.Moments.{has_mark, is_newest}
 use Rattle.standing_images.proofs.Keys.{key_among, keys_rise}
 
--- a manifest isn't longer than the bytes that are read
-take_short : (n : ℕ) (bytes : List ℕ) → nat_le (length bytes) n ≡ true → take (n + 1) bytes ≡ bytes
-take_short n bytes short = grind (arith, nat_tests, common_steps)
-
-take_long : (n : ℕ) (bytes : List ℕ) → nat_le (length bytes) n ≡ false → nat_le (length (take (n + 1) bytes)) n ≡ false
-take_long n bytes long = grind (arith, nat_tests, common_steps)
-
-too_long : (bytes : List ℕ) → nat_le (length bytes) 1048576 ≡ false → image_manifest bytes ≡ fails (codes "$") TooLong
-unfolding image_manifest document
-too_long bytes long = rw long
-
-pub manifest_so : (bytes : List ℕ) → image_manifest (take 1048577 bytes) ≡ image_manifest bytes
-manifest_so bytes = by (nat_le (length bytes) 1048576) refl
-  where
-    by : (short : Bool) → nat_le (length bytes) 1048576 ≡ short → image_manifest (take 1048577 bytes) ≡ image_manifest bytes
-    by true short = ap image_manifest (take_short 1048576 bytes short)
-    by false long = too_long (take 1048577 bytes) (take_long 1048576 bytes long) ∙ sym (too_long bytes long)
-
-module _ {asks : Request → Bool} {s : Seen} {old new : DirAt} (g : GoesOn asks s old new) (l : LastOwn old.process g.extends.more) where
-  manifest_stands : (key : StoreKey) (manifest : ImageManifest) → ReadsManifest key manifest old new →
-      HasFile key manifest_name (IsManifestOf manifest) (state_after (end g l))
+module _ {asks : Request → Bool} {s : Seen} {old new : DirAt} (g : GoesOnUnderLock asks s old new) (l : LastOwn old.process g.extends.more) where
+  manifest_stands : (key : StoreKey) (manifest : ImageManifest) → ReadsImageManifest key manifest old new →
+      HasFile key manifest_name (IsImageManifestOf manifest) (state_after (end g l))
   manifest_stands key manifest r =
-      let f = file_front g l key manifest_name most_of_manifest (IsManifestOf manifest) refl (omega arith) r in
+      let f = file_front g l key manifest_name most_of_manifest (IsImageManifestOf manifest) refl (omega arith) r in
       record { bytes = f.0; there = f.1; holds = sym (manifest_so f.0) ∙ f.2 }
 
   id_stands : (key : StoreKey) (id : ImageId) → ReadsId key id old new → HasFile key id_name (IsIdOf key id) (state_after (end g l))
@@ -76,7 +53,7 @@ module _ {asks : Request → Bool} {s : Seen} {old new : DirAt} (g : GoesOn asks
       record { bytes = f.0; there = f.1; holds = id_front key f.0 id f.2 }
 
   -- an image that was read stands so at the end
-  pub image_stands : (image : Stored) → ReadsImage image old new → StandsSo image (state_after (end g l))
+  pub image_stands : (image : Stored) → ReadsImage image old new → StandsWithItsFiles image (state_after (end g l))
   image_stands image r =
       let w = r.moment.shown in
       let d = subst (λ (p : ℕ). ShowsDirectory p w.first.trace w.last.trace (image_inner image.key []) r.moment.items) w.same w.told in
@@ -111,7 +88,7 @@ module _ {asks : Request → Bool} {s : Seen} {old new : DirAt} (g : GoesOn asks
             begins = refl;
             ends = whole g l;
             own = l.own;
-            holds = all_weaker (λ image. ReadsImage image old new) (λ image. StandsSo image (state_after (end g l))) image_stands images r.read.each;
+            holds = all_weaker (λ image. ReadsImage image old new) (λ image. StandsWithItsFiles image (state_after (end g l))) image_stands images r.read.each;
           };
           listed = listed.at;
           begins = listed.is;
@@ -120,7 +97,7 @@ module _ {asks : Request → Bool} {s : Seen} {old new : DirAt} (g : GoesOn asks
         }
 
 -- the listing's end is an own event
-listing_end : {asks : Request → Bool} {s : Seen} {old new : DirAt} {images : List Stored} (g : GoesOn asks s old new) →
+listing_end : {asks : Request → Bool} {s : Seen} {old new : DirAt} {images : List Stored} (g : GoesOnUnderLock asks s old new) →
     ReadsStore images old new → LastOwn old.process g.extends.more
 listing_end {asks} {s} {old} {new} {images} g r =
     let w = r.shown in
@@ -136,7 +113,7 @@ listing_end {asks} {s} {old} {new} {images} g r =
 
 -- what was read of the store while the process had the gate stood there together, and was all that had stood when the listing
 -- of the area had begun
-pub store_stood : {asks : Request → Bool} {s : Seen} {old new : DirAt} {images : List Stored} → GoesOn asks s old new →
+pub store_stood : {asks : Request → Bool} {s : Seen} {old new : DirAt} {images : List Stored} → GoesOnUnderLock asks s old new →
     ReadsStore images old new → StoodTogether images old.process old.trace new.trace
 store_stood {asks} {s} {old} {new} {images} g r = stood_at g (listing_end g r) images r
 

@@ -37,7 +37,7 @@ pub record HasMoment (key : StoreKey) (s : DirState) : Type 0 where
   pub moment : ℕ
   pub mark : HasMark folder moment s
 
-pub record IsWhole (key : StoreKey) (s : DirState) : Type 0 where
+pub record IsWholeImage (key : StoreKey) (s : DirState) : Type 0 where
   pub manifest : HasManifest key s
   pub id : HasId key s
   pub moment : HasMoment key s
@@ -59,4 +59,4 @@ pub record IsFirstDamage (path : List ℕ) (s : DirState) : Type 0 where
   pub kind : AreBytes 32 key.bytes
   pub stands : IsPresent key s
   pub lacks : LacksPart key mark_name (HasMoment key s) path s
-  pub earlier : (other : StoreKey) → AreBytes 32 other.bytes → IsPresent other s → IsBefore other key → IsWhole other s
+  pub earlier : (other : StoreKey) → AreBytes 32 other.bytes → IsPresent other s → IsBefore other key → IsWholeImage other s

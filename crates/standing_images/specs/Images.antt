@@ -21,7 +21,7 @@ use Rattle.folder_contents.specs.Entries.{entries_in}
 use Rattle.folder_contents.specs.UnderGate.{shares_images, KnowsAlong}
 use Rattle.gate_reading.specs.Listings.{has_direct}
 use Rattle.image_reading.specs.Places.{image_spot, image_inner, manifest_name, id_name, IsPresent}
-use Rattle.image_reading.specs.Files.{IsManifestOf, IsIdOf}
+use Rattle.image_reading.specs.Files.{IsImageManifestOf, IsIdOf}
 use Rattle.image_reading.specs.Marks.{imported_moment}
 use Rattle.image_reading.specs.Store.{keys}
 
@@ -39,17 +39,17 @@ pub record HasMark (folder moment : ℕ) (s : DirState) : Type 0 where
 
 -- the image stands so: there is its folder, the manifest and the ID are those of its files, and the moment is the greatest of
 -- its marks
-pub record StandsSo (image : Stored) (s : DirState) : Type 0 where
+pub record StandsWithItsFiles (image : Stored) (s : DirState) : Type 0 where
   pub folder : ℕ
   pub here : folder_at s.namespace (image_spot image.key) ≡ Some folder
-  pub manifest : HasFile image.key manifest_name (IsManifestOf image.manifest) s
+  pub manifest : HasFile image.key manifest_name (IsImageManifestOf image.manifest) s
   pub id : HasFile image.key id_name (IsIdOf image.key image.id) s
   pub mark : HasMark folder image.moment s
   pub newest : (moment : ℕ) → HasMark folder moment s → moment ≤ image.moment
 
 -- each of these images stands so
 abbrev pub StandTogether : List Stored → DirState → Type 0
-StandTogether images s = AllByRecursion (λ image. StandsSo image s) images
+StandTogether images s = AllByRecursion (λ image. StandsWithItsFiles image s) images
 
 -- each image that stands is of one of these keys
 abbrev pub AreAll : List StoreKey → DirState → Type 0

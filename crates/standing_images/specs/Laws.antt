@@ -9,7 +9,7 @@ use Rattle.dir_model.specs.Quiet.{Quiet}
 use Rattle.dir_model.specs.Trace.{changes_names, state_after}
 use Rattle.dir_rules.specs.declared.seen.Seen.{Seen}
 use Rattle.dir_trait.specs.DirCalls.{DirAt}
-use Rattle.gate_reading.specs.Gate.{GoesOn}
+use Rattle.gate_reading.specs.Gate.{GoesOnUnderLock}
 use Rattle.image_reading.specs.Looks.{reads_images}
 use Rattle.image_reading.specs.declared.error.StoreError.TheVariants.{Damaged}
 use Rattle.image_reading.specs.Store.{ReadsStore, LacksListed}
@@ -19,13 +19,13 @@ use Rattle.standing_images.specs.Images.{AreStore, StoodTogether, ImagesStay}
 -- while a process has the gate, and asks for reads and listings of images alone, what it reads of the store stood there together
 abbrev pub StoresStand : List Event → Type 0
 StoresStand trace =
-    (s : Seen) (old new : DirAt) (images : List Stored) → new.trace ≡ trace → GoesOn reads_images s old new →
+    (s : Seen) (old new : DirAt) (images : List Stored) → new.trace ≡ trace → GoesOnUnderLock reads_images s old new →
     ReadsStore images old new → StoodTogether images old.process old.trace new.trace
 
 -- where nobody else steps meanwhile, it is the store as the state before had it
 abbrev pub QuietStores : List Event → Type 0
 QuietStores trace =
-    (s : Seen) (old new : DirAt) (images : List Stored) → new.trace ≡ trace → GoesOn reads_images s old new →
+    (s : Seen) (old new : DirAt) (images : List Stored) → new.trace ≡ trace → GoesOnUnderLock reads_images s old new →
     ReadsStore images old new → Quiet old.process old.trace new.trace → AreStore images (state_after old.trace)
 
 -- after a trace one list of images is the store, by what is seen of them

@@ -1,6 +1,6 @@
 // A bundle of many directories, which are made up as they are asked for.
 ghost use Rattle.std.specs.Prelude.{◌≤◌, length, IfOk};
-ghost use Rattle.dir_trait.specs.Bundles.{IsListing};
+ghost use Rattle.dir_trait.specs.Bundles.{IsBundleListing};
 
 use crate::bundles::{Told, print_bundle};
 use dir_trait::{Bundle, BundleError, BundleItems, BundleKind, FileName, NoMemory, listing_of};
@@ -43,7 +43,7 @@ fn names_of(alloc: Global, count: usize) -> Result<BTreeMap<FileName, BundleKind
 }
 
 fn listed(alloc: Global, count: usize) -> Result<BundleItems, NoMemory>
-    ensures { IfOk result IsListing }
+    ensures { IfOk result IsBundleListing }
 {
     let names = names_of(alloc, count)?;
     listing_of(alloc, &names)

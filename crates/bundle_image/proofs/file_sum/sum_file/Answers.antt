@@ -1,5 +1,5 @@
 use Rattle.std.proofs.Common.{arith, ◌++◌, ap}
-use Rattle.dir_trait.specs.Bundles.{file_bytes}
+use Rattle.dir_trait.specs.Bundles.{bytes_of_node}
 use Rattle.bundle_image.proofs.FilePieces.{still_begun}
 use Rattle.bundle_image.proofs.Pieces.{carried, sum_whole, sum_long}
 use Rattle.bundle_image.proofs.Reading.{reads_more}
@@ -14,7 +14,7 @@ pub returns-then-branch-clause-sum : goal.returns-then-branch-clause-sum
 returns-then-branch-clause-sum g c t =
     let took = c.in_ok-take_piece.ensures.took c.pieces.invariant.taken.0 c.pieces.invariant.taken.1 in
     sum_whole _ (c.pieces.invariant.taken.0 ++ took.more) _ _ c.if-branch.true
-    (carried _ _ _ (ap (λ tree. file_bytes (tree c.args.path.now)) (c.pieces.invariant.reads.same t)) (took.front t) (c.pieces.invariant.taken.2 t))
+    (carried _ _ _ (ap (λ tree. bytes_of_node (tree c.args.path.now)) (c.pieces.invariant.reads.same t)) (took.front t) (c.pieces.invariant.taken.2 t))
     (c.finish.ensures (c.pieces.invariant.taken.0 ++ took.more) took.taken)
 
 pub pieces-preserved : goal.pieces-preserved
@@ -27,7 +27,7 @@ pieces-preserved g c =
       taken = (
         c.pieces.invariant.taken.0 ++ took.more,
         took.taken,
-        λ t. still_begun _ _ _ (carried _ _ _ (ap (λ tree. file_bytes (tree c.args.path.now)) (c.pieces.invariant.reads.same t)) (took.front t) (c.pieces.invariant.taken.2 t)),
+        λ t. still_begun _ _ _ (carried _ _ _ (ap (λ tree. bytes_of_node (tree c.args.path.now)) (c.pieces.invariant.reads.same t)) (took.front t) (c.pieces.invariant.taken.2 t)),
       );
     }
 

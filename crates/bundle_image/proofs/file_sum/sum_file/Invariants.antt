@@ -1,7 +1,7 @@
 use Rattle.std.proofs.Common.{◌≡◌, ◌≤◌, ◌<◌, ◌-◌, ℕ, true, List, vec_len}
-use Rattle.dir_trait.specs.Bundles.{file_bytes}
-use Rattle.bundle_image.specs.Fronts.{IsBegun}
-use Rattle.bundle_image.specs.FileSums.{HasTaken}
+use Rattle.dir_trait.specs.Bundles.{bytes_of_node}
+use Rattle.bundle_image.specs.Fronts.{IsFrontOrNothing}
+use Rattle.bundle_image.specs.FileSums.{HashingHasTaken}
 use Rattle.bundle_image.specs.Reads.{ReadsWithin}
 use Rattle.bundle_image.proofs.file_sum.sum_file.Given as goal
 
@@ -12,7 +12,7 @@ invariant-pieces g l =
       room : 0 < vec_len l.room;
       within : vec_len l.room ≤ 65536;
       reads : ReadsWithin g.B.Bundle.observed l.path (shown l.initial.bundle) (shown l.bundle);
-      taken : (message : List ℕ) × HasTaken l.hashing message × (g.B.Bundle.observed ≡ true → IsBegun (file_bytes ((shown l.initial.bundle).tree l.path)) message);
+      taken : (message : List ℕ) × HashingHasTaken l.hashing message × (g.B.Bundle.observed ≡ true → IsFrontOrNothing (bytes_of_node ((shown l.initial.bundle).tree l.path)) message);
     }
 
 abbrev pub decreases-pieces : goal.decreases-pieces

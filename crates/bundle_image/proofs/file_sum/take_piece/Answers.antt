@@ -1,6 +1,6 @@
 use Rattle.std.proofs.Common.{arith, ◌≡◌, ◌+◌, ◌≤◌, ◌++◌, ℕ, List, length, take, subst, IsSomeAnd, refl}
 use Rattle.std.proofs.lemmas.Grind.{common_steps}
-use Rattle.dir_trait.specs.Bundles.{file_bytes, Fills}
+use Rattle.dir_trait.specs.Bundles.{bytes_of_node, Fills}
 use Rattle.bundle_image.proofs.FilePieces.{next_front}
 use Rattle.bundle_image.proofs.Reading.{itself, reads_call}
 use Rattle.bundle_image.proofs.file_sum.take_piece.Goals as goal
@@ -21,5 +21,5 @@ returns-clause-took g c message taken = record {
     hashed = c.update.ensures message taken.hashed;
     size = grown c.args.hashing.now.size c.in_ok-count.count (length c.args.room.now) message c.read.new.room taken.size c.in_ok-count.ensures.most c.read.auto.room;
   };
-  front = λ t begun. next_front _ _ _ _ _ _ begun (subst (λ (at : ℕ). IsSomeAnd (file_bytes ((g.B.Bundle.shown c.args.bundle.now).tree c.args.path.now)) (λ f. Fills f at c.args.room.now c.in_ok-count.count c.read.new.room)) taken.size (c.in_ok-count.ensures.read t)) refl;
+  front = λ t begun. next_front _ _ _ _ _ _ begun (subst (λ (at : ℕ). IsSomeAnd (bytes_of_node ((g.B.Bundle.shown c.args.bundle.now).tree c.args.path.now)) (λ f. Fills f at c.args.room.now c.in_ok-count.count c.read.new.room)) taken.size (c.in_ok-count.ensures.read t)) refl;
 }

@@ -44,4 +44,4 @@ pub returns-in-Err-clause-says : goal.returns-in-Err-clause-says
 returns-in-Err-clause-says g c =
     let D = g.D.Dir in
     refused_says D.observed (D.shown c.args.dir.now) (D.shown c.import.new.dir) c.args.path.now c.args.now c.args.draw (bundle_at g.B.Bundle c.args.bundle.now) (bundle_at g.B.Bundle c.import.new.bundle) c.in-Err.error c.import_refusal.result
-    c.import_refusal.ensures (rw c.as_str.ensures at c.in-Err.ensures.refused) (rw c.as_str.ensures at c.in-Err.ensures.turn) (rw c.in-Err.is at c.import.ensures.still) c.in-Err.ensures.another
+    c.import_refusal.ensures (rw c.as_str.ensures at c.in-Err.ensures.refused) (rw c.as_str.ensures at c.in-Err.ensures.turn) (rw c.in-Err.is at c.import.ensures.still) c.in-Err.ensures.by_other_process

@@ -50,7 +50,7 @@ pub returns-in-Err-clause-says : goal.returns-in-Err-clause-says
 returns-in-Err-clause-says g c =
     let D = g.D.Dir in
     refused_says D.observed (D.shown c.args.dir.now) (D.shown c.prepare.new.dir) c.args.wanted.now c.refs.result.now c.args.now c.args.draw.now c.in-Err.error c.build_refusal.result c.refs.ensures
-    (rw c.words.ensures at c.build_refusal.ensures) (rw c.options.ensures at c.in-Err.ensures.refused) c.in-Err.ensures.another c.in-Err.ensures.left
+    (rw c.words.ensures at c.build_refusal.ensures) (rw c.options.ensures at c.in-Err.ensures.refused) c.in-Err.ensures.by_other_process c.in-Err.ensures.left
 
 pub returns-in-Ok-clause-makers : goal.returns-in-Ok-clause-makers
 returns-in-Ok-clause-makers g c t run intent hs began alone k =

@@ -16,7 +16,7 @@ returns-in-Err-clause-refusals g c = subst (λ (r : Refusal). rm_refusal r ≡ t
 pub returns-in-Err-clause-says : goal.returns-in-Err-clause-says
 returns-in-Err-clause-says g c =
     let D = g.D.Dir in
-    refused_says D.observed (D.shown c.args.dir.now) (D.shown c.remove_pod.new.dir) c.args.pod c.args.now c.in-Err.error c.remove_refusal.result c.remove_refusal.ensures c.in-Err.ensures.cause c.in-Err.ensures.another c.in-Err.ensures.refused (λ is. c.remove_pod.ensures.lawful (c.in-Err.is ∙ ap Err is))
+    refused_says D.observed (D.shown c.args.dir.now) (D.shown c.remove_pod.new.dir) c.args.pod c.args.now c.in-Err.error c.remove_refusal.result c.remove_refusal.ensures c.in-Err.ensures.cause c.in-Err.ensures.by_other_process c.in-Err.ensures.refused (λ is. c.remove_pod.ensures.lawful (c.in-Err.is ∙ ap Err is))
 
 pub returns-in-Ok-clause-says : goal.returns-in-Ok-clause-says
 returns-in-Ok-clause-says g c = (c.requires.line, λ t. record { did = c.in-Ok.ensures.removed t; first = c.in-Ok.ensures.first t })

@@ -93,7 +93,7 @@ returns-in-Err-clause-says g c =
     let D = g.D.Dir in
     let S = g.S.Spawner in
     unmade_says D.observed S.observed c.args.wanted.now c.args.address.now c.args.now c.args.draw.now (D.shown c.args.dir.now) (D.shown c.prepare.new.dir) (S.shown c.args.spawner.now) (S.shown c.args.spawner.now) (Err c.build_refusal.result)
-    c.refs.result.now c.in-Err.error c.build_refusal.result refl c.refs.ensures (rw c.words.ensures at c.build_refusal.ensures) (rw c.options.ensures at c.in-Err.ensures.refused) c.in-Err.ensures.another c.in-Err.ensures.left refl
+    c.refs.result.now c.in-Err.error c.build_refusal.result refl c.refs.ensures (rw c.words.ensures at c.build_refusal.ensures) (rw c.options.ensures at c.in-Err.ensures.refused) c.in-Err.ensures.by_other_process c.in-Err.ensures.left refl
 
 pub returns-in-Ok-clause-makers : goal.returns-in-Ok-clause-makers
 returns-in-Ok-clause-makers g c t run intent hs began alone k =

@@ -1,7 +1,7 @@
 use Rattle.std.proofs.Common.{rules, ◌≡◌, ℕ, length, take, subst}
+use Rattle.plain_laws.proofs.Fronts.{short_piece}
 use Rattle.dir_trait.specs.DirCalls.{HeldBetween}
 use Rattle.dir_files.specs.Reads.{inner_at, TellsFile, IsPiece}
-use Rattle.dir_files.proofs.Fronts.{short_piece}
 use Rattle.dir_files.proofs.Reading.{only_call, missing_call, told_bytes}
 use Rattle.dir_files.proofs.file.read_piece.Goals as goal
 

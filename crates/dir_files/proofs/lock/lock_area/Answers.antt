@@ -54,8 +54,8 @@ returns-in-Err-try_lock-clause-busy g c is t =
     let asks = c.in-Err-try_lock.ensures.called in
     finds_busy {area = c.args.area} {mode = c.args.mode} t locked c.in-Ok.ensures.called asks c.close.ensures.called
 
-pub returns-in-Err-try_lock-clause-another : goal.returns-in-Err-try_lock-clause-another
-returns-in-Err-try_lock-clause-another g c is t =
+pub returns-in-Err-try_lock-clause-by_other_process : goal.returns-in-Err-try_lock-clause-by_other_process
+returns-in-Err-try_lock-clause-by_other_process g c is t =
     let locked = c.lock_error.ensures.busy cc in
     let asks = c.in-Err-try_lock.ensures.called in
     finds_busy_elsewhere {area = c.args.area} {mode = c.args.mode} t locked c.in-Ok.ensures.called asks c.close.ensures.called

@@ -2,7 +2,7 @@ use Rattle.std.proofs.Common.{◌≡◌, ◌+◌, ◌≤◌, Bool, true, false, 
 use Rattle.std.specs.List.{list_any}
 use Rattle.std.proofs.lemmas.Fn.{filter_same}
 use Rattle.dir_model.specs.declared.opening.Holding.{Holding}
-use Rattle.dir_model.specs.Local.{is_number}
+use Rattle.dir_model.specs.Local.{is_handle_of}
 use Rattle.dir_memory.proofs.local.drop_held.Goals as goal
 
 least : {X : Type 0} (p : X → Bool) (xs : List X) → length (filter (λ x. not (p x)) xs) ≤ length xs
@@ -30,7 +30,7 @@ returns-clause-items c = items c
 pub returns-clause-open : goal.returns-clause-open
 returns-clause-open c any =
     let before : c.as_slice-before.result.now ≡ c.args.held.now.items = c.as_slice-before.ensures.value in
-    let after : c.as_slice-after.result.now ≡ filter (λ h. not (is_number c.args.handle h)) c.args.held.now.items = c.as_slice-after.ensures.value ∙ items c in
-    let less = fewer (is_number c.args.handle) c.args.held.now.items any in
-    let fact : length c.as_slice-after.result.now + 1 ≤ length c.as_slice-before.result.now = subst (λ (l : List Holding). length l + 1 ≤ length c.as_slice-before.result.now) (sym after) (subst (λ (l : List Holding). length (filter (λ h. not (is_number c.args.handle h)) c.args.held.now.items) + 1 ≤ length l) (sym before) less) in
+    let after : c.as_slice-after.result.now ≡ filter (λ h. not (is_handle_of c.args.handle h)) c.args.held.now.items = c.as_slice-after.ensures.value ∙ items c in
+    let less = fewer (is_handle_of c.args.handle) c.args.held.now.items any in
+    let fact : length c.as_slice-after.result.now + 1 ≤ length c.as_slice-before.result.now = subst (λ (l : List Holding). length l + 1 ≤ length c.as_slice-before.result.now) (sym after) (subst (λ (l : List Holding). length (filter (λ h. not (is_handle_of c.args.handle h)) c.args.held.now.items) + 1 ≤ length l) (sym before) less) in
     omega (arith, c.as_slice-before.ensures.len, c.as_slice-after.ensures.len, fact)

@@ -1,6 +1,7 @@
 use Rattle.std.proofs.Common.{◌+◌, Result, Ok, Err, OnOk, sym, ap, ◌∙◌}
+use Rattle.plain_laws.proofs.Lists.{filter_kept}
 use Rattle.dir_memory.specs.Schedules.{is_due, with_steps}
-use Rattle.dir_memory.proofs.Schedules.{none_due, none_later}
+use Rattle.dir_memory.proofs.Schedules.{none_due}
 use Rattle.dir_memory.proofs.step.steps_come.Goals as goal
 
 then_so : {T E A B : Type 0} (r : Result T E) → OnOk r A → (A → B) → OnOk r B
@@ -15,4 +16,4 @@ returns-clause-came c =
 pub returns-clause-left : goal.returns-clause-left
 returns-clause-left c =
     let t = is_due (c.args.calls + 1) c.args.listing in
-    then_so c.others_step.result c.others_step.ensures.all (λ all. sym (none_later t c.others_step.new.pending.items all) ∙ c.others_step.ensures.later)
+    then_so c.others_step.result c.others_step.ensures.all (λ all. sym (filter_kept t c.others_step.new.pending.items all) ∙ c.others_step.ensures.later)

@@ -1,9 +1,10 @@
 use Rattle.std.proofs.Common.{◌≡◌, true, false}
+use Rattle.plain_laws.proofs.Results.{if_ok}
 use Rattle.folder_building.specs.Sources.{IsLike, LikeContent}
 use Rattle.folder_building.specs.Stored.{WasLike, HadContent, reads_content}
-use Rattle.folder_building.specs.Making.{Adds}
-use Rattle.folder_building.specs.Changes.{Makes, Gives, Takes}
-use Rattle.folder_building.proofs.Copying.{worked_here, stray_here, ok_more, ok_any}
+use Rattle.folder_building.specs.Making.{AddsPlanEntry}
+use Rattle.folder_building.specs.Changes.{Makes, MakesGivenFile, MakesCopiedFile}
+use Rattle.folder_building.proofs.Copying.{worked_here, stray_here, ok_any}
 use Rattle.folder_building.proofs.ReadsOf.{copies_here}
 use Rattle.folder_building.proofs.Filling.{dir_adds, given_adds, copied_adds, adds_as}
 use Rattle.folder_building.proofs.build.add.Goals as goal
@@ -21,7 +22,7 @@ returns-in-Directory-clause-done g c =
     let spot = c.args.spot.now in
     let old = D.shown c.args.dir.now in
     let new = D.shown c.make_dir.new.dir in
-    ok_more (λ done. D.observed ≡ true → Makes spot e.path false old new) (λ done. Adds D.observed (g.S.Source.shown c.args.source.now) spot e old new) c.make_dir.result (λ done f. adds_as e c.in-Directory.is (dir_adds f)) (rw c.as_str-path.ensures at c.make_dir.ensures.done)
+    if_ok (λ done. D.observed ≡ true → Makes spot e.path false old new) (λ done. AddsPlanEntry D.observed (g.S.Source.shown c.args.source.now) spot e old new) c.make_dir.result (λ done f. adds_as e c.in-Directory.is (dir_adds f)) (rw c.as_str-path.ensures at c.make_dir.ensures.done)
 
 pub returns-in-Given-clause-worked : goal.returns-in-Given-clause-worked
 returns-in-Given-clause-worked g c = worked_here c.args.spot.now (g.S.Source.shown c.args.source.now) c.add_given.ensures.worked
@@ -36,7 +37,7 @@ returns-in-Given-clause-done g c =
     let spot = c.args.spot.now in
     let old = D.shown c.args.dir.now in
     let new = D.shown c.add_given.new.dir in
-    ok_more (λ done. Gives D.observed spot e.path c.in-Given.bytes old new) (λ done. Adds D.observed (g.S.Source.shown c.args.source.now) spot e old new) c.add_given.result (λ done f. adds_as e c.in-Given.is (given_adds f)) (rw (c.as_str-path.ensures, c.as_slice.ensures) at c.add_given.ensures.done)
+    if_ok (λ done. MakesGivenFile D.observed spot e.path c.in-Given.bytes old new) (λ done. AddsPlanEntry D.observed (g.S.Source.shown c.args.source.now) spot e old new) c.add_given.result (λ done f. adds_as e c.in-Given.is (given_adds f)) (rw (c.as_str-path.ensures, c.as_slice.ensures) at c.add_given.ensures.done)
 
 pub returns-in-Copied-clause-done : goal.returns-in-Copied-clause-done
 returns-in-Copied-clause-done g c =
@@ -46,7 +47,7 @@ returns-in-Copied-clause-done g c =
     let spot = c.args.spot.now in
     let old = D.shown c.args.dir.now in
     let new = D.shown c.add_copied.new.dir in
-    ok_more (λ done. Takes D.observed (S.shown c.args.source.now) spot e.path c.in-Copied.size c.in-Copied.sha old new) (λ done. Adds D.observed (S.shown c.args.source.now) spot e old new) c.add_copied.result (λ done f. adds_as e c.in-Copied.is (copied_adds f)) (rw c.as_str-path.ensures at c.add_copied.ensures.done)
+    if_ok (λ done. MakesCopiedFile D.observed (S.shown c.args.source.now) spot e.path c.in-Copied.size c.in-Copied.sha old new) (λ done. AddsPlanEntry D.observed (S.shown c.args.source.now) spot e old new) c.add_copied.result (λ done f. adds_as e c.in-Copied.is (copied_adds f)) (rw c.as_str-path.ensures at c.add_copied.ensures.done)
 
 pub returns-in-Copied-clause-unlike : goal.returns-in-Copied-clause-unlike
 returns-in-Copied-clause-unlike g c n h =
@@ -59,7 +60,7 @@ returns-in-Copied-clause-lacks g c n h t = rw c.in-Copied.is (c.add_copied.ensur
 pub returns-in-Copied-clause-like : goal.returns-in-Copied-clause-like
 returns-in-Copied-clause-like g c =
     let S = g.S.Source in
-    ok_more (λ done. IsLike (S.shown c.args.source.now) c.in-Copied.origin c.in-Copied.size c.in-Copied.sha) (λ done. LikeContent (S.shown c.args.source.now) c.args.entry.now.content) c.add_copied.result (λ done f. rw c.in-Copied.is f) c.add_copied.ensures.like
+    if_ok (λ done. IsLike (S.shown c.args.source.now) c.in-Copied.origin c.in-Copied.size c.in-Copied.sha) (λ done. LikeContent (S.shown c.args.source.now) c.args.entry.now.content) c.add_copied.result (λ done f. rw c.in-Copied.is f) c.add_copied.ensures.like
 
 pub returns-in-Directory-clause-like : goal.returns-in-Directory-clause-like
 returns-in-Directory-clause-like g c = ok_any c.make_dir.result (rw c.in-Directory.is tt)
@@ -73,7 +74,7 @@ returns-in-Copied-clause-had g c =
     let S = g.S.Source in
     let old = D.shown c.args.dir.now in
     let new = D.shown c.add_copied.new.dir in
-    ok_more (λ done. D.observed ≡ true → WasLike (S.stored c.in-Copied.origin) c.in-Copied.size c.in-Copied.sha old new) (λ done. D.observed ≡ true → HadContent S.stored c.args.entry.now.content old new) c.add_copied.result
+    if_ok (λ done. D.observed ≡ true → WasLike (S.stored c.in-Copied.origin) c.in-Copied.size c.in-Copied.sha old new) (λ done. D.observed ≡ true → HadContent S.stored c.args.entry.now.content old new) c.add_copied.result
     (λ done f t. rw c.in-Copied.is (f t)) c.add_copied.ensures.had
 
 pub returns-in-Directory-clause-had : goal.returns-in-Directory-clause-had

@@ -1,5 +1,6 @@
 use Rattle.std.proofs.Common.{◌≡◌, true, IsErrOf, rules, refl, subst, List, ◌∙◌}
 use Rattle.std.proofs.lemmas.List.{take_all}
+use Rattle.plain_laws.proofs.Results.{any_err}
 use Rattle.folder_building.specs.declared.plan.PlanEntry.{PlanEntry}
 use Rattle.folder_building.specs.declared.error.BuildError.TheVariants.{Stray, Unlike}
 use Rattle.folder_building.specs.Sources.{AreLike}
@@ -8,7 +9,7 @@ use Rattle.folder_building.specs.Making.{FillsWith}
 use Rattle.folder_building.proofs.Working.{worked_none, worked_more}
 use Rattle.folder_building.proofs.ReadsOf.{copies_entry}
 use Rattle.folder_building.proofs.Strays.{stray_after}
-use Rattle.folder_building.proofs.Copying.{same_none, same_more, worked_same, stray_same, err_any}
+use Rattle.folder_building.proofs.Copying.{same_none, same_more, worked_same, stray_same}
 use Rattle.folder_building.proofs.Filling.{fills_none, fills_next, begins_next, planned_path, planned_origin, unlike_at, like_next}
 use Rattle.folder_building.proofs.Stored.{had_next, lacks_at}
 use Rattle.folder_building.proofs.build.add_all.Goals as goal
@@ -55,7 +56,7 @@ returns-in_err-add-clause-refused g c =
     let D = g.D.Dir in
     let S = g.S.Source in
     let i = c.entries.invariant in
-    err_any _ c.from_residual.result (λ t. begins_next D.observed (S.shown c.args.source.now) c.args.spot.now c.args.plan.now c.entries.entry-index c.entry-item.result c.entries-test.true c.entry-item.is c.requires.plan t i.same i.filled (c.in_err-add.ensures.refused t))
+    any_err _ c.from_residual.result (λ t. begins_next D.observed (S.shown c.args.source.now) c.args.spot.now c.args.plan.now c.entries.entry-index c.entry-item.result c.entries-test.true c.entry-item.is c.requires.plan t i.same i.filled (c.in_err-add.ensures.refused t))
 
 pub returns-clause-done : goal.returns-clause-done
 returns-clause-done g c =

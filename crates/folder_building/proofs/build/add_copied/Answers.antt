@@ -1,13 +1,14 @@
 use Rattle.std.proofs.Common.{◌≡◌, true, IsErrOf, rules}
+use Rattle.plain_laws.proofs.Results.{if_ok, if_err}
 use Rattle.folder_building.specs.declared.error.BuildError.TheVariants.{Stray}
 use Rattle.folder_building.specs.Stored.{WasLike, reads_stored}
 use Rattle.folder_building.specs.Making.{Copies, SpoilsUnder}
-use Rattle.folder_building.specs.Changes.{Takes, TriesUnder}
+use Rattle.folder_building.specs.Changes.{MakesCopiedFile, TriesCopiedFile}
 use Rattle.folder_building.proofs.Working.{worked_more}
 use Rattle.folder_building.proofs.ReadsOf.{copies_here}
 use Rattle.folder_building.proofs.Strays.{stray_after}
 use Rattle.folder_building.proofs.Pieces.{file_spoilt}
-use Rattle.folder_building.proofs.Copying.{worked_here, stray_here, ok_more, err_more, takes_file}
+use Rattle.folder_building.proofs.Copying.{worked_here, stray_here, takes_file}
 use Rattle.folder_building.proofs.Stored.{unlike_after, like_after}
 use Rattle.folder_building.proofs.build.add_copied.Goals as goal
 
@@ -35,7 +36,7 @@ returns-clause-done g c =
     let old = D.shown c.args.dir.now in
     let mid = D.shown c.make_file.new.dir in
     let new = D.shown c.copy.new.dir in
-    ok_more (λ done. Copies D.observed source spot path c.args.size c.args.sha mid new) (λ done. Takes D.observed source spot path c.args.size c.args.sha old new) c.copy.result (λ done w. takes_file old c.in_ok-make_file.ensures.done w) c.copy.ensures.done
+    if_ok (λ done. Copies D.observed source spot path c.args.size c.args.sha mid new) (λ done. MakesCopiedFile D.observed source spot path c.args.size c.args.sha old new) c.copy.result (λ done w. takes_file old c.in_ok-make_file.ensures.done w) c.copy.ensures.done
 
 pub returns-clause-refused : goal.returns-clause-refused
 returns-clause-refused g c =
@@ -46,7 +47,7 @@ returns-clause-refused g c =
     let old = D.shown c.args.dir.now in
     let mid = D.shown c.make_file.new.dir in
     let new = D.shown c.copy.new.dir in
-    err_more (λ e. D.observed ≡ true → SpoilsUnder source spot path mid new) (λ e. D.observed ≡ true → TriesUnder source spot path old new) c.copy.result (λ e f t. file_spoilt spot path source old mid new (c.in_ok-make_file.ensures.done t) (f t)) c.copy.ensures.refused
+    if_err (λ e. D.observed ≡ true → SpoilsUnder source spot path mid new) (λ e. D.observed ≡ true → TriesCopiedFile source spot path old new) c.copy.result (λ e f t. file_spoilt spot path source old mid new (c.in_ok-make_file.ensures.done t) (f t)) c.copy.ensures.refused
 
 pub returns-clause-lacks : goal.returns-clause-lacks
 returns-clause-lacks g c n h t = unlike_after (g.D.Dir.shown c.args.dir.now) (g.D.Dir.shown c.make_file.new.dir) (c.make_file.ensures.worked.extends t) c.make_file.ensures.worked.same (g.D.Dir.shown c.copy.new.dir) (c.copy.ensures.lacks n h t)
@@ -58,7 +59,7 @@ returns-clause-had g c =
     let old = D.shown c.args.dir.now in
     let mid = D.shown c.make_file.new.dir in
     let new = D.shown c.copy.new.dir in
-    ok_more (λ done. D.observed ≡ true → WasLike stored c.args.size c.args.sha mid new) (λ done. D.observed ≡ true → WasLike stored c.args.size c.args.sha old new) c.copy.result
+    if_ok (λ done. D.observed ≡ true → WasLike stored c.args.size c.args.sha mid new) (λ done. D.observed ≡ true → WasLike stored c.args.size c.args.sha old new) c.copy.result
     (λ done f t. like_after old mid (c.make_file.ensures.worked.extends t) c.make_file.ensures.worked.same new (f t)) c.copy.ensures.had
 
 pub returns-in_err-make_file-clause-copies : goal.returns-in_err-make_file-clause-copies

@@ -1,9 +1,10 @@
 use Rattle.std.proofs.Common.{◌≡◌, true}
-use Rattle.folder_building.specs.Making.{Writes, Spoils}
-use Rattle.folder_building.specs.Changes.{Gives, TriesFile}
+use Rattle.plain_laws.proofs.Results.{if_ok, if_err}
+use Rattle.folder_building.specs.Making.{AppendsInPieces, Spoils}
+use Rattle.folder_building.specs.Changes.{MakesGivenFile, TriesFile}
 use Rattle.folder_building.proofs.Working.{worked_more}
 use Rattle.folder_building.proofs.Strays.{stray_after}
-use Rattle.folder_building.proofs.Copying.{ok_more, err_more, gives_file, gives_none}
+use Rattle.folder_building.proofs.Copying.{gives_file, gives_none}
 use Rattle.folder_building.proofs.build.add_given.Goals as goal
 
 pub returns-clause-worked : goal.returns-clause-worked
@@ -20,7 +21,7 @@ returns-clause-done g c =
     let old = D.shown c.args.dir.now in
     let mid = D.shown c.make_file.new.dir in
     let new = D.shown c.write.new.dir in
-    ok_more (λ done. Writes D.observed spot path c.args.bytes.now mid new) (λ done. Gives D.observed spot path c.args.bytes.now old new) c.write.result (λ done w. gives_file old c.in_ok-make_file.ensures.done w) c.write.ensures.done
+    if_ok (λ done. AppendsInPieces D.observed spot path c.args.bytes.now mid new) (λ done. MakesGivenFile D.observed spot path c.args.bytes.now old new) c.write.result (λ done w. gives_file old c.in_ok-make_file.ensures.done w) c.write.ensures.done
 
 pub returns-clause-refused : goal.returns-clause-refused
 returns-clause-refused g c =
@@ -30,4 +31,4 @@ returns-clause-refused g c =
     let old = D.shown c.args.dir.now in
     let mid = D.shown c.make_file.new.dir in
     let new = D.shown c.write.new.dir in
-    err_more (λ e. D.observed ≡ true → Spoils spot path mid new) (λ e. D.observed ≡ true → TriesFile spot path old new) c.write.result (λ e f t. gives_none spot path old mid new (c.in_ok-make_file.ensures.done t) (f t)) c.write.ensures.refused
+    if_err (λ e. D.observed ≡ true → Spoils spot path mid new) (λ e. D.observed ≡ true → TriesFile spot path old new) c.write.result (λ e f t. gives_none spot path old mid new (c.in_ok-make_file.ensures.done t) (f t)) c.write.ensures.refused

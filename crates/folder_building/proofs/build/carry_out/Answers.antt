@@ -1,11 +1,12 @@
 use Rattle.std.proofs.Common.{◌≡◌, true}
-use Rattle.folder_building.specs.Making.{CarriesOut, Begins}
+use Rattle.plain_laws.proofs.Results.{if_ok, if_err}
+use Rattle.folder_building.specs.Making.{CarriesOut, BeginsPlan}
 use Rattle.folder_building.specs.Stored.{reads_contents}
 use Rattle.folder_building.specs.Changes.{SyncsAll, UnsyncsAll}
 use Rattle.folder_building.proofs.Working.{worked_more}
 use Rattle.folder_building.proofs.ReadsOf.{copies_here}
 use Rattle.folder_building.proofs.Strays.{stray_after}
-use Rattle.folder_building.proofs.Copying.{worked_here, stray_here, ok_more, ok_any, err_more}
+use Rattle.folder_building.proofs.Copying.{worked_here, stray_here, ok_any}
 use Rattle.folder_building.proofs.Filling.{carries_out, begins_after}
 use Rattle.folder_building.proofs.Stored.{all_had_before}
 use Rattle.folder_building.proofs.build.carry_out.Goals as goal
@@ -26,7 +27,7 @@ returns-clause-done g c =
     let old = D.shown c.args.dir.now in
     let mid = D.shown c.add_all.new.dir in
     let new = D.shown c.sync_all.new.dir in
-    ok_more (λ done. D.observed ≡ true → SyncsAll c.args.spot plan mid new) (λ done. CarriesOut D.observed source c.args.spot plan old new) c.sync_all.result (λ done f. carries_out D.observed source c.args.spot plan old mid new c.in_ok-add_all.ensures.done f) c.sync_all.ensures.done
+    if_ok (λ done. D.observed ≡ true → SyncsAll c.args.spot plan mid new) (λ done. CarriesOut D.observed source c.args.spot plan old new) c.sync_all.result (λ done f. carries_out D.observed source c.args.spot plan old mid new c.in_ok-add_all.ensures.done f) c.sync_all.ensures.done
 
 pub returns-clause-refused : goal.returns-clause-refused
 returns-clause-refused g c =
@@ -36,7 +37,7 @@ returns-clause-refused g c =
     let old = D.shown c.args.dir.now in
     let mid = D.shown c.add_all.new.dir in
     let new = D.shown c.sync_all.new.dir in
-    err_more (λ e. D.observed ≡ true → UnsyncsAll c.args.spot plan mid new) (λ e. D.observed ≡ true → Begins source c.args.spot plan old new) c.sync_all.result (λ e f t. begins_after D.observed source c.args.spot plan old mid new t c.in_ok-add_all.ensures.done (f t)) c.sync_all.ensures.refused
+    if_err (λ e. D.observed ≡ true → UnsyncsAll c.args.spot plan mid new) (λ e. D.observed ≡ true → BeginsPlan source c.args.spot plan old new) c.sync_all.result (λ e f t. begins_after D.observed source c.args.spot plan old mid new t c.in_ok-add_all.ensures.done (f t)) c.sync_all.ensures.refused
 
 pub returns-clause-had : goal.returns-clause-had
 returns-clause-had g c =

@@ -1,19 +1,20 @@
 use Rattle.std.proofs.Common.{◌≡◌, refl}
 use Rattle.dir_model.specs.declared.request.Request.TheVariants.{MakeFileIn}
 use Rattle.dir_model.specs.declared.request.Reply.TheVariants.{Refused}
+use Rattle.dir_model.proofs.Spots.{spot_self}
 use Rattle.folder_building.specs.declared.error.BuildError.TheVariants.{Stray}
 use Rattle.folder_building.specs.Work.{builds_at}
 use Rattle.folder_building.specs.Making.{inner_at}
-use Rattle.folder_building.proofs.Working.{worked_call, at_spot}
+use Rattle.folder_building.proofs.Working.{worked_call}
 use Rattle.folder_building.proofs.Strays.{stray_file, stray_call}
 use Rattle.folder_building.proofs.Steps.{file_makes, file_refuses}
 use Rattle.folder_building.proofs.build.make_file.Goals as goal
 
 pub returns-in-Ok-clause-worked : goal.returns-in-Ok-clause-worked
-returns-in-Ok-clause-worked g c = worked_call (at_spot c.args.spot.now) refl c.in-Ok.ensures.called
+returns-in-Ok-clause-worked g c = worked_call (spot_self c.args.spot.now) refl c.in-Ok.ensures.called
 
 pub returns-in-Err-clause-worked : goal.returns-in-Err-clause-worked
-returns-in-Err-clause-worked g c = worked_call (at_spot c.args.spot.now) refl c.in-Err.ensures.called
+returns-in-Err-clause-worked g c = worked_call (spot_self c.args.spot.now) refl c.in-Err.ensures.called
 
 pub returns-in-Ok-clause-done : goal.returns-in-Ok-clause-done
 returns-in-Ok-clause-done g c t = file_makes c.args.spot.now c.args.path.now t c.in-Ok.ensures.called
@@ -25,4 +26,4 @@ pub returns-in-Err-clause-stray : goal.returns-in-Err-clause-stray
 returns-in-Err-clause-stray g c h t =
     let is : c.build_error.result ≡ Stray = cc in
     let inner = inner_at c.args.spot.now c.args.path.now in
-    stray_call (builds_at c.args.spot.now) (MakeFileIn inner) (Refused c.in-Err.error 0) (at_spot c.args.spot.now) (stray_file inner c.in-Err.error c.in-Err.ensures.refusals (c.build_error.ensures.stray is)) (c.in-Err.ensures.called.step t)
+    stray_call (builds_at c.args.spot.now) (MakeFileIn inner) (Refused c.in-Err.error 0) (spot_self c.args.spot.now) (stray_file inner c.in-Err.error c.in-Err.ensures.refusals (c.build_error.ensures.stray is)) (c.in-Err.ensures.called.step t)

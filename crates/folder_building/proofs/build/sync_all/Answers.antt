@@ -1,10 +1,10 @@
 use Rattle.std.proofs.Common.{◌≡◌, true, [], drop, IsErrOf, rules}
 use Rattle.std.proofs.lemmas.List.{drop_all}
+use Rattle.plain_laws.proofs.Results.{if_ok, if_err, any_err}
 use Rattle.folder_building.specs.declared.error.BuildError.TheVariants.{Stray}
-use Rattle.folder_building.specs.Changes.{Syncs, Unsyncs, SyncsAll, UnsyncsAll}
+use Rattle.folder_building.specs.Changes.{SyncsPath, Unsyncs, SyncsAll, UnsyncsAll}
 use Rattle.folder_building.proofs.Working.{worked_none, worked_more}
 use Rattle.folder_building.proofs.Strays.{stray_after}
-use Rattle.folder_building.proofs.Copying.{ok_more, err_more, err_any}
 use Rattle.folder_building.proofs.Filling.{synced_none, synced_next, unsynced_next, synced_all, unsynced_all, planned_path}
 use Rattle.folder_building.proofs.build.sync_all.Goals as goal
 
@@ -38,7 +38,7 @@ pub returns-in_err-sync-clause-refused : goal.returns-in_err-sync-clause-refused
 returns-in_err-sync-clause-refused g c =
     let D = g.D.Dir in
     let i = c.entries.invariant in
-    err_any _ c.from_residual.result (λ t. unsynced_next c.args.spot.now c.args.plan.now c.entries.entry-index c.entry-item.result c.entries-test.true c.entry-item.is (D.shown c.args.dir.now) (D.shown c.entries.dir) (D.shown c.sync.new.dir) (i.synced t) (rw c.as_str.ensures at (c.in_err-sync.ensures.refused t)))
+    any_err _ c.from_residual.result (λ t. unsynced_next c.args.spot.now c.args.plan.now c.entries.entry-index c.entry-item.result c.entries-test.true c.entry-item.is (D.shown c.args.dir.now) (D.shown c.entries.dir) (D.shown c.sync.new.dir) (i.synced t) (rw c.as_str.ensures at (c.in_err-sync.ensures.refused t)))
 
 pub returns-clause-worked : goal.returns-clause-worked
 returns-clause-worked g c = worked_more c.entries.invariant.worked c.sync-2.ensures.worked
@@ -55,7 +55,7 @@ returns-clause-done g c =
     let mid = D.shown c.entries.dir in
     let new = D.shown c.sync-2.new.dir in
     let left = drop c.entries.entry-index plan in
-    ok_more (λ done. D.observed ≡ true → Syncs spot [] mid new) (λ done. D.observed ≡ true → SyncsAll spot plan old new) c.sync-2.result (λ done f t. synced_all spot plan old mid new left (drop_all c.entries.entry-index plan c.entries-test.false) (c.entries.invariant.synced t) (f t)) c.sync-2.ensures.done
+    if_ok (λ done. D.observed ≡ true → SyncsPath spot [] mid new) (λ done. D.observed ≡ true → SyncsAll spot plan old new) c.sync-2.result (λ done f t. synced_all spot plan old mid new left (drop_all c.entries.entry-index plan c.entries-test.false) (c.entries.invariant.synced t) (f t)) c.sync-2.ensures.done
 
 pub returns-clause-refused : goal.returns-clause-refused
 returns-clause-refused g c =
@@ -66,4 +66,4 @@ returns-clause-refused g c =
     let mid = D.shown c.entries.dir in
     let new = D.shown c.sync-2.new.dir in
     let left = drop c.entries.entry-index plan in
-    err_more (λ e. D.observed ≡ true → Unsyncs spot [] mid new) (λ e. D.observed ≡ true → UnsyncsAll spot plan old new) c.sync-2.result (λ e f t. unsynced_all spot plan old mid new left (c.entries.invariant.synced t) (f t)) c.sync-2.ensures.refused
+    if_err (λ e. D.observed ≡ true → Unsyncs spot [] mid new) (λ e. D.observed ≡ true → UnsyncsAll spot plan old new) c.sync-2.result (λ e f t. unsynced_all spot plan old mid new left (c.entries.invariant.synced t) (f t)) c.sync-2.ensures.refused

@@ -1,10 +1,11 @@
 use Rattle.std.proofs.Common.{◌≡◌, ◌==◌, [], length, IsErrOf, rules, arith}
 use Rattle.std.specs.List.{concat}
+use Rattle.plain_laws.proofs.Results.{any_err}
 use Rattle.folder_building.specs.declared.error.BuildError.TheVariants.{Stray, Unlike}
 use Rattle.folder_building.proofs.Working.{worked_none, worked_more}
 use Rattle.folder_building.proofs.Strays.{stray_after}
 use Rattle.folder_building.proofs.Pieces.{under_spoils, under_given_up}
-use Rattle.folder_building.proofs.Copying.{same_none, same_more, worked_same, stray_same, copies_none, copies_more, copies_all, err_any, front_none, front_more, longer_unlike, ended_unlike, ended_like, short}
+use Rattle.folder_building.proofs.Copying.{same_none, same_more, worked_same, stray_same, copies_none, copies_more, copies_all, front_none, front_more, longer_unlike, ended_unlike, ended_like, short}
 use Rattle.folder_building.proofs.Stored.{seen_none, seen_more, unlike_past, unlike_ended, like_ended}
 use Rattle.folder_building.proofs.copy.copy.Goals as goal
 
@@ -35,7 +36,7 @@ returns-in_err-count-clause-refused g c =
     let D = g.D.Dir in
     let S = g.S.Source in
     let i = c.pieces.invariant in
-    err_any _ c.from_residual-in_err-count.result (λ t. under_spoils c.args.spot.now c.args.path.now (S.shown c.args.source.now) (S.shown c.pieces.source) (D.shown c.args.dir.now) (D.shown c.pieces.dir) (D.shown c.copy_piece.new.dir) i.copied.pieces i.same (i.copied.appends t) (c.in_err-count.ensures.refused t))
+    any_err _ c.from_residual-in_err-count.result (λ t. under_spoils c.args.spot.now c.args.path.now (S.shown c.args.source.now) (S.shown c.pieces.source) (D.shown c.args.dir.now) (D.shown c.pieces.dir) (D.shown c.copy_piece.new.dir) i.copied.pieces i.same (i.copied.appends t) (c.in_err-count.ensures.refused t))
 
 pub pieces-preserved : goal.pieces-preserved
 pieces-preserved g c =

@@ -1,11 +1,12 @@
 use Rattle.std.proofs.Common.{IsErrOf, rules, arith}
 use Rattle.std.proofs.lemmas.List.{drop_all}
 use Rattle.std.proofs.lemmas.List.Folds.{drop_split}
+use Rattle.plain_laws.proofs.Results.{any_err}
 use Rattle.folder_building.specs.declared.error.BuildError.TheVariants.{Stray}
 use Rattle.folder_building.proofs.Working.{worked_none, worked_more}
 use Rattle.folder_building.proofs.Strays.{stray_after}
 use Rattle.folder_building.proofs.Pieces.{appends_spoilt}
-use Rattle.folder_building.proofs.Copying.{writes_none, writes_more, writes_all, err_any}
+use Rattle.folder_building.proofs.Copying.{writes_none, writes_more, writes_all}
 use Rattle.folder_building.proofs.copy.write.Goals as goal
 
 pub pieces-init : goal.pieces-init
@@ -27,7 +28,7 @@ pub returns-in_err-append-clause-refused : goal.returns-in_err-append-clause-ref
 returns-in_err-append-clause-refused g c =
     let D = g.D.Dir in
     let i = c.pieces.invariant in
-    err_any _ c.from_residual.result (λ t. appends_spoilt c.args.spot.now c.args.path.now (D.shown c.args.dir.now) (D.shown c.pieces.dir) (D.shown c.append.new.dir) i.written.writes.pieces (i.written.writes.appends t) (c.in_err-append.ensures.refused t))
+    any_err _ c.from_residual.result (λ t. appends_spoilt c.args.spot.now c.args.path.now (D.shown c.args.dir.now) (D.shown c.pieces.dir) (D.shown c.append.new.dir) i.written.writes.pieces (i.written.writes.appends t) (c.in_err-append.ensures.refused t))
 
 pub pieces-preserved : goal.pieces-preserved
 pieces-preserved g c =

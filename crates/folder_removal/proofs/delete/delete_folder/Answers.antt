@@ -1,5 +1,6 @@
 use Rattle.std.proofs.Common.{◌≡◌, true, arith, inl, IsErrOf, ℕ, refl, subst, ◌∙◌}
 use Rattle.std.proofs.lemmas.Grind.{common_steps}
+use Rattle.plain_laws.proofs.Results.{err_all}
 use Rattle.dir_model.specs.declared.request.Request.TheVariants.{RemoveFolder}
 use Rattle.dir_model.specs.declared.request.Reply.TheVariants.{Done}
 use Rattle.dir_model.specs.Calls.{CallStep}
@@ -9,7 +10,6 @@ use Rattle.folder_removal.specs.declared.error.DeleteError.TheVariants.{Stray}
 use Rattle.folder_removal.specs.Known.{OnlyTries}
 use Rattle.folder_removal.specs.Removal.{KeepsFolders}
 use Rattle.folder_removal.proofs.Keeping.{kept_spared, kept_more, kept_call}
-use Rattle.folder_removal.proofs.Steps.{err_any}
 use Rattle.folder_removal.proofs.Strays.{folder_stray, stray_folder, listing_stray, root_at_hand, stray_emptied}
 use Rattle.folder_removal.proofs.Knowing.{tries_tasks, tries_folder, deletes}
 use Rattle.folder_removal.proofs.delete.delete_folder.Goals as goal
@@ -39,12 +39,12 @@ returns-in-Ok-clause-gone g c t =
 pub returns-in_err-tasks-clause-refused : goal.returns-in_err-tasks-clause-refused
 returns-in_err-tasks-clause-refused g c =
     let D = g.D.Dir in
-    err_any (λ error. D.observed ≡ true → OnlyTries c.args.spot (D.shown c.args.dir.now) (D.shown c.list.new.dir)) c.from_residual.result (λ error t s k m. c.list.ensures.known t s k)
+    err_all (λ error. D.observed ≡ true → OnlyTries c.args.spot (D.shown c.args.dir.now) (D.shown c.list.new.dir)) c.from_residual.result (λ error t s k m. c.list.ensures.known t s k)
 
 pub returns-in_err-empty-clause-refused : goal.returns-in_err-empty-clause-refused
 returns-in_err-empty-clause-refused g c =
     let D = g.D.Dir in
-    err_any (λ error. D.observed ≡ true → OnlyTries c.args.spot (D.shown c.args.dir.now) (D.shown c.empty.new.dir)) c.from_residual-in_err-empty.result
+    err_all (λ error. D.observed ≡ true → OnlyTries c.args.spot (D.shown c.args.dir.now) (D.shown c.empty.new.dir)) c.from_residual-in_err-empty.result
     (λ error t. tries_tasks c.args.spot c.in_ok-tasks.tasks.items c.requires.area (c.in_ok-tasks.ensures.listed t) (c.empty.ensures.known t))
 
 pub returns-in-Err-clause-refused : goal.returns-in-Err-clause-refused
@@ -70,12 +70,12 @@ returns-in-Err-clause-stray g c h t =
 pub returns-in_err-tasks-clause-kept : goal.returns-in_err-tasks-clause-kept
 returns-in_err-tasks-clause-kept g c =
     let D = g.D.Dir in
-    err_any (λ error. D.observed ≡ true → KeepsFolders (D.shown c.args.dir.now) (D.shown c.list.new.dir)) c.from_residual.result (λ error t. kept_spared (c.list.ensures.spares t))
+    err_all (λ error. D.observed ≡ true → KeepsFolders (D.shown c.args.dir.now) (D.shown c.list.new.dir)) c.from_residual.result (λ error t. kept_spared (c.list.ensures.spares t))
 
 pub returns-in_err-empty-clause-kept : goal.returns-in_err-empty-clause-kept
 returns-in_err-empty-clause-kept g c =
     let D = g.D.Dir in
-    err_any (λ error. D.observed ≡ true → KeepsFolders (D.shown c.args.dir.now) (D.shown c.empty.new.dir)) c.from_residual-in_err-empty.result
+    err_all (λ error. D.observed ≡ true → KeepsFolders (D.shown c.args.dir.now) (D.shown c.empty.new.dir)) c.from_residual-in_err-empty.result
     (λ error t. kept_spared (and_more (c.list.ensures.spares t) c.list.ensures.same (c.empty.ensures.spares t)))
 
 pub returns-in-Err-clause-kept : goal.returns-in-Err-clause-kept

@@ -1,15 +1,17 @@
 use Rattle.std.proofs.Common.{◌≡◌, true, Ok, List, refl, sym, subst}
+use Rattle.plain_laws.proofs.Results.{if_ok}
 use Rattle.dir_model.specs.declared.item.Inner.{Inner}
 use Rattle.dir_model.specs.declared.request.Reply.TheVariants.{Items, Refused}
 use Rattle.dir_model.proofs.Spots.{spot_self}
+use Rattle.dir_trait.proofs.ListCalls.{list_extends}
 use Rattle.folder_removal.specs.declared.error.DeleteError.TheVariants.{Stray}
 use Rattle.folder_removal.specs.Tasks.{AreChildren}
 use Rattle.folder_removal.specs.declared.task.Task.{Task}
 use Rattle.folder_removal.specs.Removal.{inner_at, AreShown}
-use Rattle.folder_removal.specs.Known.{IsListed}
+use Rattle.folder_removal.specs.Known.{IsListedAsTasks}
 use Rattle.folder_removal.proofs.Nested.{distinct}
-use Rattle.folder_removal.proofs.Calls.{list_extends, knows_list}
-use Rattle.folder_removal.proofs.Steps.{asks_listing, ok_more}
+use Rattle.folder_removal.proofs.Calls.{knows_list}
+use Rattle.folder_removal.proofs.Steps.{asks_listing}
 use Rattle.folder_removal.proofs.Strays.{stray_list, stray_listing, listing_shown}
 use Rattle.folder_removal.proofs.Knowing.{lists_only}
 use Rattle.folder_removal.proofs.delete.list.Goals as goal
@@ -37,7 +39,7 @@ returns-in-Ok-clause-listed g c =
     let path = c.args.path.now in
     let items = c.in-Ok.items in
     let at : Inner = record { spot = spot; path = path } in
-    ok_more (λ tasks. AreChildren path c.as_slice.result.now tasks.items) (λ tasks. D.observed ≡ true → IsListed spot path tasks.items (D.shown c.args.dir.now) (D.shown c.list_in.new.self)) c.children.result
+    if_ok (λ tasks. AreChildren path c.as_slice.result.now tasks.items) (λ tasks. D.observed ≡ true → IsListedAsTasks spot path tasks.items (D.shown c.args.dir.now) (D.shown c.list_in.new.self)) c.children.result
     (λ tasks are t.
     let those = rw c.as_slice.ensures at are in
     record { items = items; are = those.are; plain = those.plain; once = distinct items c.in-Ok.ensures.ordered; knows = λ s k. knows_list at (Ok items) t k c.in-Ok.ensures.called })
@@ -50,7 +52,7 @@ returns-in-Ok-clause-shown g c =
     let path = c.args.path.now in
     let old = D.shown c.args.dir.now in
     let new = D.shown c.list_in.new.self in
-    ok_more (λ tasks. AreChildren path c.as_slice.result.now tasks.items) (λ tasks. D.observed ≡ true → AreShown spot tasks.items old.process old.trace new.trace) c.children.result
+    if_ok (λ tasks. AreChildren path c.as_slice.result.now tasks.items) (λ tasks. D.observed ≡ true → AreShown spot tasks.items old.process old.trace new.trace) c.children.result
     (λ tasks are t. subst (λ (l : List Task). AreShown spot l old.process old.trace new.trace) (sym (rw c.as_slice.ensures at are).are) (listing_shown spot path c.in-Ok.items (c.in-Ok.ensures.called.step t)))
     c.children.ensures.are
 

@@ -1,10 +1,10 @@
 use Rattle.std.proofs.Common.{rules, ◌≡◌, true, ap, ◌∙◌, ℕ, List}
+use Rattle.plain_laws.proofs.Results.{err_same, err_both}
 use Rattle.tree_digest.specs.Digests.{image_digest}
 use Rattle.image_reading.specs.Places.{stored_path, manifest_name, id_name, tree_name}
 use Rattle.image_reading.specs.Refusals.{IsReadRefusal, IsDamaged}
-use Rattle.image_reading.specs.Files.{LacksManifest, LacksId, LacksTree}
+use Rattle.image_reading.specs.Files.{ReadsNoImageManifest, LacksId, LacksTree}
 use Rattle.image_reading.specs.Images.{LacksDigest}
-use Rattle.image_reading.proofs.Results.{err_same, err_both}
 use Rattle.image_reading.proofs.Asking.{image_more}
 use Rattle.image_reading.proofs.Widths.{file_after, file_before}
 use Rattle.image_reading.proofs.Images.{lacks_first, lacks_second, lacks_third, id_lack_after, tree_lack_after}
@@ -17,7 +17,7 @@ returns-in_err-kept-clause-damaged g c =
     let old = D.shown c.args.dir.now in
     let a = D.shown c.read_manifest.new.dir in
     err_same (λ e. D.observed ≡ true → LacksDigest key e old a) c.read_manifest.result c.from_residual.result (λ e h. search (rules, h, c.from_residual.ensures, c.in_err-kept.is))
-    (err_both (IsReadRefusal (λ path. path ≡ stored_path key manifest_name)) (λ e. IsDamaged e → D.observed ≡ true → LacksManifest key old a) (λ e. D.observed ≡ true → LacksDigest key e old a) c.read_manifest.result
+    (err_both (IsReadRefusal (λ path. path ≡ stored_path key manifest_name)) (λ e. IsDamaged e → D.observed ≡ true → ReadsNoImageManifest key old a) (λ e. D.observed ≡ true → LacksDigest key e old a) c.read_manifest.result
     (λ e at lacks t. lacks_first key tree_name (LacksTree key) e at (λ d. lacks d t)) c.read_manifest.ensures.refusals c.read_manifest.ensures.damaged)
 
 pub returns-in_err-id-clause-only : goal.returns-in_err-id-clause-only

@@ -1,6 +1,6 @@
 use Rattle.std.proofs.Common.{◌≡◌, true, ℕ, List, take, IsSomeAnd, subst}
 use Rattle.dir_model.specs.declared.spot.Spot.{Spot}
-use Rattle.dir_files.specs.Reads.{inner_at, StaysBetween}
+use Rattle.dir_files.specs.Reads.{inner_at, FileStaysBetween}
 use Rattle.image_reading.proofs.Asking.{image_file_at}
 use Rattle.image_reading.proofs.Trees.{no_tree_file}
 use Rattle.image_reading.proofs.file.read_part.Goals as goal
@@ -15,7 +15,7 @@ pub returns-in-Ok-clause-whole : goal.returns-in-Ok-clause-whole
 returns-in-Ok-clause-whole g c =
     let D = g.D.Dir in
     subst
-    (λ (x : Spot). D.observed ≡ true → (file : List ℕ) → StaysBetween (inner_at x c.args.name.now) file (D.shown c.args.dir.now) (D.shown c.read_file.new.dir) → IsSomeAnd c.in-Ok.found (λ bytes. bytes.items ≡ take c.args.most file))
+    (λ (x : Spot). D.observed ≡ true → (file : List ℕ) → FileStaysBetween (inner_at x c.args.name.now) file (D.shown c.args.dir.now) (D.shown c.read_file.new.dir) → IsSomeAnd c.in-Ok.found (λ bytes. bytes.items ≡ take c.args.most file))
     c.in_ok-spot.ensures.spot c.in-Ok.ensures.whole
 
 pub returns-in-Ok-clause-trees : goal.returns-in-Ok-clause-trees

@@ -1,10 +1,11 @@
 use Rattle.std.proofs.Common.{◌≡◌, true}
+use Rattle.plain_laws.proofs.Results.{if_ok, if_err}
 use Rattle.image_reading.specs.Places.{stored_path, tree_name}
 use Rattle.image_reading.specs.Refusals.{IsReadRefusal, IsTreeRefusal, IsDamaged}
 use Rattle.image_reading.specs.Files.{LacksTree, LacksStoredTree, ReadsTree}
 use Rattle.image_reading.proofs.Asking.{image_more}
 use Rattle.image_reading.proofs.Holding.{knows_image}
-use Rattle.image_reading.proofs.Results.{if_ok, if_err, read_tree_refusal, no_tree_missing}
+use Rattle.image_reading.proofs.Results.{read_tree_refusal, no_tree_missing}
 use Rattle.image_reading.proofs.Widths.{held_before, file_after}
 use Rattle.image_reading.proofs.Images.{tree_lack_after}
 use Rattle.image_reading.proofs.store.read_tree.Goals as goal

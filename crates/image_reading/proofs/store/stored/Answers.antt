@@ -1,9 +1,10 @@
 use Rattle.std.proofs.Common.{◌≡◌, true, ℕ, List, subst}
+use Rattle.plain_laws.proofs.Results.{if_ok, if_err}
 use Rattle.dir_model.specs.declared.area.Area.TheVariants.{Images}
 use Rattle.dir_model.specs.Replies.{names_reply}
 use Rattle.image_reading.specs.Refusals.{IsDamaged}
 use Rattle.image_reading.specs.Store.{AreRead, ReadsStore, LacksFirst, LacksStore}
-use Rattle.image_reading.proofs.Results.{if_ok, if_err, not_outside}
+use Rattle.image_reading.proofs.Results.{not_outside}
 use Rattle.image_reading.proofs.Asking.{images_more, images_names}
 use Rattle.image_reading.proofs.Trees.{trees_more, no_tree_names}
 use Rattle.image_reading.proofs.Holding.{knows_images}

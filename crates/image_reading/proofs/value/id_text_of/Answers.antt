@@ -1,6 +1,6 @@
 use Rattle.std.proofs.Common.{sym, subst}
 use Rattle.std.specs.Prelude.{IsUtf8}
-use Rattle.image_reading.proofs.Values.{id_utf8}
+use Rattle.manifest_laws.proofs.Heads.{id_utf8}
 use Rattle.image_reading.proofs.value.id_text_of.Goals as goal
 
 pub returns-in_default : goal.returns-in_default

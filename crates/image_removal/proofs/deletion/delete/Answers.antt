@@ -1,11 +1,11 @@
 use Rattle.std.proofs.Common.{◌≡◌, Err, ap, sym, subst, ◌∙◌}
 use Rattle.dir_model.specs.declared.spot.Spot.{Spot}
 use Rattle.dir_trait.specs.DirCalls.{ExtendsBy}
-use Rattle.folder_removal.specs.Removal.{deletes_at, EndsStray}
+use Rattle.folder_removal.specs.Removal.{asks_deletion_at, EndsWithStrayDeletion}
 use Rattle.folder_removal.specs.Known.{Deletes, OnlyTries, StrayDeleting}
 use Rattle.image_reading.specs.declared.error.StoreError.{StoreError}
 use Rattle.image_reading.specs.declared.error.StoreError.TheVariants.{Stray}
-use Rattle.image_removal.specs.Causes.{WorkCause}
+use Rattle.image_removal.specs.Causes.{RemovalWorkCause}
 use Rattle.image_removal.proofs.Causes.{delete_cause}
 use Rattle.image_removal.proofs.Knowing.{may_delete, deleted_stays, tried_stays}
 use Rattle.image_removal.proofs.Lawful.{delete_stray}
@@ -23,13 +23,13 @@ returns-in-Err-clause-worked g c =
       same = c.delete_folder.ensures.same;
       faults = c.delete_folder.ensures.faults;
       local = c.delete_folder.ensures.local;
-      extends = λ t. subst (λ (spot : Spot). ExtendsBy (deletes_at spot) (D.shown c.args.dir.now) (D.shown c.delete_folder.new.dir)) c.removed_spot.ensures (c.delete_folder.ensures.extends t);
+      extends = λ t. subst (λ (spot : Spot). ExtendsBy (asks_deletion_at spot) (D.shown c.args.dir.now) (D.shown c.delete_folder.new.dir)) c.removed_spot.ensures (c.delete_folder.ensures.extends t);
     }
 
 pub returns-in-Err-clause-cause : goal.returns-in-Err-clause-cause
 returns-in-Err-clause-cause g c =
     let D = g.D.Dir in
-    subst (λ (e : StoreError). WorkCause D.observed e (D.shown c.args.dir.now) (D.shown c.delete_folder.new.dir)) (sym c.delete_refusal.ensures)
+    subst (λ (e : StoreError). RemovalWorkCause D.observed e (D.shown c.args.dir.now) (D.shown c.delete_folder.new.dir)) (sym c.delete_refusal.ensures)
     (delete_cause c.removed_spot.result c.in-Err.error (λ is. c.in-Err.ensures.cause (ap Err is)) (λ is. c.in-Err.ensures.stray (ap Err is)))
 
 pub returns-in-Err-clause-left : goal.returns-in-Err-clause-left
@@ -41,7 +41,7 @@ pub returns-in-Err-clause-stray : goal.returns-in-Err-clause-stray
 returns-in-Err-clause-stray g c is t =
     let D = g.D.Dir in
     let same : c.delete_refusal.result ≡ Stray = cc in
-    subst (λ (spot : Spot). EndsStray spot (D.shown c.args.dir.now) (D.shown c.delete_folder.new.dir)) c.removed_spot.ensures
+    subst (λ (spot : Spot). EndsWithStrayDeletion spot (D.shown c.args.dir.now) (D.shown c.delete_folder.new.dir)) c.removed_spot.ensures
     (c.in-Err.ensures.stray (ap Err (delete_stray c.in-Err.error (sym c.delete_refusal.ensures ∙ same))) t)
 
 pub returns-in-Err-clause-knew : goal.returns-in-Err-clause-knew

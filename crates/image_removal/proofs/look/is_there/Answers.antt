@@ -2,7 +2,7 @@ use Rattle.std.proofs.Common.{refl, sym, ◌∙◌}
 use Rattle.dir_model.specs.declared.spot.Which.TheVariants.{Own}
 use Rattle.dir_model.proofs.Chains.{nothing_yet, and_call}
 use Rattle.dir_model.proofs.Moments.{found, at_before}
-use Rattle.image_removal.specs.Requests.{looks_at}
+use Rattle.image_removal.specs.Requests.{looks_at_folder}
 use Rattle.image_removal.proofs.Causes.{look_absent}
 use Rattle.image_removal.proofs.Lawful.{look_never, look_finds_none}
 use Rattle.image_removal.proofs.Knowing.{look_knows, missed_knows}
@@ -28,7 +28,7 @@ pub returns-in-Ok-clause-present : goal.returns-in-Ok-clause-present
 returns-in-Ok-clause-present g c is t =
     let D = g.D.Dir in
     at_before (found (D.shown c.args.dir.now).process (D.shown c.args.dir.now).trace c.args.spot Own c.in-Ok.handle (D.shown c.open.new.self).trace (c.in-Ok.ensures.called.step t))
-    c.in-Ok.ensures.called.same (and_call {asks = looks_at c.args.spot} nothing_yet refl refl (c.close.ensures.called.step t))
+    c.in-Ok.ensures.called.same (and_call {asks = looks_at_folder c.args.spot} nothing_yet refl refl (c.close.ensures.called.step t))
 
 pub returns-in-Err-clause-told : goal.returns-in-Err-clause-told
 returns-in-Err-clause-told g c is = look_never c.args.spot c.in-Err.error c.in-Err.ensures.refusals (sym c.look_answer.ensures ∙ is)

@@ -1,10 +1,11 @@
 use Rattle.std.proofs.Common.{◌≡◌, ◌∙◌, Ok, Err, ap, sym, subst}
+use Rattle.dir_trait.proofs.Calls.{with_spots}
 use Rattle.image_reading.specs.declared.error.StoreError.{StoreError}
 use Rattle.image_removal.specs.Requests.{incoming_spot, removed_spot}
-use Rattle.image_removal.specs.Causes.{WorkCause}
+use Rattle.image_removal.specs.Causes.{RemovalWorkCause}
 use Rattle.image_removal.proofs.Causes.{sweep_cause}
 use Rattle.image_removal.proofs.Knowing.{swept_stays}
-use Rattle.image_removal.proofs.Ends.{worked_move, with_spots}
+use Rattle.image_removal.proofs.Ends.{worked_move}
 use Rattle.image_reading.specs.declared.error.StoreError.TheVariants.{Stray}
 use Rattle.image_removal.proofs.LawfulSweeps.{put_away_never}
 use Rattle.image_removal.proofs.putting.put_away.Goals as goal
@@ -24,7 +25,7 @@ returns-in-Err-clause-worked g c =
 pub returns-in-Err-clause-cause : goal.returns-in-Err-clause-cause
 returns-in-Err-clause-cause g c =
     let D = g.D.Dir in
-    subst (λ (e : StoreError). WorkCause D.observed e (D.shown c.args.dir.now) (D.shown c.move_folder.new.self)) (sym c.change_refusal.ensures)
+    subst (λ (e : StoreError). RemovalWorkCause D.observed e (D.shown c.args.dir.now) (D.shown c.move_folder.new.self)) (sym c.change_refusal.ensures)
     (sweep_cause c.args.name c.in-Err.error c.in-Err.ensures.refusals (λ is. c.in-Err.ensures.cause (ap Err is)) (with_spots c.incoming_spot.ensures c.removed_spot.ensures c.in-Err.ensures.called))
 
 pub returns-in-Err-clause-stays : goal.returns-in-Err-clause-stays

@@ -1,4 +1,5 @@
 use Rattle.std.proofs.Common.{◌≡◌, Ok, Err, ap, sym, subst}
+use Rattle.dir_trait.proofs.Calls.{with_spots}
 use Rattle.image_reading.specs.declared.error.StoreError.{StoreError}
 use Rattle.image_reading.specs.declared.error.StoreError.TheVariants.{Stray}
 use Rattle.image_reading.specs.Places.{image_spot}
@@ -7,7 +8,7 @@ use Rattle.image_removal.specs.Causes.{MoveCause}
 use Rattle.image_removal.proofs.Causes.{move_cause}
 use Rattle.image_removal.proofs.Knowing.{moved_stays}
 use Rattle.image_removal.proofs.Lawful.{met_never}
-use Rattle.image_removal.proofs.Ends.{worked_move, with_spots}
+use Rattle.image_removal.proofs.Ends.{worked_move}
 use Rattle.image_removal.proofs.putting.put_image_away.Goals as goal
 
 pub returns-in-Ok-clause-worked : goal.returns-in-Ok-clause-worked

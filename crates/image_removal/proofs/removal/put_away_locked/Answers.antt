@@ -1,4 +1,5 @@
 use Rattle.std.proofs.Common.{◌≡◌, true, Err, ap, sym, subst, arith, ◌∙◌}
+use Rattle.plain_laws.proofs.Results.{if_ok, if_err}
 use Rattle.dir_model.specs.declared.area.Area.TheVariants.{Images}
 use Rattle.dir_model.specs.declared.request.Reply.TheVariants.{Done}
 use Rattle.dir_model.specs.Calls.{CallStep}
@@ -7,15 +8,15 @@ use Rattle.dir_rules.specs.declared.seen.Seen.{Seen}
 use Rattle.dir_trait.specs.Knowledge.{Knows}
 use Rattle.dir_files.specs.AreaLocks.{is_free_of}
 use Rattle.dir_files.proofs.Locking.{number_is_new}
-use Rattle.folder_building.proofs.Copying.{ok_more, err_more}
 use Rattle.folder_building.proofs.Working.{worked_wider}
+use Rattle.folder_building.proofs.Following.{GivesBack}
 use Rattle.image_reading.specs.declared.error.StoreError.{StoreError}
 use Rattle.image_removal.specs.Requests.{puts_away}
-use Rattle.image_removal.specs.Calls.{Called}
-use Rattle.image_removal.specs.Causes.{MoveCause, RemoveCause, BusyElsewhere}
+use Rattle.image_removal.specs.Calls.{WasCalled}
+use Rattle.image_removal.specs.Causes.{MoveCause, ImageRemovalCause, RemovalBusyElsewhere}
 use Rattle.image_removal.proofs.Times.{called_self, called_after, called_before}
 use Rattle.image_removal.proofs.Causes.{lock_removing, lock_elsewhere, move_never_busy, move_removing}
-use Rattle.image_removal.proofs.Locked.{Takes, GivesBack, closes_taken, worked_refused, worked_under, may_lock_images, puts_now, back_bare, same_bare}
+use Rattle.image_removal.proofs.Locked.{Takes, closes_taken, worked_refused, worked_under, may_lock_images, puts_now, back_bare, same_bare}
 use Rattle.image_removal.proofs.Ends.{images_remove, moves_remove}
 use Rattle.folder_removal.proofs.Keeping.{kept_more}
 use Rattle.image_removal.proofs.Keeping.{kept_taking, kept_moving, kept_closing}
@@ -51,20 +52,20 @@ returns-in-Ok-clause-cause g c =
     let mid = D.shown c.lock_area.new.dir in
     let late = D.shown c.put_image_away-result.new.dir in
     let new = D.shown c.unlock_area.new.dir in
-    err_more (λ e. MoveCause D.observed c.args.key c.args.draw e mid late) (λ e. RemoveCause D.observed c.args.key c.args.draw e old new) c.put_image_away-result.result
+    if_err (λ e. MoveCause D.observed c.args.key c.args.draw e mid late) (λ e. ImageRemovalCause D.observed c.args.key c.args.draw e old new) c.put_image_away-result.result
     (λ e m. move_removing c.args.key c.args.draw e c.lock_area.ensures.same c.lock_area.ensures.faults c.lock_area.ensures.extends c.put_image_away-result.ensures.worked.same
     (omega (arith, c.unlock_area.ensures.faultless)) (λ t. extends_wider (closes_taken Images c.in-Ok.gate) (c.unlock_area.ensures.extends t)) m)
     c.put_image_away-result.ensures.cause
 
-pub returns-in-Ok-clause-another : goal.returns-in-Ok-clause-another
-returns-in-Ok-clause-another g c =
+pub returns-in-Ok-clause-by_other_process : goal.returns-in-Ok-clause-by_other_process
+returns-in-Ok-clause-by_other_process g c =
     let D = g.D.Dir in
     let old = D.shown c.args.dir.now in
     let mid = D.shown c.lock_area.new.dir in
     let late = D.shown c.put_image_away-result.new.dir in
     let new = D.shown c.unlock_area.new.dir in
-    err_more (λ e. MoveCause D.observed c.args.key c.args.draw e mid late)
-    (λ e. D.observed ≡ true → (s : Seen) → Knows old s → is_free_of Images s ≡ true → BusyElsewhere e old new) c.put_image_away-result.result
+    if_err (λ e. MoveCause D.observed c.args.key c.args.draw e mid late)
+    (λ e. D.observed ≡ true → (s : Seen) → Knows old s → is_free_of Images s ≡ true → RemovalBusyElsewhere e old new) c.put_image_away-result.result
     (λ e m t s k free. move_never_busy old new e m.kind) c.put_image_away-result.ensures.cause
 
 pub returns-in-Ok-clause-moved : goal.returns-in-Ok-clause-moved
@@ -74,8 +75,8 @@ returns-in-Ok-clause-moved g c =
     let mid = D.shown c.lock_area.new.dir in
     let late = D.shown c.put_image_away-result.new.dir in
     let new = D.shown c.unlock_area.new.dir in
-    ok_more (λ done. D.observed ≡ true → CallStep mid.process mid.trace (puts_away c.args.key c.args.draw) Done late.trace)
-    (λ done. D.observed ≡ true → Called (puts_away c.args.key c.args.draw) Done old.process old.trace new.trace) c.put_image_away-result.result
+    if_ok (λ done. D.observed ≡ true → CallStep mid.process mid.trace (puts_away c.args.key c.args.draw) Done late.trace)
+    (λ done. D.observed ≡ true → WasCalled (puts_away c.args.key c.args.draw) Done old.process old.trace new.trace) c.put_image_away-result.result
     (λ done step t. called_after (c.lock_area.ensures.extends t) c.lock_area.ensures.same (called_before (called_self (step t)) (c.unlock_area.ensures.extends t)))
     c.put_image_away-result.ensures.moved
 
@@ -92,16 +93,16 @@ returns-in-Err-clause-worked g c = worked_refused Images (images_remove c.args.k
 pub returns-in-Err-clause-cause : goal.returns-in-Err-clause-cause
 returns-in-Err-clause-cause g c =
     let D = g.D.Dir in
-    subst (λ (e : StoreError). RemoveCause D.observed c.args.key c.args.draw e (D.shown c.args.dir.now) (D.shown c.lock_area.new.dir)) (sym c.lock_refusal.ensures)
+    subst (λ (e : StoreError). ImageRemovalCause D.observed c.args.key c.args.draw e (D.shown c.args.dir.now) (D.shown c.lock_area.new.dir)) (sym c.lock_refusal.ensures)
     (lock_removing c.in-Err.error (λ is. c.in-Err.ensures.cause (ap Err is)) (λ is. c.in-Err.ensures.busy (ap Err is)) c.lock_area.ensures.extends)
 
-pub returns-in-Err-clause-another : goal.returns-in-Err-clause-another
-returns-in-Err-clause-another g c t s k free =
+pub returns-in-Err-clause-by_other_process : goal.returns-in-Err-clause-by_other_process
+returns-in-Err-clause-by_other_process g c t s k free =
     let D = g.D.Dir in
     let old = D.shown c.args.dir.now in
     let new = D.shown c.lock_area.new.dir in
-    subst (λ (e : StoreError). BusyElsewhere e old new) (sym c.lock_refusal.ensures)
-    (lock_elsewhere old new Images c.in-Err.error (λ is. c.in-Err.ensures.another (ap Err is) t s k free))
+    subst (λ (e : StoreError). RemovalBusyElsewhere e old new) (sym c.lock_refusal.ensures)
+    (lock_elsewhere old new Images c.in-Err.error (λ is. c.in-Err.ensures.by_other_process (ap Err is) t s k free))
 
 pub returns-in-Err-clause-stays : goal.returns-in-Err-clause-stays
 returns-in-Err-clause-stays g c t s k may = same_bare may.bare (c.in-Err.ensures.left t s k (may_lock_images may))

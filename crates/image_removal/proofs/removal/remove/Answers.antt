@@ -1,43 +1,41 @@
 use Rattle.std.proofs.Common.{◌≡◌, ℕ, true, rules, subst}
+use Rattle.plain_laws.proofs.Results.{if_ok, if_err, err_same, err_all}
 use Rattle.dir_model.specs.declared.area.Area.TheVariants.{Images, Removed}
 use Rattle.dir_model.specs.declared.spot.Mode.TheVariants.{Exclusive}
 use Rattle.dir_model.specs.State.{DirState}
 use Rattle.dir_rules.specs.declared.seen.Seen.{Seen}
 use Rattle.dir_trait.specs.Knowledge.{Knows}
 use Rattle.dir_files.specs.AreaLocks.{is_free_of, IsBusy, IsBusyElsewhere}
-use Rattle.folder_building.proofs.Copying.{ok_more, err_more}
 use Rattle.folder_building.proofs.Working.{worked_more, worked_wider}
-use Rattle.image_reading.proofs.Results.{err_same}
+use Rattle.folder_building.proofs.Following.{follows_work}
 use Rattle.image_removal.specs.Requests.{away_spot}
-use Rattle.image_removal.specs.Causes.{WorkCause, RemoveCause, BusyElsewhere}
+use Rattle.image_removal.specs.Causes.{RemovalWorkCause, ImageRemovalCause, RemovalBusyElsewhere}
 use Rattle.image_removal.specs.Removals.{IsGoneUnless, IsRemovedBetween}
-use Rattle.image_removal.specs.Work.{MayRemove}
-use Rattle.image_removal.proofs.Times.{follows_work}
+use Rattle.image_removal.specs.Work.{MayRemoveImage}
 use Rattle.image_removal.proofs.Causes.{work_never_busy, work_removing}
 use Rattle.image_removal.proofs.Knowing.{stays_conform, conforms_more}
 use Rattle.image_removal.proofs.Locked.{removal_pass, pass_still}
 use Rattle.image_removal.proofs.Ends.{away_remove, is_removed}
 use Rattle.folder_removal.specs.Removal.{KeepsFolders}
 use Rattle.folder_removal.proofs.Keeping.{kept_more}
-use Rattle.folder_removal.proofs.Steps.{err_any}
 use Rattle.image_removal.proofs.removal.remove.Goals as goal
 
 pub returns-in_err-put_away_locked-clause-cause : goal.returns-in_err-put_away_locked-clause-cause
 returns-in_err-put_away_locked-clause-cause g c =
     let D = g.D.Dir in
-    err_same (λ e. RemoveCause D.observed c.args.key c.args.draw e (D.shown c.args.dir.now) (D.shown c.put_away_locked.new.dir)) c.put_away_locked.result c.from_residual.result
+    err_same (λ e. ImageRemovalCause D.observed c.args.key c.args.draw e (D.shown c.args.dir.now) (D.shown c.put_away_locked.new.dir)) c.put_away_locked.result c.from_residual.result
     (λ e h. search (rules, h, c.from_residual.ensures, c.in_err-put_away_locked.is)) c.put_away_locked.ensures.cause
 
-pub returns-in_err-put_away_locked-clause-another : goal.returns-in_err-put_away_locked-clause-another
-returns-in_err-put_away_locked-clause-another g c =
+pub returns-in_err-put_away_locked-clause-by_other_process : goal.returns-in_err-put_away_locked-clause-by_other_process
+returns-in_err-put_away_locked-clause-by_other_process g c =
     let D = g.D.Dir in
     let old = D.shown c.args.dir.now in
     let new = D.shown c.put_away_locked.new.dir in
-    err_same (λ e. D.observed ≡ true → (s : Seen) → Knows old s → MayRemove c.args.draw s → BusyElsewhere e old new) c.put_away_locked.result c.from_residual.result
+    err_same (λ e. D.observed ≡ true → (s : Seen) → Knows old s → MayRemoveImage c.args.draw s → RemovalBusyElsewhere e old new) c.put_away_locked.result c.from_residual.result
     (λ e h. search (rules, h, c.from_residual.ensures, c.in_err-put_away_locked.is))
-    (err_more (λ e. D.observed ≡ true → (s : Seen) → Knows old s → is_free_of Images s ≡ true → BusyElsewhere e old new)
-    (λ e. D.observed ≡ true → (s : Seen) → Knows old s → MayRemove c.args.draw s → BusyElsewhere e old new)
-    c.put_away_locked.result (λ e busy t s k may. busy t s k may.images) c.put_away_locked.ensures.another)
+    (if_err (λ e. D.observed ≡ true → (s : Seen) → Knows old s → is_free_of Images s ≡ true → RemovalBusyElsewhere e old new)
+    (λ e. D.observed ≡ true → (s : Seen) → Knows old s → MayRemoveImage c.args.draw s → RemovalBusyElsewhere e old new)
+    c.put_away_locked.result (λ e busy t s k may. busy t s k may.images) c.put_away_locked.ensures.by_other_process)
 
 pub returns-in_err-put_away_locked-clause-conforms : goal.returns-in_err-put_away_locked-clause-conforms
 returns-in_err-put_away_locked-clause-conforms g c t = stays_conform (c.put_away_locked.ensures.stays t)
@@ -51,16 +49,16 @@ returns-clause-cause g c =
     let old = D.shown c.args.dir.now in
     let mid = D.shown c.put_away_locked.new.dir in
     let new = D.shown c.delete_if_free.new.dir in
-    err_more (λ e. WorkCause D.observed e mid new) (λ e. RemoveCause D.observed c.args.key c.args.draw e old new) c.delete_if_free.result
+    if_err (λ e. RemovalWorkCause D.observed e mid new) (λ e. ImageRemovalCause D.observed c.args.key c.args.draw e old new) c.delete_if_free.result
     (λ e w. work_removing c.args.key c.args.draw e (follows_work c.put_away_locked.ensures.worked) c.in_ok-put_away_locked.ensures.moved w) c.delete_if_free.ensures.cause
 
-pub returns-clause-another : goal.returns-clause-another
-returns-clause-another g c =
+pub returns-clause-by_other_process : goal.returns-clause-by_other_process
+returns-clause-by_other_process g c =
     let D = g.D.Dir in
     let old = D.shown c.args.dir.now in
     let mid = D.shown c.put_away_locked.new.dir in
     let new = D.shown c.delete_if_free.new.dir in
-    err_more (λ e. WorkCause D.observed e mid new) (λ e. D.observed ≡ true → (s : Seen) → Knows old s → MayRemove c.args.draw s → BusyElsewhere e old new) c.delete_if_free.result
+    if_err (λ e. RemovalWorkCause D.observed e mid new) (λ e. D.observed ≡ true → (s : Seen) → Knows old s → MayRemoveImage c.args.draw s → RemovalBusyElsewhere e old new) c.delete_if_free.result
     (λ e w t s k may. work_never_busy old new e w.kind) c.delete_if_free.ensures.cause
 
 pub returns-clause-removed : goal.returns-clause-removed
@@ -72,7 +70,7 @@ returns-clause-removed g c =
     let mid = D.shown c.put_away_locked.new.dir in
     let new = D.shown c.delete_if_free.new.dir in
     let Busy : DirState → Type 0 = IsBusy Removed Exclusive in
-    ok_more (λ done. D.observed ≡ true → IsGoneUnless Busy (away_spot draw) mid.process mid.trace new.trace) (λ done. D.observed ≡ true → IsRemovedBetween Busy key draw old new)
+    if_ok (λ done. D.observed ≡ true → IsGoneUnless Busy (away_spot draw) mid.process mid.trace new.trace) (λ done. D.observed ≡ true → IsRemovedBetween Busy key draw old new)
     c.delete_if_free.result
     (λ done gone t. is_removed key draw old mid new Busy c.put_away_locked.ensures.worked.same (c.in_ok-put_away_locked.ensures.moved t) (gone t)) c.delete_if_free.ensures.gone
 
@@ -86,13 +84,13 @@ returns-clause-removed_unless_another g c =
     let new = D.shown c.delete_if_free.new.dir in
     let Busy : ℕ → DirState → Type 0 = λ me. IsBusyElsewhere me Removed Exclusive in
     let same = c.put_away_locked.ensures.worked.same in
-    ok_more (λ done. D.observed ≡ true → (s : Seen) → Knows mid s → is_free_of Removed s ≡ true → IsGoneUnless (Busy mid.process) (away_spot draw) mid.process mid.trace new.trace)
-    (λ done. D.observed ≡ true → (s : Seen) → Knows old s → MayRemove draw s → IsRemovedBetween (Busy old.process) key draw old new) c.delete_if_free.result
+    if_ok (λ done. D.observed ≡ true → (s : Seen) → Knows mid s → is_free_of Removed s ≡ true → IsGoneUnless (Busy mid.process) (away_spot draw) mid.process mid.trace new.trace)
+    (λ done. D.observed ≡ true → (s : Seen) → Knows old s → MayRemoveImage draw s → IsRemovedBetween (Busy old.process) key draw old new) c.delete_if_free.result
     (λ done gone t s k may.
     let x = c.put_away_locked.ensures.stays t s k may in
     is_removed key draw old mid new (Busy old.process) same (c.in_ok-put_away_locked.ensures.moved t)
     (subst (λ (me : ℕ). IsGoneUnless (Busy me) (away_spot draw) mid.process mid.trace new.trace) same (gone t x.known x.knows (pass_still (removal_pass may) x).free)))
-    c.delete_if_free.ensures.another
+    c.delete_if_free.ensures.by_other_process
 
 pub returns-clause-conforms : goal.returns-clause-conforms
 returns-clause-conforms g c t s k may =
@@ -102,12 +100,12 @@ returns-clause-conforms g c t s k may =
 pub returns-in_err-put_away_locked-clause-kept : goal.returns-in_err-put_away_locked-clause-kept
 returns-in_err-put_away_locked-clause-kept g c =
     let D = g.D.Dir in
-    err_any (λ e. D.observed ≡ true → KeepsFolders (D.shown c.args.dir.now) (D.shown c.put_away_locked.new.dir)) c.from_residual.result (λ e t. c.put_away_locked.ensures.kept t)
+    err_all (λ e. D.observed ≡ true → KeepsFolders (D.shown c.args.dir.now) (D.shown c.put_away_locked.new.dir)) c.from_residual.result (λ e t. c.put_away_locked.ensures.kept t)
 
 pub returns-clause-kept : goal.returns-clause-kept
 returns-clause-kept g c =
     let D = g.D.Dir in
-    err_more (λ e. D.observed ≡ true → KeepsFolders (D.shown c.put_away_locked.new.dir) (D.shown c.delete_if_free.new.dir)) (λ e. D.observed ≡ true → KeepsFolders (D.shown c.args.dir.now) (D.shown c.delete_if_free.new.dir)) c.delete_if_free.result
+    if_err (λ e. D.observed ≡ true → KeepsFolders (D.shown c.put_away_locked.new.dir) (D.shown c.delete_if_free.new.dir)) (λ e. D.observed ≡ true → KeepsFolders (D.shown c.args.dir.now) (D.shown c.delete_if_free.new.dir)) c.delete_if_free.result
     (λ e kept t. kept_more (c.put_away_locked.ensures.kept t) c.put_away_locked.ensures.worked.same (kept t)) c.delete_if_free.ensures.kept
 
 pub returns-in_err-put_away_locked-clause-lawful : goal.returns-in_err-put_away_locked-clause-lawful

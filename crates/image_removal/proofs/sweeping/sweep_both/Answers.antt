@@ -1,19 +1,19 @@
 use Rattle.std.proofs.Common.{◌≡◌, ℕ, true, subst, inl, inr, rules}
+use Rattle.plain_laws.proofs.Results.{if_ok, if_err, err_same}
 use Rattle.dir_model.specs.declared.area.Area.TheVariants.{Removed}
 use Rattle.dir_rules.specs.declared.seen.Seen.{Seen}
 use Rattle.dir_trait.specs.Knowledge.{Knows}
 use Rattle.dir_files.specs.AreaLocks.{is_free_of}
-use Rattle.folder_building.proofs.Copying.{ok_more, err_more}
+use Rattle.folder_building.proofs.Following.{follows_work}
 use Rattle.image_removal.specs.declared.pass.Pass.TheVariants.{PutAway, Delete}
-use Rattle.image_removal.specs.Causes.{WorkCause}
-use Rattle.image_removal.specs.Sweeps.{Adds, PassedBetween, Tried, TriedBetween, IsSweptBetween, HasTriedBetween, BusyNow, BusyApart}
-use Rattle.image_removal.specs.Work.{MayPass, MaySweep}
-use Rattle.image_removal.proofs.Times.{follows_work, work_after}
+use Rattle.image_removal.specs.Causes.{RemovalWorkCause}
+use Rattle.image_removal.specs.Sweeps.{AddsSweepLines, PassedBetween, Tried, TriedBetween, IsStoreSweptBetween, HasTriedBetween, BusyNow, BusyApart}
+use Rattle.image_removal.specs.Work.{MayPassStore, MaySweepStore}
+use Rattle.image_removal.proofs.Times.{work_after}
 use Rattle.image_removal.proofs.Knowing.{conforms_more}
 use Rattle.image_removal.proofs.Locked.{first_pass, second_pass, pass_still}
 use Rattle.image_removal.proofs.Passing.{tried_none, passed_tried, adds_both, either_conforms}
-use Rattle.image_removal.specs.Ended.{EndsPass, EndsPassBetween, EndsSweepBetween}
-use Rattle.image_reading.proofs.Results.{err_same}
+use Rattle.image_removal.specs.Ended.{EndsStorePass, EndsStorePassBetween, EndsImageSweepBetween}
 use Rattle.image_removal.proofs.sweeping.sweep_both.Goals as goal
 
 pub returns-clause-cause : goal.returns-clause-cause
@@ -22,7 +22,7 @@ returns-clause-cause g c =
     let old = D.shown c.args.dir.now in
     let mid = D.shown c.sweep_area.new.dir in
     let new = D.shown c.sweep_area-2.new.dir in
-    err_more (λ e. WorkCause D.observed e mid new) (λ e. WorkCause D.observed e old new) c.sweep_area-2.result (λ e w. work_after (follows_work c.sweep_area.ensures.worked) w)
+    if_err (λ e. RemovalWorkCause D.observed e mid new) (λ e. RemovalWorkCause D.observed e old new) c.sweep_area-2.result (λ e w. work_after (follows_work c.sweep_area.ensures.worked) w)
     c.sweep_area-2.ensures.cause
 
 pub returns-clause-swept : goal.returns-clause-swept
@@ -34,7 +34,7 @@ returns-clause-swept g c =
     let before = c.args.lines.now.items in
     let between = c.sweep_area.new.lines.items in
     let after = c.sweep_area-2.new.lines.items in
-    ok_more (λ done. D.observed ≡ true → Adds (PassedBetween BusyNow Delete mid new) between after) (λ done. D.observed ≡ true → Adds (IsSweptBetween BusyNow old new) before after)
+    if_ok (λ done. D.observed ≡ true → AddsSweepLines (PassedBetween BusyNow Delete mid new) between after) (λ done. D.observed ≡ true → AddsSweepLines (IsStoreSweptBetween BusyNow old new) before after)
     c.sweep_area-2.result
     (λ done passed t. adds_both BusyNow old mid new c.sweep_area.ensures.worked.same before between after (c.in_ok-sweep_area.ensures.passed t) (passed t)) c.sweep_area-2.ensures.passed
 
@@ -48,13 +48,13 @@ returns-clause-swept_unless_another g c =
     let between = c.sweep_area.new.lines.items in
     let after = c.sweep_area-2.new.lines.items in
     let same = c.sweep_area.ensures.worked.same in
-    ok_more (λ done. D.observed ≡ true → (s : Seen) → Knows mid s → is_free_of Removed s ≡ true → Adds (PassedBetween (BusyApart mid.process) Delete mid new) between after)
-    (λ done. D.observed ≡ true → (s : Seen) → Knows old s → MaySweep s → Adds (IsSweptBetween (BusyApart old.process) old new) before after) c.sweep_area-2.result
+    if_ok (λ done. D.observed ≡ true → (s : Seen) → Knows mid s → is_free_of Removed s ≡ true → AddsSweepLines (PassedBetween (BusyApart mid.process) Delete mid new) between after)
+    (λ done. D.observed ≡ true → (s : Seen) → Knows old s → MaySweepStore s → AddsSweepLines (IsStoreSweptBetween (BusyApart old.process) old new) before after) c.sweep_area-2.result
     (λ done passed t s k may.
     let x = c.in_ok-sweep_area.ensures.stays t s k (first_pass may) in
-    adds_both (BusyApart old.process) old mid new same before between after (c.in_ok-sweep_area.ensures.another t s k may.incoming)
-    (subst (λ (me : ℕ). Adds (PassedBetween (BusyApart me) Delete mid new) between after) same (passed t x.known x.knows (pass_still (second_pass may) x).free)))
-    c.sweep_area-2.ensures.another
+    adds_both (BusyApart old.process) old mid new same before between after (c.in_ok-sweep_area.ensures.by_other_process t s k may.incoming)
+    (subst (λ (me : ℕ). AddsSweepLines (PassedBetween (BusyApart me) Delete mid new) between after) same (passed t x.known x.knows (pass_still (second_pass may) x).free)))
+    c.sweep_area-2.ensures.by_other_process
 
 pub returns-clause-tried : goal.returns-clause-tried
 returns-clause-tried g c =
@@ -62,7 +62,7 @@ returns-clause-tried g c =
     let old = D.shown c.args.dir.now in
     let mid = D.shown c.sweep_area.new.dir in
     let new = D.shown c.sweep_area-2.new.dir in
-    err_more (λ e. D.observed ≡ true → TriedBetween Delete mid new) (λ e. D.observed ≡ true → HasTriedBetween old new) c.sweep_area-2.result
+    if_err (λ e. D.observed ≡ true → TriedBetween Delete mid new) (λ e. D.observed ≡ true → HasTriedBetween old new) c.sweep_area-2.result
     (λ e tried t.
     let x = c.in_ok-sweep_area.ensures.passed t in
     record {
@@ -76,7 +76,7 @@ pub returns-clause-conforms : goal.returns-clause-conforms
 returns-clause-conforms g c t s k may =
     let D = g.D.Dir in
     let x = c.in_ok-sweep_area.ensures.stays t s k (first_pass may) in
-    conforms_more x (either_conforms (MayPass Removed) D.observed (D.shown c.sweep_area.new.dir) (D.shown c.sweep_area-2.new.dir) c.sweep_area-2.result c.sweep_area-2.ensures.stays
+    conforms_more x (either_conforms (MayPassStore Removed) D.observed (D.shown c.sweep_area.new.dir) (D.shown c.sweep_area-2.new.dir) c.sweep_area-2.result c.sweep_area-2.ensures.stays
     c.sweep_area-2.ensures.left t
     x.known x.knows (pass_still (second_pass may) x))
 
@@ -85,8 +85,8 @@ returns-in_err-sweep_area-clause-ended g c =
     let D = g.D.Dir in
     let old = D.shown c.args.dir.now in
     let new = D.shown c.sweep_area.new.dir in
-    err_same (λ e. D.observed ≡ true → EndsSweepBetween old new) c.sweep_area.result c.from_residual.result (λ e h. search (rules, h, c.from_residual.ensures, c.in_err-sweep_area.is))
-    (err_more (λ e. D.observed ≡ true → EndsPassBetween PutAway old new) (λ e. D.observed ≡ true → EndsSweepBetween old new) c.sweep_area.result (λ e ends t. inl (ends t)) c.sweep_area.ensures.ended)
+    err_same (λ e. D.observed ≡ true → EndsImageSweepBetween old new) c.sweep_area.result c.from_residual.result (λ e h. search (rules, h, c.from_residual.ensures, c.in_err-sweep_area.is))
+    (if_err (λ e. D.observed ≡ true → EndsStorePassBetween PutAway old new) (λ e. D.observed ≡ true → EndsImageSweepBetween old new) c.sweep_area.result (λ e ends t. inl (ends t)) c.sweep_area.ensures.ended)
 
 pub returns-clause-ended : goal.returns-clause-ended
 returns-clause-ended g c =
@@ -94,10 +94,10 @@ returns-clause-ended g c =
     let old = D.shown c.args.dir.now in
     let mid = D.shown c.sweep_area.new.dir in
     let new = D.shown c.sweep_area-2.new.dir in
-    err_more (λ e. D.observed ≡ true → EndsPassBetween Delete mid new) (λ e. D.observed ≡ true → EndsSweepBetween old new) c.sweep_area-2.result
+    if_err (λ e. D.observed ≡ true → EndsStorePassBetween Delete mid new) (λ e. D.observed ≡ true → EndsImageSweepBetween old new) c.sweep_area-2.result
     (λ e ends t.
     let x = c.in_ok-sweep_area.ensures.passed t in
-    inr (record { between = mid.trace; moved = x.0; puts_away = x.2; ends = subst (λ (me : ℕ). EndsPass Delete me mid.trace new.trace) c.sweep_area.ensures.worked.same (ends t) }))
+    inr (record { between = mid.trace; moved = x.0; puts_away = x.2; ends = subst (λ (me : ℕ). EndsStorePass Delete me mid.trace new.trace) c.sweep_area.ensures.worked.same (ends t) }))
     c.sweep_area-2.ensures.ended
 
 pub returns-in_err-sweep_area-clause-tried : goal.returns-in_err-sweep_area-clause-tried
@@ -106,7 +106,7 @@ returns-in_err-sweep_area-clause-tried g c =
     let old = D.shown c.args.dir.now in
     let new = D.shown c.sweep_area.new.dir in
     err_same (λ e. D.observed ≡ true → HasTriedBetween old new) c.sweep_area.result c.from_residual.result (λ e h. search (rules, h, c.from_residual.ensures, c.in_err-sweep_area.is))
-    (err_more (λ e. D.observed ≡ true → TriedBetween PutAway old new) (λ e. D.observed ≡ true → HasTriedBetween old new) c.sweep_area.result
+    (if_err (λ e. D.observed ≡ true → TriedBetween PutAway old new) (λ e. D.observed ≡ true → HasTriedBetween old new) c.sweep_area.result
     (λ e tried t. record { between = new.trace; puts_away = tried t; deletes = tried_none Delete old.process new.trace }) c.sweep_area.ensures.tried)
 
 pub returns-in_err-sweep_area-clause-lawful : goal.returns-in_err-sweep_area-clause-lawful

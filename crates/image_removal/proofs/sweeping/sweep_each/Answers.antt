@@ -1,22 +1,22 @@
 use Rattle.std.proofs.Common.{rules, ◌≡◌, ◌+◌, ◌∷◌, ◌++◌, [], ℕ, List, true, take, drop, take-append-drop, ap, sym, subst, ◌∙◌, append_assoc}
 use Rattle.std.proofs.lemmas.List.{take_more}
-use Rattle.folder_building.proofs.Copying.{err_more}
 use Rattle.folder_building.proofs.Working.{worked_none, worked_more, worked_wider}
-use Rattle.image_reading.proofs.Results.{err_same}
-use Rattle.image_removal.specs.Passes.{area_of, deals_with_some}
-use Rattle.image_removal.specs.Causes.{WorkCause}
+use Rattle.folder_building.proofs.Following.{follows_work}
+use Rattle.image_removal.specs.Passes.{area_of_pass, deals_with_folders}
+use Rattle.image_removal.specs.Causes.{RemovalWorkCause}
 use Rattle.image_removal.specs.Sweeps.{AddsLines}
-use Rattle.image_removal.specs.Work.{HoldsArea, StaysConforming, Stays}
-use Rattle.image_removal.proofs.Times.{follows_work, work_after}
+use Rattle.image_removal.specs.Work.{HoldsArea, KeepsStandingAndRules, Stays}
+use Rattle.image_removal.proofs.Times.{work_after}
 use Rattle.image_removal.proofs.Knowing.{stays_none, stays_more, stays_then}
 use Rattle.image_removal.proofs.Names.{some_among, adds_none, adds_more}
 use Rattle.dir_model.proofs.Chains.{nothing_yet, and_more, extends_wider}
 use Rattle.dir_trait.specs.DirCalls.{ExtendsBy}
-use Rattle.image_removal.specs.Ended.{EndsAt, EndsAtBetween, EndsAmongBetween}
+use Rattle.image_removal.specs.Ended.{EndsAt, EndsAtBetween, EndsAmongFoldersBetween}
 use Rattle.image_removal.proofs.Names.{some_left, some_right}
 use Rattle.std.specs.List.Sorted.{IsStrictlySortedBy}
 use Rattle.std.specs.Ordering.{nat_cmp}
 use Rattle.std.specs.Cmp.Lexicographic.{slice_cmp}
+use Rattle.plain_laws.proofs.Results.{if_err, err_same}
 use Rattle.dir_model.specs.Listings.{has_name}
 use Rattle.image_removal.specs.Sweeps.{WasListed}
 use Rattle.image_removal.proofs.Knowing.{holds_still}
@@ -38,9 +38,9 @@ names-preserved g c =
     let whole : (take i names ++ name ∷ []) ++ drop (i + 1) names ≡ names = ap (λ (l : List (List ℕ)). l ++ drop (i + 1) names) (sym more) ∙ take-append-drop (i + 1) names in
     record {
       worked = worked_more inv.worked
-          (worked_wider (λ r is. subst (λ (l : List (List ℕ)). deals_with_some pass l r ≡ true) whole (some_among pass (take i names) (drop (i + 1) names) name r is))
+          (worked_wider (λ r is. subst (λ (l : List (List ℕ)). deals_with_folders pass l r ≡ true) whole (some_among pass (take i names) (drop (i + 1) names) name r is))
           c.sweep_next.ensures.worked);
-      so_far = λ t. subst (λ (l : List (List ℕ)). ExtendsBy (deals_with_some pass l) (D.shown c.args.dir.now) (D.shown c.sweep_next.new.dir)) (sym more)
+      so_far = λ t. subst (λ (l : List (List ℕ)). ExtendsBy (deals_with_folders pass l) (D.shown c.args.dir.now) (D.shown c.sweep_next.new.dir)) (sym more)
           (and_more (extends_wider (some_left pass (take i names) (name ∷ [])) (inv.so_far t)) inv.worked.same (extends_wider (some_right pass (take i names) (name ∷ [])) (c.sweep_next.ensures.worked.extends t)));
       swept = subst (λ (l : List (List ℕ)). AddsLines D.observed pass l c.args.lines.now.items c.sweep_next.new.lines.items (D.shown c.args.dir.now) (D.shown c.sweep_next.new.dir)) (sym more)
           (adds_more pass (take i names) (name ∷ []) c.args.lines.now.items c.names.lines.items c.sweep_next.new.lines.items (follows_work inv.worked)
@@ -57,7 +57,7 @@ returns-in_err-sweep_next-clause-worked g c =
     let more : take (i + 1) names ≡ take i names ++ name ∷ [] = take_more names i name c.names-test.true ∙ ap (λ l. take i names ++ l ∷ []) (sym c.name-item.is) in
     let whole : (take i names ++ name ∷ []) ++ drop (i + 1) names ≡ names = ap (λ (l : List (List ℕ)). l ++ drop (i + 1) names) (sym more) ∙ take-append-drop (i + 1) names in
     worked_more c.names.invariant.worked
-    (worked_wider (λ r is. subst (λ (l : List (List ℕ)). deals_with_some pass l r ≡ true) whole (some_among pass (take i names) (drop (i + 1) names) name r is)) c.sweep_next.ensures.worked)
+    (worked_wider (λ r is. subst (λ (l : List (List ℕ)). deals_with_folders pass l r ≡ true) whole (some_among pass (take i names) (drop (i + 1) names) name r is)) c.sweep_next.ensures.worked)
 
 pub returns-in_err-sweep_next-clause-cause : goal.returns-in_err-sweep_next-clause-cause
 returns-in_err-sweep_next-clause-cause g c =
@@ -65,20 +65,20 @@ returns-in_err-sweep_next-clause-cause g c =
     let old = D.shown c.args.dir.now in
     let mid = D.shown c.names.dir in
     let new = D.shown c.sweep_next.new.dir in
-    err_same (λ e. WorkCause D.observed e old new) c.sweep_next.result c.from_residual.result (λ e h. search (rules, h, c.from_residual.ensures, c.in_err-sweep_next.is))
-    (err_more (λ e. WorkCause D.observed e mid new) (λ e. WorkCause D.observed e old new) c.sweep_next.result (λ e w. work_after (follows_work c.names.invariant.worked) w)
+    err_same (λ e. RemovalWorkCause D.observed e old new) c.sweep_next.result c.from_residual.result (λ e h. search (rules, h, c.from_residual.ensures, c.in_err-sweep_next.is))
+    (if_err (λ e. RemovalWorkCause D.observed e mid new) (λ e. RemovalWorkCause D.observed e old new) c.sweep_next.result (λ e w. work_after (follows_work c.names.invariant.worked) w)
     c.sweep_next.ensures.cause)
 
 pub returns-in_err-sweep_next-clause-left : goal.returns-in_err-sweep_next-clause-left
 returns-in_err-sweep_next-clause-left g c =
     let D = g.D.Dir in
-    let area = area_of c.args.pass in
+    let area = area_of_pass c.args.pass in
     let old = D.shown c.args.dir.now in
     let mid = D.shown c.names.dir in
     let new = D.shown c.sweep_next.new.dir in
-    err_same (λ e. D.observed ≡ true → Stays (HoldsArea area) StaysConforming old new) c.sweep_next.result c.from_residual.result
+    err_same (λ e. D.observed ≡ true → Stays (HoldsArea area) KeepsStandingAndRules old new) c.sweep_next.result c.from_residual.result
     (λ e h. search (rules, h, c.from_residual.ensures, c.in_err-sweep_next.is))
-    (err_more (λ e. D.observed ≡ true → Stays (HoldsArea area) StaysConforming mid new) (λ e. D.observed ≡ true → Stays (HoldsArea area) StaysConforming old new) c.sweep_next.result
+    (if_err (λ e. D.observed ≡ true → Stays (HoldsArea area) KeepsStandingAndRules mid new) (λ e. D.observed ≡ true → Stays (HoldsArea area) KeepsStandingAndRules old new) c.sweep_next.result
     (λ e left t. stays_then (c.names.invariant.stays t) (left t)) c.sweep_next.ensures.left)
 
 pub returns-in_err-sweep_next-clause-ended : goal.returns-in_err-sweep_next-clause-ended
@@ -94,9 +94,9 @@ returns-in_err-sweep_next-clause-ended g c =
     let inv = c.names.invariant in
     let more : take (i + 1) names ≡ take i names ++ name ∷ [] = take_more names i name c.names-test.true ∙ ap (λ l. take i names ++ l ∷ []) (sym c.name-item.is) in
     let whole : (take i names ++ name ∷ []) ++ drop (i + 1) names ≡ names = ap (λ (l : List (List ℕ)). l ++ drop (i + 1) names) (sym more) ∙ take-append-drop (i + 1) names in
-    err_same (λ e. D.observed ≡ true → EndsAmongBetween pass names old new) c.sweep_next.result c.from_residual.result
+    err_same (λ e. D.observed ≡ true → EndsAmongFoldersBetween pass names old new) c.sweep_next.result c.from_residual.result
     (λ e h. search (rules, h, c.from_residual.ensures, c.in_err-sweep_next.is))
-    (err_more (λ e. D.observed ≡ true → EndsAtBetween pass name mid new) (λ e. D.observed ≡ true → EndsAmongBetween pass names old new) c.sweep_next.result
+    (if_err (λ e. D.observed ≡ true → EndsAtBetween pass name mid new) (λ e. D.observed ≡ true → EndsAmongFoldersBetween pass names old new) c.sweep_next.result
     (λ e ends t. record {
       earlier = take i names;
       name = name;

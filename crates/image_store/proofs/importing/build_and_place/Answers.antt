@@ -1,17 +1,17 @@
 use Rattle.std.proofs.Common.{◌≡◌, true, Ok, false, rules, subst}
+use Rattle.plain_laws.proofs.Results.{if_err, err_same}
 use Rattle.ac_types.specs.declared.store_key.StoreKey.{StoreKey}
-use Rattle.folder_building.proofs.Copying.{err_more}
-use Rattle.image_reading.proofs.Results.{err_same}
 use Rattle.image_reading.specs.Places.{image_spot}
-use Rattle.image_store.specs.Refusals.{is_work_refusal}
-use Rattle.image_store.specs.Work.{FromFilled, IsPlaced}
-use Rattle.image_store.specs.Causes.{source_at, BuildCause, PlaceCause, ImportCause}
-use Rattle.image_store.specs.Imports.{key_of}
-use Rattle.image_store.proofs.Widths.{follows_work, cause_after}
+use Rattle.image_store.specs.Refusals.{is_import_work_refusal}
+use Rattle.image_store.specs.Work.{WhereImportFilled, IsImagePlaced}
+use Rattle.image_store.specs.Causes.{bundle_source_at, BuildCause, PlaceCause, ImportCause}
+use Rattle.image_store.specs.Imports.{key_of_image}
+use Rattle.image_store.proofs.Widths.{cause_after}
 use Rattle.image_store.proofs.Refusals.{build_import, place_import}
 use Rattle.image_store.proofs.Placings.{same_key}
 use Rattle.image_store.proofs.Outcomes.{placed_leaves}
 use Rattle.folder_building.proofs.Working.{worked_more, worked_wider}
+use Rattle.folder_building.proofs.Following.{follows_work}
 use Rattle.image_store.specs.Requests.{building_spot}
 use Rattle.image_store.specs.Moves.{Moves}
 use Rattle.image_store.proofs.Fillings.{makes_import}
@@ -21,22 +21,22 @@ use Rattle.image_store.proofs.importing.build_and_place.Goals as goal
 pub returns-in_err-build-clause-cause : goal.returns-in_err-build-clause-cause
 returns-in_err-build-clause-cause g c =
     let D = g.D.Dir in
-    let source = source_at g.B.Bundle.observed (g.B.Bundle.shown c.args.bundle.now).tree c.args.path.now in
+    let source = bundle_source_at g.B.Bundle.observed (g.B.Bundle.shown c.args.bundle.now).tree c.args.path.now in
     let old = D.shown c.args.dir.now in
     let new = D.shown c.build.new.dir in
     let image = c.args.image.now in
-    err_same (λ e. ImportCause is_work_refusal D.observed source (key_of image) c.args.digest.now image.listing e old new) c.build.result c.from_residual.result (λ e h. search (rules, h, c.from_residual.ensures, c.in_err-build.is))
-    (err_more (λ e. BuildCause D.observed source image.listing e old new) (λ e. ImportCause is_work_refusal D.observed source (key_of image) c.args.digest.now image.listing e old new) c.build.result (λ e x. build_import e x) c.build.ensures.cause)
+    err_same (λ e. ImportCause is_import_work_refusal D.observed source (key_of_image image) c.args.digest.now image.listing e old new) c.build.result c.from_residual.result (λ e h. search (rules, h, c.from_residual.ensures, c.in_err-build.is))
+    (if_err (λ e. BuildCause D.observed source image.listing e old new) (λ e. ImportCause is_import_work_refusal D.observed source (key_of_image image) c.args.digest.now image.listing e old new) c.build.result (λ e x. build_import e x) c.build.ensures.cause)
 
 pub returns-clause-cause : goal.returns-clause-cause
 returns-clause-cause g c =
     let D = g.D.Dir in
-    let source = source_at g.B.Bundle.observed (g.B.Bundle.shown c.args.bundle.now).tree c.args.path.now in
+    let source = bundle_source_at g.B.Bundle.observed (g.B.Bundle.shown c.args.bundle.now).tree c.args.path.now in
     let old = D.shown c.args.dir.now in
     let mid = D.shown c.build.new.dir in
     let new = D.shown c.place.new.dir in
     let image = c.args.image.now in
-    err_more (λ e. PlaceCause D.observed c.of.result c.args.digest.now e mid new) (λ e. ImportCause is_work_refusal D.observed source (key_of image) c.args.digest.now image.listing e old new) c.place.result
+    if_err (λ e. PlaceCause D.observed c.of.result c.args.digest.now e mid new) (λ e. ImportCause is_import_work_refusal D.observed source (key_of_image image) c.args.digest.now image.listing e old new) c.place.result
     (λ e x. cause_after (follows_work c.build.ensures.worked) (place_import e (subst (λ (k : StoreKey). PlaceCause D.observed k c.args.digest.now e mid new) (same_key c.of.result image c.of.ensures) x))) c.place.ensures.cause
 
 pub returns-clause-leaves : goal.returns-clause-leaves
@@ -45,7 +45,7 @@ returns-clause-leaves g c t =
     let mid = D.shown c.build.new.dir in
     let new = D.shown c.place.new.dir in
     placed_leaves c.args.draw c.args.now c.args.image.now c.place.result t (follows_work c.build.ensures.worked)
-    (subst (λ (k : StoreKey). c.place.result ≡ Ok false → D.observed ≡ true → FromFilled c.args.draw mid (λ intent hs entries. IsPlaced c.args.draw (image_spot k) intent hs entries mid new)) (same_key c.of.result c.args.image.now c.of.ensures) c.place.ensures.placed)
+    (subst (λ (k : StoreKey). c.place.result ≡ Ok false → D.observed ≡ true → WhereImportFilled c.args.draw mid (λ intent hs entries. IsImagePlaced c.args.draw (image_spot k) intent hs entries mid new)) (same_key c.of.result c.args.image.now c.of.ensures) c.place.ensures.placed)
     c.place.ensures.left (c.in_ok-build.ensures.done t)
 
 pub returns-in_err-build-clause-worked : goal.returns-in_err-build-clause-worked
@@ -57,14 +57,14 @@ returns-clause-worked g c = worked_more (worked_wider (makes_import (building_sp
 pub returns-in_err-build-clause-still : goal.returns-in_err-build-clause-still
 returns-in_err-build-clause-still g c t =
     let D = g.D.Dir in
-    moves_none (building_spot c.args.draw) (key_of c.args.image.now) c.from_residual.result (D.shown c.args.dir.now) (D.shown c.build.new.dir) (λ is. search (rules, is, c.from_residual.ensures, c.in_err-build.is))
+    moves_none (building_spot c.args.draw) (key_of_image c.args.image.now) c.from_residual.result (D.shown c.args.dir.now) (D.shown c.build.new.dir) (λ is. search (rules, is, c.from_residual.ensures, c.in_err-build.is))
     (nothing_built (building_spot c.args.draw) c.build.ensures.worked t)
 
 pub returns-clause-still : goal.returns-clause-still
 returns-clause-still g c t =
     let D = g.D.Dir in
     let spot = building_spot c.args.draw in
-    let key = key_of c.args.image.now in
+    let key = key_of_image c.args.image.now in
     let old = D.shown c.args.dir.now in
     let mid = D.shown c.build.new.dir in
     let new = D.shown c.place.new.dir in

@@ -1,7 +1,7 @@
 use Rattle.std.proofs.Common.{◌≡◌, ◌≢◌, ap, Err, List, ℕ, subst}
-use Rattle.folder_building.proofs.Copying.{err_more}
+use Rattle.plain_laws.proofs.Results.{if_err}
 use Rattle.image_reading.specs.declared.error.StoreError.TheVariants.{IdConflict}
-use Rattle.image_reading.specs.Images.{HasDigest}
+use Rattle.image_reading.specs.Images.{ReadsDigest}
 use Rattle.image_reading.proofs.Widths.{within_self}
 use Rattle.image_store.specs.Causes.{LookCause}
 use Rattle.image_store.proofs.Refusals.{look_cause, other_cause}
@@ -11,12 +11,12 @@ pub returns-in-Ok-Some-clause-there : goal.returns-in-Ok-Some-clause-there
 returns-in-Ok-Some-clause-there g c is t =
     let D = g.D.Dir in
     let same = rw is at c.is_same.ensures.same in
-    within_self (subst (λ (d : List ℕ). HasDigest c.args.key d (D.shown c.args.dir.now) (D.shown c.stored_digest.new.dir)) same.1 ((rw c.in-Ok-Some.field-0-is at c.in-Ok-Some.ensures.there) t))
+    within_self (subst (λ (d : List ℕ). ReadsDigest c.args.key d (D.shown c.args.dir.now) (D.shown c.stored_digest.new.dir)) same.1 ((rw c.in-Ok-Some.field-0-is at c.in-Ok-Some.ensures.there) t))
 
 pub returns-in-Ok-Some-clause-cause : goal.returns-in-Ok-Some-clause-cause
 returns-in-Ok-Some-clause-cause g c =
     let D = g.D.Dir in
-    err_more (λ e. (e ≡ IdConflict c.args.key c.in-Ok-Some.stored c.args.digest.now) × (c.in-Ok-Some.stored ≢ c.args.digest.now))
+    if_err (λ e. (e ≡ IdConflict c.args.key c.in-Ok-Some.stored c.args.digest.now) × (c.in-Ok-Some.stored ≢ c.args.digest.now))
     (λ e. LookCause D.observed c.args.key c.args.digest.now e (D.shown c.args.dir.now) (D.shown c.stored_digest.new.dir)) c.is_same.result
     (λ e x. other_cause c.args.key c.in-Ok-Some.stored c.args.digest.now e x.0 x.1 (rw c.in-Ok-Some.field-0-is at c.in-Ok-Some.ensures.there)) c.is_same.ensures.other
 

@@ -1,10 +1,11 @@
 use Rattle.std.proofs.Common.{◌≡◌, true, Some, Ok, Err, IfErr, Result, Bool, ap, sym, subst, ◌∙◌}
 use Rattle.dir_trait.specs.Knowledge.{Knows}
+use Rattle.dir_trait.proofs.Calls.{with_spots}
 use Rattle.image_reading.specs.declared.error.StoreError.{StoreError}
 use Rattle.image_store.specs.Requests.{building_spot}
-use Rattle.image_store.specs.Work.{at_work, holding, FromFilled, Unbrought}
+use Rattle.image_store.specs.Work.{seen_importing, holding, WhereImportFilled, Unbrought}
 use Rattle.image_store.specs.Causes.{ChangeCause}
-use Rattle.image_store.proofs.Changes.{with_spots, worked_move, placed_by, move_cause, move_taken, move_left}
+use Rattle.image_store.proofs.Changes.{worked_move, placed_by, move_cause, move_taken, move_left}
 use Rattle.image_store.specs.Moves.{Moves}
 use Rattle.image_store.proofs.Moving.{moved_done, answered_not}
 use Rattle.image_store.proofs.placing.bring.Goals as goal
@@ -36,7 +37,7 @@ returns-in-Err-clause-left g c =
     let D = g.D.Dir in
     let old = D.shown c.args.dir.now in
     let new = D.shown c.move_folder.new.self in
-    subst (λ (r : Result Bool StoreError). Unbrought r (D.observed ≡ true → FromFilled c.args.draw old (λ intent hs entries. Knows new (at_work intent hs true (Some (holding (building_spot c.args.draw) entries)))))) (sym c.move_answer.ensures)
+    subst (λ (r : Result Bool StoreError). Unbrought r (D.observed ≡ true → WhereImportFilled c.args.draw old (λ intent hs entries. Knows new (seen_importing intent hs true (Some (holding (building_spot c.args.draw) entries)))))) (sym c.move_answer.ensures)
     (move_left D.observed c.args.draw old new c.args.key c.in-Err.error (with_spots c.building_spot-from.ensures c.in_ok-to.ensures.spot c.in-Err.ensures.called))
 
 pub returns-in-Ok-clause-still : goal.returns-in-Ok-clause-still

@@ -1,6 +1,5 @@
 use Rattle.std.proofs.Common.{rules}
-use Rattle.folder_building.proofs.Copying.{err_more}
-use Rattle.image_reading.proofs.Results.{err_same}
+use Rattle.plain_laws.proofs.Results.{if_err, err_same}
 use Rattle.image_store.specs.Causes.{LookCause, CompareCause}
 use Rattle.image_store.proofs.Refusals.{look_compare}
 use Rattle.image_store.proofs.placing.compare.Goals as goal
@@ -11,4 +10,4 @@ returns-in_err-is_there-clause-cause g c =
     let old = D.shown c.args.dir.now in
     let new = D.shown c.is_there.new.dir in
     err_same (λ e. CompareCause D.observed c.args.key c.args.digest.now e old new) c.is_there.result c.from_residual.result (λ e h. search (rules, h, c.from_residual.ensures, c.in_err-is_there.is))
-    (err_more (λ e. LookCause D.observed c.args.key c.args.digest.now e old new) (λ e. CompareCause D.observed c.args.key c.args.digest.now e old new) c.is_there.result (λ e x. look_compare x) c.is_there.ensures.cause)
+    (if_err (λ e. LookCause D.observed c.args.key c.args.digest.now e old new) (λ e. CompareCause D.observed c.args.key c.args.digest.now e old new) c.is_there.result (λ e x. look_compare x) c.is_there.ensures.cause)

@@ -3,7 +3,7 @@ use Rattle.std.proofs.lemmas.List.{take_all}
 use Rattle.std.specs.List.{slice_get}
 use Rattle.spawner.specs.declared.call.SpawnCall.{SpawnCall}
 use Rattle.std.proofs.lemmas.Option.{slice_get_read}
-use Rattle.memory_spawner.specs.SpawnerMemories.{is_start, starts_of}
+use Rattle.memory_spawner.specs.SpawnerMemories.{is_start, ok_starts_of}
 use Rattle.memory_spawner.proofs.StartPlaces.{start_here, start_past}
 use Rattle.memory_spawner.proofs.starts.start_at.Goals as goal
 
@@ -17,5 +17,5 @@ returns-then-count-start c =
 pub returns : goal.returns
 returns c =
     let whole : take c.calls.call-index c.args.calls.now ≡ c.args.calls.now = take_all c.calls.call-index c.args.calls.now (search rules) in
-    let counted : c.calls.count ≡ length (starts_of c.args.calls.now) = c.calls.invariant.0 ∙ ap (λ (calls : List SpawnCall). length (starts_of calls)) whole in
+    let counted : c.calls.count ≡ length (ok_starts_of c.args.calls.now) = c.calls.invariant.0 ∙ ap (λ (calls : List SpawnCall). length (ok_starts_of calls)) whole in
     sym (start_past c.args.calls.now c.args.start (λ some. omega (arith, counted, c.calls.invariant.2 some)))

@@ -1,5 +1,5 @@
 use Rattle.std.proofs.Common.{◌≡◌, true, string_bytes}
-use Rattle.image_reading.proofs.Results.{if_ok}
+use Rattle.plain_laws.proofs.Results.{if_ok}
 use Rattle.metadata_request.specs.Inputs.{unread_of}
 use Rattle.metadata_reply.specs.ReplyBytes.{reply_bytes}
 use Rattle.metadata.specs.Serving.{IsReplyTo}

@@ -1,5 +1,5 @@
 use Rattle.std.proofs.Common.{◌≡◌, true, option_map}
-use Rattle.image_reading.proofs.Results.{if_ok}
+use Rattle.plain_laws.proofs.Results.{if_ok}
 use Rattle.metadata_reply.specs.Answers.{answer_of}
 use Rattle.metadata_reply.specs.Views.{view_data}
 use Rattle.metadata.specs.Serving.{RepliesFor}

@@ -1,5 +1,5 @@
 use Rattle.std.proofs.Common.{◌≡◌, inl, true, option_map}
-use Rattle.image_reading.proofs.Results.{if_ok}
+use Rattle.plain_laws.proofs.Results.{if_ok}
 use Rattle.manifests.specs.PodData.{pod_data}
 use Rattle.metadata_reply.specs.Views.{view_data}
 use Rattle.pod_files.proofs.Reading.{reads_more}

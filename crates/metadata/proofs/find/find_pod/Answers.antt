@@ -1,10 +1,10 @@
 use Rattle.std.proofs.Common.{◌≡◌, ◌∙◌, true, option_map, List, ℕ, subst}
+use Rattle.plain_laws.proofs.Results.{if_ok}
 use Rattle.hex.specs.Hex.{encode_lower}
-use Rattle.image_reading.proofs.Results.{if_ok}
 use Rattle.metadata_reply.specs.Views.{view_data}
 use Rattle.pod_report.proofs.Asking.{asks_more}
 use Rattle.metadata.specs.Finding.{TellsAll}
-use Rattle.metadata.specs.PodViews.{FindsPod}
+use Rattle.metadata.specs.PodViews.{FindsPodByToken}
 use Rattle.metadata.proofs.Finding.{finds}
 use Rattle.metadata.proofs.find.find_pod.Goals as goal
 
@@ -19,7 +19,7 @@ returns-in-Ok-clause-finds g c =
     let new = D.shown c.among_names.new.dir in
     let names = c.in-Ok.names in
     let digits = encode_lower c.args.token.now in
-    if_ok (λ found. D.observed ≡ true → TellsAll c.as_slice.result.now c.as_slice-in-Ok.result.now (option_map view_data found) mid new) (λ found. D.observed ≡ true → FindsPod c.args.token.now (option_map view_data found) old new) c.among_names.result
+    if_ok (λ found. D.observed ≡ true → TellsAll c.as_slice.result.now c.as_slice-in-Ok.result.now (option_map view_data found) mid new) (λ found. D.observed ≡ true → FindsPodByToken c.args.token.now (option_map view_data found) old new) c.among_names.result
     (λ found tells t. finds t digits old mid new c.names_in_run.ensures.only c.among_names.ensures.only names (option_map view_data found) (c.in-Ok.ensures.shows t)
     (subst (λ (ns : List (List ℕ)). TellsAll ns digits (option_map view_data found) mid new) c.as_slice.ensures
     (subst (λ (ds : List ℕ). TellsAll c.as_slice.result.now ds (option_map view_data found) mid new) (c.as_slice-in-Ok.ensures ∙ c.token_digits-digits.ensures) (tells t)))) c.among_names.ensures.tells

@@ -4,7 +4,7 @@ use Rattle.manifests.specs.declared.runtime_app.RuntimeApp.{RuntimeApp}
 use Rattle.metadata_reply.specs.Views.{image_bytes}
 use Rattle.pod_files.proofs.Reading.{reads_none, reads_more}
 use Rattle.metadata.specs.Images.{names}
-use Rattle.metadata.specs.PodViews.{ReadsImages}
+use Rattle.metadata.specs.PodViews.{ReadsAppImages}
 use Rattle.metadata.proofs.Images.{images_none, images_next, image_lacks, readable_none, readable_next}
 use Rattle.metadata.proofs.image.read_images.Goals as goal
 
@@ -46,4 +46,4 @@ returns-in-Ok-None-clause-tells g c t =
 pub returns-clause-tells : goal.returns-clause-tells
 returns-clause-tells g c t =
     let D = g.D.Dir in
-    subst (λ (l : List RuntimeApp). ReadsImages c.args.pod (names l) (map image_bytes c.apps.images.items) (D.shown c.args.dir.now) (D.shown c.apps.dir)) (take_all c.apps.app-index c.args.apps.now c.apps-test.false) (c.apps.invariant.read t)
+    subst (λ (l : List RuntimeApp). ReadsAppImages c.args.pod (names l) (map image_bytes c.apps.images.items) (D.shown c.args.dir.now) (D.shown c.apps.dir)) (take_all c.apps.app-index c.args.apps.now c.apps-test.false) (c.apps.invariant.read t)

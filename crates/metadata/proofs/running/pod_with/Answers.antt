@@ -1,5 +1,5 @@
 use Rattle.std.proofs.Common.{◌≡◌, inl, inr, true, option_map}
-use Rattle.image_reading.proofs.Results.{if_ok}
+use Rattle.plain_laws.proofs.Results.{if_ok}
 use Rattle.metadata_reply.specs.Views.{view_data}
 use Rattle.pod_report.proofs.Asking.{asks_more}
 use Rattle.metadata.specs.PodViews.{TellsRunning, TellsPod}

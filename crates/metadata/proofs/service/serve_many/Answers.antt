@@ -2,7 +2,7 @@ use Rattle.std.proofs.Common.{arith, rules, ◌≡◌, ◌∙◌, inl, inr, Ok, 
 use Rattle.dir_trait.specs.DirCalls.{DirAt}
 use Rattle.metadata.specs.declared.error.MetaError.TheVariants.{LinkFault, DirFault}
 use Rattle.pod_report.proofs.Asking.{asks_none, asks_more}
-use Rattle.metadata.specs.Service.{Served, first_of, ServesThese}
+use Rattle.metadata.specs.Service.{Served, first_failed_of, ServesThese}
 use Rattle.metadata.proofs.Connections.{serves_then, none_current, fault_more, first_cause}
 use Rattle.metadata.proofs.service.serve_many.Goals as goal
 
@@ -36,7 +36,7 @@ connections-preserved g c =
           let here = none_current c.args.key.now s.0 (L.shown c.args.link.now) (L.shown c.connections.link) (D.shown c.args.dir.now) (D.shown c.connections.dir) s.3 none in (
             s.0 ++ served ∷ [],
             omega (arith, long, s.1),
-            c.first_of-first.ensures ∙ (ap (λ (f : Served). first_of f served) s.2 ∙ sym (fault_more s.0 served)),
+            c.first_of-first.ensures ∙ (ap (λ (f : Served). first_failed_of f served) s.2 ∙ sym (fault_more s.0 served)),
             serves_then c.args.key.now s.0 served (L.shown c.args.link.now) (L.shown c.connections.link) (L.shown c.serve_next.new.link) (D.shown c.args.dir.now) (D.shown c.connections.dir) (D.shown c.serve_next.new.dir) s.3 (c.in-Ok.ensures.serves l d here),
           );
     }

@@ -1,5 +1,5 @@
 use Rattle.std.proofs.Common.{◌∙◌, arith, rules, Bool, Option, ap, subst, refl}
-use Rattle.listener.specs.Connections.{Connection, ended}
+use Rattle.listener.specs.Connections.{Connection, past_with_current}
 use Rattle.metadata.specs.Looks.{looks_in_run}
 use Rattle.metadata.specs.declared.error.MetaError.TheVariants.{LinkFault}
 use Rattle.pod_report.specs.Requests.{OnlyAsksFor}
@@ -13,7 +13,7 @@ returns-then-faults-before-clause-serves g c l d none =
     let L = g.L.Listener in
     let old = L.shown c.args.link.now in
     let took = c.in-Ok.ensures.told l in
-    let left = leaves_part c.args.key.now took.0 old (L.shown c.next.new.self) (L.shown c.serve_one-served.new.link) (L.shown c.hang_up.new.self) (D.shown c.args.dir.now) (D.shown c.serve_one-served.new.dir) took.1 (took.2 ∙ ap (λ (o : Option Connection). ended (L.shown c.next.new.self).faults old.past o) none) took.3 (c.hang_up.ensures.told l)
+    let left = leaves_part c.args.key.now took.0 old (L.shown c.next.new.self) (L.shown c.serve_one-served.new.link) (L.shown c.hang_up.new.self) (D.shown c.args.dir.now) (D.shown c.serve_one-served.new.dir) took.1 (took.2 ∙ ap (λ (o : Option Connection). past_with_current (L.shown c.next.new.self).faults old.past o) none) took.3 (c.hang_up.ensures.told l)
     LinkFault (c.serve_one-served.ensures.part l d) in
     record {
       connection = left.connection;
@@ -34,7 +34,7 @@ returns-else-faults-before-clause-serves g c l d none =
     let old = L.shown c.args.link.now in
     let took = c.in-Ok.ensures.told l in
     let e = c.serve_one-served.ensures in
-    let left = leaves_so c.args.key.now took.0 old (L.shown c.next.new.self) (L.shown c.serve_one-served.new.link) (L.shown c.hang_up.new.self) (D.shown c.args.dir.now) (D.shown c.serve_one-served.new.dir) took.1 (took.2 ∙ ap (λ (o : Option Connection). ended (L.shown c.next.new.self).faults old.past o) none) took.3 (c.hang_up.ensures.told l)
+    let left = leaves_so c.args.key.now took.0 old (L.shown c.next.new.self) (L.shown c.serve_one-served.new.link) (L.shown c.hang_up.new.self) (D.shown c.args.dir.now) (D.shown c.serve_one-served.new.dir) took.1 (took.2 ∙ ap (λ (o : Option Connection). past_with_current (L.shown c.next.new.self).faults old.past o) none) took.3 (c.hang_up.ensures.told l)
     c.serve_one-served.result (search rules) (e.part l d) in
     record {
       connection = left.connection;

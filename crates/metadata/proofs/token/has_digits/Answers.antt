@@ -1,5 +1,5 @@
 use Rattle.std.proofs.Common.{inl}
-use Rattle.pod_files.proofs.Names.{token_form}
+use Rattle.dir_laws.proofs.Names.{token_form}
 use Rattle.metadata.proofs.Asking.{asks_pod}
 use Rattle.metadata.proofs.Tokens.{tells_digits}
 use Rattle.metadata.proofs.token.has_digits.Goals as goal

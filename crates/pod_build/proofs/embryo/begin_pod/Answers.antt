@@ -1,4 +1,5 @@
 use Rattle.std.proofs.Common.{◌≡◌, true, Some, Err, [], ◌∷◌, sym, ap, subst, ◌∙◌, arith}
+use Rattle.plain_laws.proofs.Results.{if_ok, if_err, ok_both}
 use Rattle.dir_model.specs.declared.area.Area.TheVariants.{Embryo}
 use Rattle.dir_model.specs.declared.spot.Handle.{Handle}
 use Rattle.dir_model.specs.declared.spot.Mode.TheVariants.{Shared, Exclusive}
@@ -6,16 +7,16 @@ use Rattle.dir_model.specs.Local.{IsUnopened}
 use Rattle.dir_trait.specs.Knowledge.{Knows}
 use Rattle.dir_files.specs.AreaLocks.{on_gate}
 use Rattle.dir_files.proofs.Locking.{number_is_new}
-use Rattle.folder_building.proofs.Copying.{ok_more, err_more}
-use Rattle.pod_build.specs.Progress.{at_work, nothing_made, in_prepare, own_held}
-use Rattle.pod_build.specs.Work.{IsMaker, UnderImages, UnderBoth, From, HasOwnFolder}
+use Rattle.folder_building.proofs.Following.{Follows}
+use Rattle.pod_build.specs.Progress.{seen_making, nothing_made, in_prepare, own_held}
+use Rattle.pod_build.specs.Work.{IsMaker, MakesUnderImages, UnderMakingLocks, WhereMakingPod, HasMakerFolder}
 use Rattle.pod_build.specs.declared.make_error.MakeError.{MakeError}
-use Rattle.pod_build.specs.MakingRequests.{is_brought}
-use Rattle.pod_build.specs.MakingCauses.{EmbryoCause, MakeCause, MakesFirst, HasMadeFolder, BringsPod}
-use Rattle.pod_build.proofs.Times.{Follows, follows_went, locked_cause, folder_asked, folder_before, own_after, own_before, answered_after, answered_before}
+use Rattle.pod_build.specs.MakingRequests.{is_move_to_prepare}
+use Rattle.pod_build.specs.MakingCauses.{EmbryoCause, MakeCause, MakesFirst, HasMadeFolder, BringsToPrepare}
+use Rattle.pod_build.proofs.Times.{follows_went, locked_cause, folder_asked, folder_before, own_after, own_before, answered_after, answered_before}
 use Rattle.pod_build.proofs.Calls.{lock_cause}
 use Rattle.pod_build.proofs.Knowing.{has_nothing, under_both, may_lock, gate_back, gate_back_after}
-use Rattle.pod_build.proofs.Outcomes.{Shares, GivesBack, went_refused, went_under, ok_both, err_with, apart_from}
+use Rattle.pod_build.proofs.Outcomes.{Shares, GivesBack, went_refused, went_under, err_with, apart_from}
 use Rattle.pod_build.proofs.embryo.begin_pod.Goals as goal
 
 pub returns-in-Ok-clause-went : goal.returns-in-Ok-clause-went
@@ -33,11 +34,11 @@ returns-in-Ok-clause-held g c =
     let mid = D.shown c.lock_area.new.dir in
     let late = D.shown c.make_and_take_out-result.new.dir in
     let new = D.shown c.unlock_area.new.dir in
-    ok_both (λ (own : Handle). D.observed ≡ true → From (IsMaker draw) (UnderBoth draw) nothing_made mid (λ intent hs. Knows late (at_work intent (own_held draw own (Some Exclusive) ∷ hs) (in_prepare draw []))))
+    ok_both (λ (own : Handle). D.observed ≡ true → WhereMakingPod (IsMaker draw) (UnderMakingLocks draw) nothing_made mid (λ intent hs. Knows late (seen_making intent (own_held draw own (Some Exclusive) ∷ hs) (in_prepare draw []))))
     (λ (own : Handle). IsUnopened mid.local own)
-    (λ (own : Handle). D.observed ≡ true → From (IsMaker draw) (UnderImages draw) nothing_made (D.shown c.args.dir.now) (λ intent hs. Knows new (at_work intent (own_held draw own (Some Exclusive) ∷ hs) (in_prepare draw [])))) c.make_and_take_out-result.result
+    (λ (own : Handle). D.observed ≡ true → WhereMakingPod (IsMaker draw) (MakesUnderImages draw) nothing_made (D.shown c.args.dir.now) (λ intent hs. Knows new (seen_making intent (own_held draw own (Some Exclusive) ∷ hs) (in_prepare draw [])))) c.make_and_take_out-result.result
     (λ own f fresh t intent hs maker under k. gate_back_after draw (apart_from (D.shown c.args.dir.now).local gate own c.in-Ok.ensures.held fresh) (number_is_new gate k c.in-Ok.ensures.unopened) (λ s known. c.unlock_area.ensures.gives t s known)
-    (f t intent (on_gate gate Embryo (Some Shared) ∷ hs) maker (under_both gate under) (c.in-Ok.ensures.taken t (at_work intent hs nothing_made) k (may_lock under))))
+    (f t intent (on_gate gate Embryo (Some Shared) ∷ hs) maker (under_both gate under) (c.in-Ok.ensures.taken t (seen_making intent hs nothing_made) k (may_lock under))))
     c.make_and_take_out-result.ensures.held c.make_and_take_out-result.ensures.unopened
 
 pub returns-in-Ok-clause-left : goal.returns-in-Ok-clause-left
@@ -48,17 +49,17 @@ returns-in-Ok-clause-left g c =
     let mid = D.shown c.lock_area.new.dir in
     let late = D.shown c.make_and_take_out-result.new.dir in
     let new = D.shown c.unlock_area.new.dir in
-    err_more (λ e. D.observed ≡ true → From (IsMaker draw) (UnderBoth draw) nothing_made mid (λ intent hs. HasOwnFolder draw intent hs late))
-    (λ e. D.observed ≡ true → From (IsMaker draw) (UnderImages draw) nothing_made (D.shown c.args.dir.now) (λ intent hs. HasOwnFolder draw intent hs new)) c.make_and_take_out-result.result
+    if_err (λ e. D.observed ≡ true → WhereMakingPod (IsMaker draw) (UnderMakingLocks draw) nothing_made mid (λ intent hs. HasMakerFolder draw intent hs late))
+    (λ e. D.observed ≡ true → WhereMakingPod (IsMaker draw) (MakesUnderImages draw) nothing_made (D.shown c.args.dir.now) (λ intent hs. HasMakerFolder draw intent hs new)) c.make_and_take_out-result.result
     (λ e f t intent hs maker under k. gate_back maker under.apart (number_is_new gate k c.in-Ok.ensures.unopened) (λ s known. c.unlock_area.ensures.gives t s known)
-    (f t intent (on_gate gate Embryo (Some Shared) ∷ hs) maker (under_both gate under) (c.in-Ok.ensures.taken t (at_work intent hs nothing_made) k (may_lock under))))
+    (f t intent (on_gate gate Embryo (Some Shared) ∷ hs) maker (under_both gate under) (c.in-Ok.ensures.taken t (seen_making intent hs nothing_made) k (may_lock under))))
     c.make_and_take_out-result.ensures.left
 
 pub returns-in-Err-clause-went : goal.returns-in-Err-clause-went
 returns-in-Err-clause-went g c = went_refused c.args.draw c.lock_area.ensures.same c.lock_area.ensures.faults c.in-Err.ensures.refused c.lock_area.ensures.extends
 
 pub returns-in-Err-clause-left : goal.returns-in-Err-clause-left
-returns-in-Err-clause-left g c t intent hs maker under k = has_nothing (c.in-Err.ensures.left t (at_work intent hs nothing_made) k (may_lock under))
+returns-in-Err-clause-left g c t intent hs maker under k = has_nothing (c.in-Err.ensures.left t (seen_making intent hs nothing_made) k (may_lock under))
 
 pub returns-in-Err-clause-cause : goal.returns-in-Err-clause-cause
 returns-in-Err-clause-cause g c =
@@ -86,8 +87,8 @@ pub returns-in-Ok-clause-brings : goal.returns-in-Ok-clause-brings
 returns-in-Ok-clause-brings g c =
     let D = g.D.Dir in
     let draw = c.args.draw in
-    ok_more (λ (own : Handle). D.observed ≡ true → BringsPod draw (D.shown c.lock_area.new.dir) (D.shown c.make_and_take_out-result.new.dir)) (λ (own : Handle). D.observed ≡ true → BringsPod draw (D.shown c.args.dir.now) (D.shown c.unlock_area.new.dir)) c.make_and_take_out-result.result
-    (λ own f t. answered_before (is_brought draw) (answered_after (is_brought draw) (c.lock_area.ensures.extends t) c.lock_area.ensures.same (f t)) (c.unlock_area.ensures.extends t)) c.make_and_take_out-result.ensures.brings
+    if_ok (λ (own : Handle). D.observed ≡ true → BringsToPrepare draw (D.shown c.lock_area.new.dir) (D.shown c.make_and_take_out-result.new.dir)) (λ (own : Handle). D.observed ≡ true → BringsToPrepare draw (D.shown c.args.dir.now) (D.shown c.unlock_area.new.dir)) c.make_and_take_out-result.result
+    (λ own f t. answered_before (is_move_to_prepare draw) (answered_after (is_move_to_prepare draw) (c.lock_area.ensures.extends t) c.lock_area.ensures.same (f t)) (c.unlock_area.ensures.extends t)) c.make_and_take_out-result.ensures.brings
 
 pub returns-in-Ok-clause-begins : goal.returns-in-Ok-clause-begins
 returns-in-Ok-clause-begins g c =
@@ -99,6 +100,6 @@ returns-in-Ok-clause-begins g c =
     let new = D.shown c.unlock_area.new.dir in
     let went = c.make_and_take_out-result.ensures.went in
     let same = c.lock_area.ensures.same in
-    ok_more (λ (own : Handle). D.observed ≡ true → MakesFirst draw mid late) (λ (own : Handle). D.observed ≡ true → HasMadeFolder draw old new) c.make_and_take_out-result.result
+    if_ok (λ (own : Handle). D.observed ≡ true → MakesFirst draw mid late) (λ (own : Handle). D.observed ≡ true → HasMadeFolder draw old new) c.make_and_take_out-result.result
     (λ own f t. folder_before old late new (folder_asked old mid late (c.in-Ok.ensures.free t) (c.lock_area.ensures.extends t) same (went.extends t) (f t)) (went.same ∙ same) (c.unlock_area.ensures.extends t))
     c.make_and_take_out-result.ensures.first

@@ -4,13 +4,14 @@ use Rattle.dir_model.specs.declared.request.Reply.TheVariants.{Refused}
 use Rattle.dir_model.specs.declared.spot.Spot.{Spot}
 use Rattle.dir_model.specs.Replies.{may_refuse}
 use Rattle.dir_model.proofs.Lists.{and_both}
-use Rattle.folder_building.proofs.Working.{at_spot}
 use Rattle.pod_build.specs.declared.make_error.MakeError.TheVariants.{Stray}
-use Rattle.pod_build.specs.MakingRequests.{pod_at, is_brought}
+use Rattle.pod_build.specs.MakingRequests.{pod_at, is_move_to_prepare}
 use Rattle.dir_model.specs.declared.request.Request.TheVariants.{MoveFolder}
+use Rattle.dir_model.proofs.Spots.{spot_self}
+use Rattle.dir_trait.proofs.Calls.{with_spots}
 use Rattle.pod_build.specs.declared.make_error.MakeError.{MakeError}
-use Rattle.pod_build.specs.MakingCauses.{WorkCause}
-use Rattle.pod_build.proofs.Calls.{in_area, with_spots, worked_leave, change_cause, shows_call, taken_move}
+use Rattle.pod_build.specs.MakingCauses.{MakingWorkCause}
+use Rattle.pod_build.proofs.Calls.{in_area, worked_leave, change_cause, shows_call, taken_move}
 use Rattle.pod_build.proofs.Times.{answered_self}
 use Rattle.pod_build.proofs.Knowing.{knows_left, knows_unleft}
 use Rattle.pod_build.proofs.embryo.leave_embryo.Goals as goal
@@ -28,14 +29,14 @@ pub returns-in-Err-clause-cause : goal.returns-in-Err-clause-cause
 returns-in-Err-clause-cause g c =
     let D = g.D.Dir in
     let e = c.in-Err.error in
-    subst (λ (x : MakeError). WorkCause D.observed _ x (D.shown c.args.dir.now) (D.shown c.move_folder.new.self)) (sym c.change_refusal.ensures)
+    subst (λ (x : MakeError). MakingWorkCause D.observed _ x (D.shown c.args.dir.now) (D.shown c.move_folder.new.self)) (sym c.change_refusal.ensures)
     (change_cause e (λ is. c.in-Err.ensures.cause (ap Err is)))
 
 pub returns-in-Err-clause-left : goal.returns-in-Err-clause-left
 returns-in-Err-clause-left g c t = knows_unleft {draw = c.args.draw} t c.in-Err.error (with_spots (in_area c.args.draw c.pod_at-from.ensures c.area_before.ensures) c.pod_at-to.ensures c.in-Err.ensures.called)
 
 pub returns-in-Ok-clause-brings : goal.returns-in-Ok-clause-brings
-returns-in-Ok-clause-brings g c t = answered_self (is_brought c.args.draw) (and_both _ _ (at_spot (pod_at Embryo c.args.draw)) (at_spot (pod_at Prepare c.args.draw))) ((with_spots (in_area c.args.draw c.pod_at-from.ensures c.area_before.ensures) c.pod_at-to.ensures c.in-Ok.ensures.called).step t)
+returns-in-Ok-clause-brings g c t = answered_self (is_move_to_prepare c.args.draw) (and_both _ _ (spot_self (pod_at Embryo c.args.draw)) (spot_self (pod_at Prepare c.args.draw))) ((with_spots (in_area c.args.draw c.pod_at-from.ensures c.area_before.ensures) c.pod_at-to.ensures c.in-Ok.ensures.called).step t)
 
 pub returns-in-Err-clause-stray : goal.returns-in-Err-clause-stray
 returns-in-Err-clause-stray g c h t =

@@ -5,7 +5,6 @@ use Rattle.dir_model.specs.declared.spot.Spot.{Spot}
 use Rattle.dir_model.specs.Calls.{CallStep}
 use Rattle.dir_model.specs.Replies.{may_refuse}
 use Rattle.dir_model.proofs.Chains.{nothing_yet, and_call}
-use Rattle.folder_building.proofs.Working.{at_spot}
 use Rattle.pod_build.specs.declared.make_error.MakeError.TheVariants.{Stray}
 use Rattle.pod_build.specs.MakingRequests.{pod_at}
 use Rattle.dir_model.specs.declared.opening.Target.TheVariants.{Own}
@@ -14,9 +13,11 @@ use Rattle.dir_model.specs.declared.spot.Mode.TheVariants.{Exclusive}
 use Rattle.dir_model.specs.declared.spot.Which.TheVariants as which
 use Rattle.dir_model.specs.Local.{Local, IsUnlocked}
 use Rattle.dir_model.proofs.Holdings.{unlocked_new}
+use Rattle.dir_model.proofs.Spots.{spot_self}
+use Rattle.dir_trait.proofs.Calls.{with_spot}
 use Rattle.pod_build.specs.declared.make_error.MakeError.{MakeError}
-use Rattle.pod_build.specs.MakingCauses.{WasOpenedThere, WorkCause}
-use Rattle.pod_build.proofs.Calls.{with_spot, change_cause, shows_call, taken_open, taken_lock, follows_call}
+use Rattle.pod_build.specs.MakingCauses.{WasOpenedThere, MakingWorkCause}
+use Rattle.pod_build.proofs.Calls.{change_cause, shows_call, taken_open, taken_lock, follows_call}
 use Rattle.pod_build.proofs.Knowing.{knows_locked, knows_unlocked, knows_unopened}
 use Rattle.pod_build.proofs.Outcomes.{follows_close, went_locked, went_unlocked, went_unopened}
 use Rattle.pod_build.proofs.Times.{cause_after, cause_before, taken_after, taken_before}
@@ -45,7 +46,7 @@ returns-in-Err-try_lock-clause-cause g c =
     let D = g.D.Dir in
     let e = c.in-Err-try_lock.error in
     let asks = c.in-Err-try_lock.ensures in
-    subst (λ (x : MakeError). WorkCause D.observed _ x (D.shown c.args.dir.now) (D.shown c.close.new.self)) (sym c.change_refusal.ensures)
+    subst (λ (x : MakeError). MakingWorkCause D.observed _ x (D.shown c.args.dir.now) (D.shown c.close.new.self)) (sym c.change_refusal.ensures)
     (cause_before (asks.called.same ∙ c.in-Ok.ensures.called.same)
     (cause_after (follows_call c.in-Ok.ensures.called)
     (change_cause e (λ is. asks.cause (ap Err is))))
@@ -62,7 +63,7 @@ pub returns-in-Err-clause-cause : goal.returns-in-Err-clause-cause
 returns-in-Err-clause-cause g c =
     let D = g.D.Dir in
     let e = c.in-Err.error in
-    subst (λ (x : MakeError). WorkCause D.observed _ x (D.shown c.args.dir.now) (D.shown c.«open».new.self)) (sym c.change_refusal-in-Err.ensures)
+    subst (λ (x : MakeError). MakingWorkCause D.observed _ x (D.shown c.args.dir.now) (D.shown c.«open».new.self)) (sym c.change_refusal-in-Err.ensures)
     (change_cause e (λ is. c.in-Err.ensures.cause (ap Err is)))
 
 pub returns-in-Err-clause-left : goal.returns-in-Err-clause-left
@@ -71,7 +72,7 @@ returns-in-Err-clause-left g c t = knows_unopened {draw = c.args.draw} c.in-Err.
 pub returns-in-Ok-try_lock-clause-locks : goal.returns-in-Ok-try_lock-clause-locks
 returns-in-Ok-try_lock-clause-locks g c t =
     let opens = with_spot (λ s. Open s which.Own) c.pod_at-spot.ensures c.in-Ok.ensures.called in
-    and_call (and_call nothing_yet refl (at_spot (pod_at Embryo c.args.draw)) (opens.step t)) opens.same refl (c.in-Ok-try_lock.ensures.called.step t)
+    and_call (and_call nothing_yet refl (spot_self (pod_at Embryo c.args.draw)) (opens.step t)) opens.same refl (c.in-Ok-try_lock.ensures.called.step t)
 
 pub returns-in-Err-try_lock-clause-stray : goal.returns-in-Err-try_lock-clause-stray
 returns-in-Err-try_lock-clause-stray g c h t =
@@ -83,7 +84,7 @@ returns-in-Err-try_lock-clause-stray g c h t =
     let old = D.shown c.args.dir.now in
     let mid = D.shown c.«open».new.self in
     let lock : WasOpenedThere c.args.draw mid.process mid.trace (TryLock c.in-Ok.own Exclusive) = (old.trace, subst (λ (p : ℕ). CallStep p old.trace (Open (pod_at Embryo c.args.draw) which.Own) (Opened c.in-Ok.own) mid.trace) (sym opens.same) (opens.step t)) in
-    taken_before (taken_after (and_call nothing_yet refl (at_spot (pod_at Embryo c.args.draw)) (opens.step t)) opens.same
+    taken_before (taken_after (and_call nothing_yet refl (spot_self (pod_at Embryo c.args.draw)) (opens.step t)) opens.same
     (shows_call (TryLock c.in-Ok.own _) (Refused e 0) lock (taken_lock c.args.draw c.in-Ok.own e asks.refusals (sym c.change_refusal.ensures ∙ is)) (asks.called.step t)))
     ((follows_close c.close.ensures.faultless c.close.ensures.called).extends t)
 

@@ -1,12 +1,14 @@
 use Rattle.std.proofs.Common.{◌≡◌, true, [], IsErrOf, rules}
+use Rattle.plain_laws.proofs.Results.{if_ok, if_err}
 use Rattle.dir_model.specs.declared.spot.Handle.{Handle}
-use Rattle.folder_building.proofs.Copying.{ok_any, ok_more, err_more}
+use Rattle.folder_building.proofs.Copying.{ok_any}
+use Rattle.folder_building.proofs.Following.{follows_work}
 use Rattle.pod_build.specs.declared.make_error.MakeError.TheVariants.{Stray}
-use Rattle.pod_build.specs.MakingRequests.{is_brought}
-use Rattle.pod_build.specs.MakingCauses.{WorkCause, EmbryoCause, BringsPod}
+use Rattle.pod_build.specs.MakingRequests.{is_move_to_prepare}
+use Rattle.pod_build.specs.MakingCauses.{MakingWorkCause, EmbryoCause, BringsToPrepare}
 use Rattle.dir_model.specs.Local.{Local}
 use Rattle.pod_build.specs.Progress.{with_own}
-use Rattle.pod_build.proofs.Times.{went_after, made_taken, answered_after, follows_work, embryo_cause}
+use Rattle.pod_build.proofs.Times.{went_after, made_taken, answered_after, embryo_cause}
 use Rattle.pod_build.proofs.embryo.make_and_take_out.Goals as goal
 
 pub returns-clause-went : goal.returns-clause-went
@@ -23,14 +25,14 @@ returns-clause-stray g c h t = made_taken (g.D.Dir.shown c.args.dir.now) (g.D.Di
 pub returns-clause-brings : goal.returns-clause-brings
 returns-clause-brings g c =
     let D = g.D.Dir in
-    ok_more (λ (own : Handle). D.observed ≡ true → BringsPod c.args.draw (D.shown c.make_embryo.new.dir) (D.shown c.take_out.new.dir)) (λ (own : Handle). D.observed ≡ true → BringsPod c.args.draw (D.shown c.args.dir.now) (D.shown c.take_out.new.dir)) c.take_out.result
-    (λ own f t. answered_after (is_brought c.args.draw) (c.make_embryo.ensures.worked.extends t) c.make_embryo.ensures.worked.same (f t)) c.take_out.ensures.brings
+    if_ok (λ (own : Handle). D.observed ≡ true → BringsToPrepare c.args.draw (D.shown c.make_embryo.new.dir) (D.shown c.take_out.new.dir)) (λ (own : Handle). D.observed ≡ true → BringsToPrepare c.args.draw (D.shown c.args.dir.now) (D.shown c.take_out.new.dir)) c.take_out.result
+    (λ own f t. answered_after (is_move_to_prepare c.args.draw) (c.make_embryo.ensures.worked.extends t) c.make_embryo.ensures.worked.same (f t)) c.take_out.ensures.brings
 
 pub returns-clause-cause : goal.returns-clause-cause
 returns-clause-cause g c =
     let D = g.D.Dir in
     let new = D.shown c.take_out.new.dir in
-    err_more (λ e. WorkCause D.observed [] e (D.shown c.make_embryo.new.dir) new) (λ e. EmbryoCause D.observed c.args.draw e (D.shown c.args.dir.now) new) c.take_out.result (λ e x. embryo_cause (follows_work c.make_embryo.ensures.worked) x) c.take_out.ensures.cause
+    if_err (λ e. MakingWorkCause D.observed [] e (D.shown c.make_embryo.new.dir) new) (λ e. EmbryoCause D.observed c.args.draw e (D.shown c.args.dir.now) new) c.take_out.result (λ e x. embryo_cause (follows_work c.make_embryo.ensures.worked) x) c.take_out.ensures.cause
 
 pub returns-clause-first : goal.returns-clause-first
 returns-clause-first g c =

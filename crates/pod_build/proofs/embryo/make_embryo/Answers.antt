@@ -1,9 +1,10 @@
 use Rattle.std.proofs.Common.{◌≡◌, Ok, Err, ap, sym, subst, ◌∙◌}
 use Rattle.dir_model.specs.declared.request.Request.TheVariants.{MakeFolder}
+use Rattle.dir_trait.proofs.Calls.{with_spot}
 use Rattle.pod_build.specs.declared.make_error.MakeError.{MakeError}
 use Rattle.pod_build.specs.declared.make_error.MakeError.TheVariants.{Stray}
 use Rattle.pod_build.specs.MakingCauses.{EmbryoCause}
-use Rattle.pod_build.proofs.Calls.{with_spot, worked_make, make_cause, make_plain}
+use Rattle.pod_build.proofs.Calls.{worked_make, make_cause, make_plain}
 use Rattle.pod_build.proofs.Knowing.{knows_made, knows_unmade}
 use Rattle.pod_build.proofs.embryo.make_embryo.Goals as goal
 

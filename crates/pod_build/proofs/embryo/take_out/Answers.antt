@@ -1,5 +1,5 @@
 use Rattle.pod_build.specs.declared.make_error.MakeError.TheVariants.{Stray}
-use Rattle.pod_build.specs.MakingRequests.{is_brought}
+use Rattle.pod_build.specs.MakingRequests.{is_move_to_prepare}
 use Rattle.std.proofs.Common.{◌≡◌, IsErrOf, rules, Some, Err, ap, Ok, refl, ◌∷◌, ◌∙◌}
 use Rattle.dir_model.specs.declared.spot.Mode.TheVariants.{Exclusive}
 use Rattle.dir_files.proofs.Locking.{number_is_new}
@@ -37,7 +37,7 @@ returns-in_err-own-clause-stray g c h t =
     c.lock_own.ensures.stray k t
 
 pub returns-in-Ok-clause-brings : goal.returns-in-Ok-clause-brings
-returns-in-Ok-clause-brings g c t = answered_after (is_brought c.args.draw) (c.lock_own.ensures.went.extends t) c.lock_own.ensures.went.same (c.in-Ok.ensures.brings t)
+returns-in-Ok-clause-brings g c t = answered_after (is_move_to_prepare c.args.draw) (c.lock_own.ensures.went.extends t) c.lock_own.ensures.went.same (c.in-Ok.ensures.brings t)
 
 pub returns-in-Err-clause-stray : goal.returns-in-Err-clause-stray
 returns-in-Err-clause-stray g c h t =

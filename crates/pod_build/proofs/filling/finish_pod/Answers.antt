@@ -1,19 +1,21 @@
 use Rattle.std.proofs.Common.{◌≡◌, true, [], List, IsErrOf, rules}
+use Rattle.plain_laws.proofs.Results.{if_ok, if_err, err_same}
 use Rattle.folder_building.specs.declared.plan.PlanEntry.{PlanEntry}
 use Rattle.dir_model.specs.declared.area.Area.{Area}
 use Rattle.dir_trait.specs.Knowledge.{Knows}
 use Rattle.pod_build.specs.Handovers.{KnewMade}
 use Rattle.folder_building.specs.Sources.{in_images}
-use Rattle.folder_building.proofs.Copying.{ok_any, ok_more, err_more}
+use Rattle.folder_building.proofs.Copying.{ok_any}
 use Rattle.folder_building.proofs.Stored.{all_had_before}
 use Rattle.folder_building.proofs.Working.{worked_more, worked_wider}
-use Rattle.pod_build.specs.Progress.{at_work, in_prepare}
-use Rattle.pod_build.specs.Work.{MayMake, Owns, From, HasOwnFolder}
-use Rattle.pod_build.specs.MakingCauses.{WorkCause}
-use Rattle.pod_build.specs.Makings.{FromFilled, IsHanded, HasMade}
+use Rattle.folder_building.proofs.Following.{follows_work, nothing_follows}
+use Rattle.pod_build.specs.Progress.{seen_making, in_prepare}
+use Rattle.pod_build.specs.Work.{MayMake, Owns, WhereMakingPod, HasMakerFolder}
+use Rattle.pod_build.specs.MakingCauses.{MakingWorkCause}
+use Rattle.pod_build.specs.Makings.{WherePlanFilled, IsHanded, HasMade}
 use Rattle.pod_build.proofs.Knowing.{has_prepare, handed_made}
-use Rattle.pod_build.proofs.Outcomes.{err_same, fills_finishes, hands_finishes}
-use Rattle.pod_build.proofs.Times.{follows_work, nothing_follows, cause_after, cause_planned, answered_after}
+use Rattle.pod_build.proofs.Outcomes.{fills_finishes, hands_finishes}
+use Rattle.pod_build.proofs.Times.{cause_after, cause_planned, answered_after}
 use Rattle.pod_build.specs.declared.make_error.MakeError.TheVariants.{Stray}
 use Rattle.pod_build.specs.MakingRequests.{shows_changed}
 use Rattle.pod_build.proofs.Handing.{none_handed, handed_after, fills_hand_none}
@@ -31,10 +33,10 @@ returns-in_err-fill-clause-left g c =
     let plan = c.args.plan.now in
     let old = D.shown c.args.dir.now in
     let new = D.shown c.fill.new.dir in
-    err_same (λ e. D.observed ≡ true → From (MayMake c.args.to plan draw) (Owns draw) (in_prepare draw []) old (λ intent hs. HasOwnFolder draw intent hs new)) c.fill.result c.from_residual.result
+    err_same (λ e. D.observed ≡ true → WhereMakingPod (MayMake c.args.to plan draw) (Owns draw) (in_prepare draw []) old (λ intent hs. HasMakerFolder draw intent hs new)) c.fill.result c.from_residual.result
     (λ e h. search (rules, h, c.from_residual.ensures, c.in_err-fill.is))
-    (err_more (λ e. D.observed ≡ true → (to : Area) → From (MayMake to plan draw) (Owns draw) (in_prepare draw []) old (λ intent hs. HasOwnFolder draw intent hs new))
-    (λ e. D.observed ≡ true → From (MayMake c.args.to plan draw) (Owns draw) (in_prepare draw []) old (λ intent hs. HasOwnFolder draw intent hs new)) c.fill.result (λ e f t. f t c.args.to) c.fill.ensures.left)
+    (if_err (λ e. D.observed ≡ true → (to : Area) → WhereMakingPod (MayMake to plan draw) (Owns draw) (in_prepare draw []) old (λ intent hs. HasMakerFolder draw intent hs new))
+    (λ e. D.observed ≡ true → WhereMakingPod (MayMake c.args.to plan draw) (Owns draw) (in_prepare draw []) old (λ intent hs. HasMakerFolder draw intent hs new)) c.fill.result (λ e f t. f t c.args.to) c.fill.ensures.left)
 
 pub returns-clause-worked : goal.returns-clause-worked
 returns-clause-worked g c = worked_more (worked_wider (fills_finishes c.args.draw c.args.to) c.fill.ensures.worked) (worked_wider (hands_finishes c.args.draw c.args.to) c.hand_over.ensures.worked)
@@ -45,7 +47,7 @@ returns-clause-cause g c =
     let draw = c.args.draw in
     let plan = c.args.plan.now in
     let new = D.shown c.hand_over.new.dir in
-    err_more (λ e. WorkCause D.observed [] e (D.shown c.fill.new.dir) new) (λ e. WorkCause D.observed plan e (D.shown c.args.dir.now) new) c.hand_over.result
+    if_err (λ e. MakingWorkCause D.observed [] e (D.shown c.fill.new.dir) new) (λ e. MakingWorkCause D.observed plan e (D.shown c.args.dir.now) new) c.hand_over.result
     (λ e x. cause_after (follows_work c.fill.ensures.worked) (cause_planned plan x)) c.hand_over.ensures.cause
 
 pub returns-clause-made : goal.returns-clause-made
@@ -57,8 +59,8 @@ returns-clause-made g c =
     let old = D.shown c.args.dir.now in
     let mid = D.shown c.fill.new.dir in
     let new = D.shown c.hand_over.new.dir in
-    ok_more (λ done. D.observed ≡ true → (plan : List PlanEntry) → FromFilled to plan draw mid (λ intent hs entries. IsHanded draw to intent hs entries mid new))
-    (λ done. D.observed ≡ true → From (MayMake to whole draw) (Owns draw) (in_prepare draw []) old (λ intent hs. HasMade draw to whole intent hs old new)) c.hand_over.result
+    if_ok (λ done. D.observed ≡ true → (plan : List PlanEntry) → WherePlanFilled to plan draw mid (λ intent hs entries. IsHanded draw to intent hs entries mid new))
+    (λ done. D.observed ≡ true → WhereMakingPod (MayMake to whole draw) (Owns draw) (in_prepare draw []) old (λ intent hs. HasMade draw to whole intent hs old new)) c.hand_over.result
     (λ done f t intent hs may owns k. let x = c.in_ok-fill.ensures.filled t to intent hs may owns k in handed_made old mid new t (follows_work c.fill.ensures.worked) nothing_follows x (f t whole intent hs x.entries may owns x.made x.knows))
     c.hand_over.ensures.handed
 
@@ -71,8 +73,8 @@ returns-clause-left g c =
     let old = D.shown c.args.dir.now in
     let mid = D.shown c.fill.new.dir in
     let new = D.shown c.hand_over.new.dir in
-    err_more (λ e. D.observed ≡ true → (plan : List PlanEntry) → FromFilled to plan draw mid (λ intent hs entries. Knows new (at_work intent hs (in_prepare draw entries))))
-    (λ e. D.observed ≡ true → From (MayMake to whole draw) (Owns draw) (in_prepare draw []) old (λ intent hs. HasOwnFolder draw intent hs new)) c.hand_over.result
+    if_err (λ e. D.observed ≡ true → (plan : List PlanEntry) → WherePlanFilled to plan draw mid (λ intent hs entries. Knows new (seen_making intent hs (in_prepare draw entries))))
+    (λ e. D.observed ≡ true → WhereMakingPod (MayMake to whole draw) (Owns draw) (in_prepare draw []) old (λ intent hs. HasMakerFolder draw intent hs new)) c.hand_over.result
     (λ e f t intent hs may owns k. let x = c.in_ok-fill.ensures.filled t to intent hs may owns k in has_prepare x.entries (f t whole intent hs x.entries may owns x.made x.knows))
     c.hand_over.ensures.left
 

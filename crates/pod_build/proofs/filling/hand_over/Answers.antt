@@ -5,9 +5,10 @@ use Rattle.dir_model.specs.Replies.{may_refuse}
 use Rattle.pod_build.specs.declared.make_error.MakeError.TheVariants.{Stray}
 use Rattle.pod_build.specs.MakingRequests.{pod_at, shows_changed}
 use Rattle.dir_model.specs.declared.request.Request.TheVariants.{MoveFolder}
+use Rattle.dir_trait.proofs.Calls.{with_spots}
 use Rattle.pod_build.specs.declared.make_error.MakeError.{MakeError}
-use Rattle.pod_build.specs.MakingCauses.{WorkCause}
-use Rattle.pod_build.proofs.Calls.{in_area, before_handed, with_spots, worked_hand, change_cause, changed_move}
+use Rattle.pod_build.specs.MakingCauses.{MakingWorkCause}
+use Rattle.pod_build.proofs.Calls.{in_area, before_handed, worked_hand, change_cause, changed_move}
 use Rattle.pod_build.proofs.Times.{answered_self}
 use Rattle.pod_build.proofs.Knowing.{knows_handed, knows_unhanded}
 use Rattle.pod_build.proofs.Handing.{hands_made}
@@ -26,7 +27,7 @@ pub returns-in-Err-clause-cause : goal.returns-in-Err-clause-cause
 returns-in-Err-clause-cause g c =
     let D = g.D.Dir in
     let e = c.in-Err.error in
-    subst (λ (x : MakeError). WorkCause D.observed _ x (D.shown c.args.dir.now) (D.shown c.move_folder.new.self)) (sym c.change_refusal.ensures)
+    subst (λ (x : MakeError). MakingWorkCause D.observed _ x (D.shown c.args.dir.now) (D.shown c.move_folder.new.self)) (sym c.change_refusal.ensures)
     (change_cause e (λ is. c.in-Err.ensures.cause (ap Err is)))
 
 pub returns-in-Err-clause-left : goal.returns-in-Err-clause-left

@@ -1,19 +1,20 @@
 use Rattle.std.proofs.Common.{◌≡◌, Some, Err, ap, Ok, [], ◌∷◌, refl, rules, ◌∙◌}
+use Rattle.plain_laws.proofs.Results.{if_err, err_same}
 use Rattle.dir_model.specs.declared.area.Area.TheVariants.{Run}
 use Rattle.dir_model.specs.declared.spot.Mode.TheVariants.{Exclusive}
 use Rattle.dir_files.proofs.Locking.{number_is_new}
 use Rattle.folder_building.specs.Sources.{in_images}
-use Rattle.folder_building.proofs.Copying.{err_more}
 use Rattle.folder_building.proofs.Stored.{all_had_after}
 use Rattle.folder_building.proofs.Working.{worked_wider}
+use Rattle.folder_building.proofs.Following.{nothing_follows}
 use Rattle.pod_build.specs.declared.make_error.MakeError.TheVariants.{Stray}
 use Rattle.pod_build.specs.Progress.{own_held}
 use Rattle.pod_build.specs.MakingCauses.{MakeCause}
 use Rattle.pod_build.specs.Handovers.{KnewMade}
 use Rattle.pod_build.proofs.Steps.{is_maker_of}
 use Rattle.pod_build.proofs.Knowing.{owns_images, own_back, made_kept, runs_pod}
-use Rattle.pod_build.proofs.Outcomes.{err_same, held_is, follows_close, went_worked, went_closed, went_as, went_residual, begins_makes, finishes_makes, worked_residual}
-use Rattle.pod_build.proofs.Times.{follows_went, nothing_follows, calm_cause, cause_after, cause_before, folder_before, brought_changed, own_before, make_planned, went_wider}
+use Rattle.pod_build.proofs.Outcomes.{held_is, follows_close, went_worked, went_closed, went_as, went_residual, begins_makes, finishes_makes, worked_residual}
+use Rattle.pod_build.proofs.Times.{follows_went, calm_cause, cause_after, cause_before, folder_before, brought_changed, own_before, make_planned, went_wider}
 use Rattle.pod_build.proofs.Handing.{none_handed, handed_after, handed_close, follow_on, begins_hand_none}
 use Rattle.pod_build.proofs.MakingLawful.{never_stray, refused_stray}
 use Rattle.image_reading.proofs.Trees.{trees_more}
@@ -31,7 +32,7 @@ returns-in_err-own-clause-cause g c =
     let old = D.shown c.args.dir.now in
     let new = D.shown c.begin_pod.new.dir in
     err_same (λ e. MakeCause D.observed c.args.draw c.args.plan.now e old new) c.begin_pod.result c.from_residual.result (λ e h. search (rules, h, c.from_residual.ensures, c.in_err-own.is))
-    (err_more (λ e. MakeCause D.observed c.args.draw [] e old new) (λ e. MakeCause D.observed c.args.draw c.args.plan.now e old new) c.begin_pod.result (λ e x. make_planned c.args.plan.now x) c.begin_pod.ensures.cause)
+    (if_err (λ e. MakeCause D.observed c.args.draw [] e old new) (λ e. MakeCause D.observed c.args.draw c.args.plan.now e old new) c.begin_pod.result (λ e x. make_planned c.args.plan.now x) c.begin_pod.ensures.cause)
 
 pub returns-in-Ok-clause-owned : goal.returns-in-Ok-clause-owned
 returns-in-Ok-clause-owned g c = record { is = refl; area = refl; unopened = c.in_ok-own.ensures.unopened }

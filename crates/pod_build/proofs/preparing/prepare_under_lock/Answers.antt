@@ -1,14 +1,15 @@
 use Rattle.std.proofs.Common.{◌≡◌, ℕ, true, inl, inr, List, sym, subst}
+use Rattle.plain_laws.proofs.Results.{if_ok, if_err}
 use Rattle.folder_building.specs.declared.plan.PlanEntry.{PlanEntry}
-use Rattle.folder_building.proofs.Copying.{ok_more, err_more}
+use Rattle.folder_building.proofs.Following.{nothing_follows}
 use Rattle.pod_plan.specs.FaithfulPods.{PlansFaithfully}
 use Rattle.pod_build.specs.Progress.{nothing_made}
-use Rattle.pod_build.specs.Work.{MayMake, UnderImages, From, HasOwnFolder}
+use Rattle.pod_build.specs.Work.{MayMake, MakesUnderImages, WhereMakingPod, HasMakerFolder}
 use Rattle.pod_build.specs.Makings.{HasMade}
 use Rattle.pod_build.proofs.Knowing.{has_nothing}
-use Rattle.pod_build.proofs.Times.{nothing_follows, follows_went}
+use Rattle.pod_build.proofs.Times.{follows_went}
 use Rattle.pod_build.specs.Answers.{target, held_with}
-use Rattle.pod_build.specs.Causes.{FailsPlan, FailsMaking, FollowsPlan, IsMadeByPlan, IsRefusedUnderLock, IsHeldElsewhere}
+use Rattle.pod_build.specs.Causes.{FailsPlan, FailsMaking, FollowsPlan, IsMadeByPlan, IsRefusedUnderLock, AreaHeldElsewhere}
 use Rattle.pod_build.specs.Preparations.{Began, HasGateAlone, HasPrepared, ReadsThenMakes}
 use Rattle.pod_build.proofs.Parts.{during_first, during_last}
 use Rattle.pod_build.proofs.Working.{follows_reads, went_reads, went_under, worked_reads, may_make, under_images, knows_read, elsewhere_within}
@@ -31,7 +32,7 @@ returns-in-Ok-clause-refused g c =
     let new = D.shown c.make.new.dir in
     let draw = c.args.draw.now in
     let plan = c.in-Ok.plan.items in
-    err_more (λ e. FailsMaking D.observed draw.uuid c.deref.result.now e mid new) (λ e. IsRefusedUnderLock D.observed c.args.refs.now c.args.options.now draw c.args.now e old new) c.make.result
+    if_err (λ e. FailsMaking D.observed draw.uuid c.deref.result.now e mid new) (λ e. IsRefusedUnderLock D.observed c.args.refs.now c.args.options.now draw c.args.now e old new) c.make.result
     (λ e x. inr (
       plan,
       during_first (λ a b. D.observed ≡ true → PlansFaithfully c.args.refs.now c.args.options.now c.args.now draw.token plan a b) (follows_went c.make.ensures.went) (λ t. c.in-Ok.ensures.faithful t),
@@ -39,8 +40,8 @@ returns-in-Ok-clause-refused g c =
           (subst (λ (entries : List PlanEntry). FailsMaking D.observed draw.uuid entries e mid new) c.deref.ensures.value x),
     )) c.make.ensures.refused
 
-pub returns-in-Ok-clause-another : goal.returns-in-Ok-clause-another
-returns-in-Ok-clause-another g c =
+pub returns-in-Ok-clause-by_other_process : goal.returns-in-Ok-clause-by_other_process
+returns-in-Ok-clause-by_other_process g c =
     let D = g.D.Dir in
     let old = D.shown c.args.dir.now in
     let mid = D.shown c.plan_pod.new.dir in
@@ -48,11 +49,11 @@ returns-in-Ok-clause-another g c =
     let draw = c.args.draw.now in
     let to = target c.args.keep_owner in
     let entries = c.deref.result.now in
-    err_more (λ e. D.observed ≡ true → From (MayMake to entries draw.uuid) (UnderImages draw.uuid) nothing_made mid (λ intent hs. IsHeldElsewhere e mid new))
-    (λ e. D.observed ≡ true → From (Began to draw c.args.now) (HasGateAlone c.args.gate) nothing_made old (λ intent hs. IsHeldElsewhere e old new)) c.make.result
+    if_err (λ e. D.observed ≡ true → WhereMakingPod (MayMake to entries draw.uuid) (MakesUnderImages draw.uuid) nothing_made mid (λ intent hs. AreaHeldElsewhere e mid new))
+    (λ e. D.observed ≡ true → WhereMakingPod (Began to draw c.args.now) (HasGateAlone c.args.gate) nothing_made old (λ intent hs. AreaHeldElsewhere e old new)) c.make.result
     (λ e x t intent hs began alone k. elsewhere_within old mid new new t (follows_reads c.plan_pod.ensures.only) c.make.ensures.went.same nothing_follows
     (x t intent hs (subst (λ (plan : List PlanEntry). MayMake to plan draw.uuid intent) (sym c.deref.ensures.value) (may_make began c.in-Ok.ensures.turn c.in-Ok.ensures.whole)) (under_images draw.uuid c.args.gate alone) (knows_read c.args.gate alone (c.plan_pod.ensures.known t) k)))
-    c.make.ensures.another
+    c.make.ensures.by_other_process
 
 pub returns-in-Ok-clause-planned : goal.returns-in-Ok-clause-planned
 returns-in-Ok-clause-planned g c =
@@ -62,7 +63,7 @@ returns-in-Ok-clause-planned g c =
     let new = D.shown c.make.new.dir in
     let draw = c.args.draw.now in
     let plan = c.in-Ok.plan.items in
-    ok_more (λ built. D.observed ≡ true → FollowsPlan draw.uuid c.deref.result.now mid new) (λ built. IsMadeByPlan D.observed c.args.refs.now c.args.options.now draw c.args.now old new) c.make.result
+    if_ok (λ built. D.observed ≡ true → FollowsPlan draw.uuid c.deref.result.now mid new) (λ built. IsMadeByPlan D.observed c.args.refs.now c.args.options.now draw c.args.now old new) c.make.result
     (λ built x. (
       plan,
       during_first (λ a b. D.observed ≡ true → PlansFaithfully c.args.refs.now c.args.options.now c.args.now draw.token plan a b) (follows_went c.make.ensures.went) (λ t. c.in-Ok.ensures.faithful t),
@@ -79,8 +80,8 @@ returns-in-Ok-clause-prepared g c =
     let draw = c.args.draw.now in
     let to = target c.args.keep_owner in
     let entries = c.deref.result.now in
-    ok_more (λ built. D.observed ≡ true → From (MayMake to entries draw.uuid) (UnderImages draw.uuid) nothing_made mid (λ intent hs. HasMade draw.uuid to entries intent (held_with draw.uuid built hs) mid new))
-    (λ built. D.observed ≡ true → From (Began to draw c.args.now) (HasGateAlone c.args.gate) nothing_made old (λ intent hs. HasPrepared c.args.refs.now c.args.options.now draw c.args.now to intent (held_with draw.uuid built hs) old new)) c.make.result
+    if_ok (λ built. D.observed ≡ true → WhereMakingPod (MayMake to entries draw.uuid) (MakesUnderImages draw.uuid) nothing_made mid (λ intent hs. HasMade draw.uuid to entries intent (held_with draw.uuid built hs) mid new))
+    (λ built. D.observed ≡ true → WhereMakingPod (Began to draw c.args.now) (HasGateAlone c.args.gate) nothing_made old (λ intent hs. HasPrepared c.args.refs.now c.args.options.now draw c.args.now to intent (held_with draw.uuid built hs) old new)) c.make.result
     (λ built x t intent hs began alone k. record {
       mid = mid;
       reads = worked_reads t c.plan_pod.ensures.only;
@@ -100,8 +101,8 @@ returns-in-Ok-clause-left g c =
     let draw = c.args.draw.now in
     let to = target c.args.keep_owner in
     let entries = c.deref.result.now in
-    err_more (λ e. D.observed ≡ true → From (MayMake to entries draw.uuid) (UnderImages draw.uuid) nothing_made mid (λ intent hs. HasOwnFolder draw.uuid intent hs new))
-    (λ e. D.observed ≡ true → From (Began to draw c.args.now) (HasGateAlone c.args.gate) nothing_made old (λ intent hs. HasOwnFolder draw.uuid intent hs new)) c.make.result
+    if_err (λ e. D.observed ≡ true → WhereMakingPod (MayMake to entries draw.uuid) (MakesUnderImages draw.uuid) nothing_made mid (λ intent hs. HasMakerFolder draw.uuid intent hs new))
+    (λ e. D.observed ≡ true → WhereMakingPod (Began to draw c.args.now) (HasGateAlone c.args.gate) nothing_made old (λ intent hs. HasMakerFolder draw.uuid intent hs new)) c.make.result
     (λ e x t intent hs began alone k. x t intent hs (subst (λ (plan : List PlanEntry). MayMake to plan draw.uuid intent) (sym c.deref.ensures.value) (may_make began c.in-Ok.ensures.turn c.in-Ok.ensures.whole)) (under_images draw.uuid c.args.gate alone) (knows_read c.args.gate alone (c.plan_pod.ensures.known t) k))
     c.make.ensures.left
 

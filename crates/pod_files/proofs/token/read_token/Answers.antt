@@ -1,9 +1,9 @@
 use Rattle.std.proofs.Common.{◌≡◌, inl, true}
-use Rattle.image_reading.proofs.Results.{if_ok, if_err}
+use Rattle.plain_laws.proofs.Results.{if_ok, if_err}
+use Rattle.dir_laws.proofs.Names.{token_form}
 use Rattle.pod_files.specs.Places.{pod_file, token_name}
-use Rattle.pod_files.specs.Files.{IsTokenOf, IsNoToken, ReadsToken, LacksToken, most_of_token}
-use Rattle.pod_files.specs.Lacks.{IsLack}
-use Rattle.pod_files.proofs.Names.{token_form}
+use Rattle.pod_files.specs.Files.{IsTokenOf, IsNoToken, ReadsToken, ReadsNoToken, most_of_token}
+use Rattle.pod_files.specs.Lacks.{IsFileLack}
 use Rattle.pod_files.proofs.Reading.{taken_so, not_taken}
 use Rattle.pod_files.proofs.Lacking.{lack_why}
 use Rattle.pod_files.proofs.token.read_token.Goals as goal
@@ -26,8 +26,8 @@ returns-in-Ok-Some-clause-lacks g c =
     let e = rw c.in-Ok-Some.field-0-is at c.in-Ok-Some.ensures in
     let old = D.shown c.args.dir.now in
     let new = D.shown c.read_part.new.dir in
-    if_err (IsLack (IsNoToken c.deref.result.now)) (IsLack (D.observed ≡ true → LacksToken c.args.pod old new)) c.token_of.result
-    (λ e' is. lack_why (IsNoToken c.deref.result.now) (D.observed ≡ true → LacksToken c.args.pod old new) e' (λ none. not_taken (pod_file c.args.pod token_name) most_of_token c.in-Ok-Some.bytes.items c.deref.result.now c.deref.ensures.value e.most e.read IsNoToken none) is)
+    if_err (IsFileLack (IsNoToken c.deref.result.now)) (IsFileLack (D.observed ≡ true → ReadsNoToken c.args.pod old new)) c.token_of.result
+    (λ e' is. lack_why (IsNoToken c.deref.result.now) (D.observed ≡ true → ReadsNoToken c.args.pod old new) e' (λ none. not_taken (pod_file c.args.pod token_name) most_of_token c.in-Ok-Some.bytes.items c.deref.result.now c.deref.ensures.value e.most e.read IsNoToken none) is)
     c.token_of.ensures.fault
 
 pub returns-in-Ok-None-clause-lacks : goal.returns-in-Ok-None-clause-lacks
@@ -38,4 +38,4 @@ returns-in-Ok-None-clause-lacks g c =
 pub returns-in-Err-clause-lacks : goal.returns-in-Err-clause-lacks
 returns-in-Err-clause-lacks g c =
     let D = g.D.Dir in
-    lack_why ⊥ (D.observed ≡ true → LacksToken c.args.pod (D.shown c.args.dir.now) (D.shown c.read_part.new.dir)) c.file_error.result (λ none. absurd none) c.file_error.ensures.outside
+    lack_why ⊥ (D.observed ≡ true → ReadsNoToken c.args.pod (D.shown c.args.dir.now) (D.shown c.read_part.new.dir)) c.file_error.result (λ none. absurd none) c.file_error.ensures.outside

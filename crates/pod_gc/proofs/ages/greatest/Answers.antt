@@ -1,7 +1,7 @@
 use Rattle.std.proofs.Common.{◌≡◌, ◌+◌, ◌∷◌, ◌++◌, [], take, sym, ap, ◌∙◌}
 use Rattle.std.proofs.lemmas.List.{take_more}
 use Rattle.dir_rules.specs.Seen.{later}
-use Rattle.pod_gc.specs.Ages.{mark_moment}
+use Rattle.dir_rules.specs.Marks.{mark_moment}
 use Rattle.pod_gc.proofs.Moments.{moment_next}
 use Rattle.pod_gc.proofs.ages.greatest.Goals as goal
 

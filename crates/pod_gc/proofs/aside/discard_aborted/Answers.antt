@@ -1,4 +1,5 @@
 use Rattle.std.proofs.Common.{◌≡◌, rules, true, false, refl, arith}
+use Rattle.plain_laws.proofs.Results.{if_ok, if_err, err_same, ok_all, err_all}
 use Rattle.dir_model.specs.declared.area.Area.TheVariants.{Prepare, Garbage}
 use Rattle.dir_model.specs.declared.spot.Mode.TheVariants.{Shared}
 use Rattle.dir_model.specs.declared.spot.Which.{Which}
@@ -6,21 +7,21 @@ use Rattle.dir_model.specs.declared.spot.Which.TheVariants.{Own}
 use Rattle.dir_model.specs.declared.request.Request.TheVariants.{MoveFolder}
 use Rattle.dir_model.specs.declared.request.Reply.TheVariants.{Done}
 use Rattle.dir_trait.specs.DirCalls.{ExtendsBy, LockToldBetween}
-use Rattle.folder_building.proofs.Copying.{ok_more, err_more}
+use Rattle.dir_trait.specs.Effects.{Given}
 use Rattle.folder_building.proofs.Working.{worked_more, worked_wider}
 use Rattle.phase_read.specs.Read.{pod_spot}
 use Rattle.pod_locks.proofs.Times.{deeds_part}
 use Rattle.pod_locks.proofs.Traces.{grown_none}
 use Rattle.pod_locks.proofs.Within.{told_within}
 use Rattle.pod_locks.specs.declared.setback.Setback.TheVariants as stop
-use Rattle.pod_locks.specs.Holding.{MayLook, Stays}
-use Rattle.pod_locks.specs.Causes.{Stopped, IsAbsentAt, BusyElsewhere, Did}
+use Rattle.pod_locks.specs.Holding.{MayLook}
+use Rattle.pod_locks.specs.Causes.{StepWasStopped, IsAbsentAt, LockBusyElsewhere, Did}
 use Rattle.pod_locks.proofs.Calls.{follows_none, follows_work, stops_part}
 use Rattle.pod_gc.specs.RemovalHolding.{MayRemove}
 use Rattle.pod_gc.specs.RemovalCauses.{BusyByPeeks}
 use Rattle.pod_gc.specs.RemovalRequests.{puts_aside}
 use Rattle.pod_gc.proofs.CallKinds.{looks_remove, first_remove, put_aside}
-use Rattle.pod_gc.proofs.Stages.{err_same, looks_aborted, same_ready, ready_aborted, ok_all, err_all}
+use Rattle.pod_gc.proofs.Stages.{looks_aborted, same_ready, ready_aborted}
 use Rattle.pod_locks.specs.Taking.{TakesNothing}
 use Rattle.pod_locks.proofs.Taking.{took_looks, took_more}
 use Rattle.phase_read.proofs.Often.{reads_more}
@@ -35,19 +36,19 @@ returns-in_err-probe-clause-worked g c = worked_wider (looks_remove c.args.pod c
 pub returns-in_err-probe-clause-stopped : goal.returns-in_err-probe-clause-stopped
 returns-in_err-probe-clause-stopped g c =
     let D = g.D.Dir in
-    err_same (λ e. Stopped D.observed c.args.pod (IsAbsentAt c.args.pod Prepare) e (D.shown c.args.dir.now) (D.shown c.probe.new.dir)) c.probe.result c.from_residual.result
+    err_same (λ e. StepWasStopped D.observed c.args.pod (IsAbsentAt c.args.pod Prepare) e (D.shown c.args.dir.now) (D.shown c.probe.new.dir)) c.probe.result c.from_residual.result
     (λ e h. search (rules, h, c.from_residual.ensures, c.in_err-probe.is)) c.probe.ensures.stopped
 
-pub returns-in_err-probe-clause-another : goal.returns-in_err-probe-clause-another
-returns-in_err-probe-clause-another g c =
+pub returns-in_err-probe-clause-by_other_process : goal.returns-in_err-probe-clause-by_other_process
+returns-in_err-probe-clause-by_other_process g c =
     let D = g.D.Dir in
     let old = D.shown c.args.dir.now in
     let new = D.shown c.probe.new.dir in
-    err_same (λ e. D.observed ≡ true → Stays (MayRemove c.args.now) old (λ s. BusyElsewhere c.args.pod Prepare Shared e old new)) c.probe.result c.from_residual.result
+    err_same (λ e. D.observed ≡ true → Given (MayRemove c.args.now) old (λ s. LockBusyElsewhere c.args.pod Prepare Shared e old new)) c.probe.result c.from_residual.result
     (λ e h. search (rules, h, c.from_residual.ensures, c.in_err-probe.is))
-    (err_more (λ e. D.observed ≡ true → Stays (MayLook c.args.pod Prepare) old (λ s. BusyElsewhere c.args.pod Prepare Shared e old new))
-    (λ e. D.observed ≡ true → Stays (MayRemove c.args.now) old (λ s. BusyElsewhere c.args.pod Prepare Shared e old new))
-    c.probe.result (λ e busy t s k may. busy t s k (looks_aborted c.args.pod may)) c.probe.ensures.another)
+    (if_err (λ e. D.observed ≡ true → Given (MayLook c.args.pod Prepare) old (λ s. LockBusyElsewhere c.args.pod Prepare Shared e old new))
+    (λ e. D.observed ≡ true → Given (MayRemove c.args.now) old (λ s. LockBusyElsewhere c.args.pod Prepare Shared e old new))
+    c.probe.result (λ e busy t s k may. busy t s k (looks_aborted c.args.pod may)) c.probe.ensures.by_other_process)
 
 pub returns-in_err-probe-clause-ready : goal.returns-in_err-probe-clause-ready
 returns-in_err-probe-clause-ready g c t s k may = same_ready may (c.in_err-probe.ensures.left t s k (looks_aborted c.args.pod may))
@@ -61,15 +62,15 @@ returns-clause-stopped g c =
     let old = D.shown c.args.dir.now in
     let mid = D.shown c.probe.new.dir in
     let new = D.shown c.put_aside.new.dir in
-    err_more (λ e. Stopped D.observed c.args.pod (IsAbsentAt c.args.pod Prepare) e mid new) (λ e. Stopped D.observed c.args.pod (IsAbsentAt c.args.pod Prepare) e old new) c.put_aside.result
+    if_err (λ e. StepWasStopped D.observed c.args.pod (IsAbsentAt c.args.pod Prepare) e mid new) (λ e. StepWasStopped D.observed c.args.pod (IsAbsentAt c.args.pod Prepare) e old new) c.put_aside.result
     (λ e x. stops_part (follows_work c.probe.ensures.worked) follows_none x) c.put_aside.ensures.stopped
 
-pub returns-clause-another : goal.returns-clause-another
-returns-clause-another g c =
+pub returns-clause-by_other_process : goal.returns-clause-by_other_process
+returns-clause-by_other_process g c =
     let D = g.D.Dir in
     let old = D.shown c.args.dir.now in
     let new = D.shown c.put_aside.new.dir in
-    err_more (λ e. (which : Which) → e ≡ stop.Busy which → ⊥) (λ e. D.observed ≡ true → Stays (MayRemove c.args.now) old (λ s. BusyElsewhere c.args.pod Prepare Shared e old new)) c.put_aside.result
+    if_err (λ e. (which : Which) → e ≡ stop.Busy which → ⊥) (λ e. D.observed ≡ true → Given (MayRemove c.args.now) old (λ s. LockBusyElsewhere c.args.pod Prepare Shared e old new)) c.put_aside.result
     (λ e calm t s k may which is. absurd (calm which is)) c.put_aside.ensures.calm
 
 pub returns-clause-ready : goal.returns-clause-ready
@@ -81,7 +82,7 @@ returns-clause-done g c =
     let old = D.shown c.args.dir.now in
     let mid = D.shown c.probe.new.dir in
     let new = D.shown c.put_aside.new.dir in
-    ok_more (λ done. D.observed ≡ true → Did (MoveFolder (pod_spot c.args.pod Prepare) (pod_spot c.args.pod Garbage)) Done mid.process mid.trace new.trace)
+    if_ok (λ done. D.observed ≡ true → Did (MoveFolder (pod_spot c.args.pod Prepare) (pod_spot c.args.pod Garbage)) Done mid.process mid.trace new.trace)
     (λ done. D.observed ≡ true → Did (MoveFolder (pod_spot c.args.pod Prepare) (pod_spot c.args.pod Garbage)) Done old.process old.trace new.trace) c.put_aside.result
     (λ done did t. deeds_part ((follows_work c.probe.ensures.worked).grown t) c.probe.ensures.worked.same grown_none (did t)) c.put_aside.ensures.done
 
@@ -98,7 +99,7 @@ returns-clause-owned g c =
     let D = g.D.Dir in
     let old = D.shown c.args.dir.now in
     let new = D.shown c.put_aside.new.dir in
-    err_more (λ e. (which : Which) → e ≡ stop.Busy which → ⊥) (λ e. (which : Which) → e ≡ stop.Busy which → D.observed ≡ true → LockToldBetween old new (pod_spot c.args.pod Prepare) true) c.put_aside.result
+    if_err (λ e. (which : Which) → e ≡ stop.Busy which → ⊥) (λ e. (which : Which) → e ≡ stop.Busy which → D.observed ≡ true → LockToldBetween old new (pod_spot c.args.pod Prepare) true) c.put_aside.result
     (λ e calm which is t. absurd (calm which is)) c.put_aside.ensures.calm
 
 pub returns-in_err-probe-clause-peeks : goal.returns-in_err-probe-clause-peeks
@@ -109,7 +110,7 @@ returns-in_err-probe-clause-peeks g c =
 pub returns-clause-peeks : goal.returns-clause-peeks
 returns-clause-peeks g c =
     let D = g.D.Dir in
-    err_more (λ e. (which : Which) → e ≡ stop.Busy which → ⊥) (λ e. BusyByPeeks D.observed c.args.pod Prepare e (D.shown c.args.dir.now) (D.shown c.put_aside.new.dir)) c.put_aside.result
+    if_err (λ e. (which : Which) → e ≡ stop.Busy which → ⊥) (λ e. BusyByPeeks D.observed c.args.pod Prepare e (D.shown c.args.dir.now) (D.shown c.put_aside.new.dir)) c.put_aside.result
     (λ e calm which is t. absurd (calm which is)) c.put_aside.ensures.calm
 
 pub returns-in_err-probe-clause-still : goal.returns-in_err-probe-clause-still
@@ -121,7 +122,7 @@ pub returns-clause-still : goal.returns-clause-still
 returns-clause-still g c =
     let D = g.D.Dir in
     let new = D.shown c.put_aside.new.dir in
-    err_more (λ e. TakesNothing D.observed (D.shown c.probe.new.dir) new) (λ e. TakesNothing D.observed (D.shown c.args.dir.now) new) c.put_aside.result
+    if_err (λ e. TakesNothing D.observed (D.shown c.probe.new.dir) new) (λ e. TakesNothing D.observed (D.shown c.args.dir.now) new) c.put_aside.result
     (λ e x t. took_more (took_looks c.args.pod Prepare (c.probe.ensures.worked.extends t)) c.probe.ensures.worked.same (x t)) c.put_aside.ensures.still
 
 pub returns-clause-aside : goal.returns-clause-aside
@@ -135,7 +136,7 @@ returns-in_err-probe-clause-named g c =
 
 pub returns-clause-named : goal.returns-clause-named
 returns-clause-named g c =
-    err_more (λ e. (which : Which) → e ≡ stop.Busy which → ⊥) (λ e. (which : Which) → e ≡ stop.Busy which → which ≡ Own) c.put_aside.result (λ e calm which is. absurd (calm which is)) c.put_aside.ensures.calm
+    if_err (λ e. (which : Which) → e ≡ stop.Busy which → ⊥) (λ e. (which : Which) → e ≡ stop.Busy which → which ≡ Own) c.put_aside.result (λ e calm which is. absurd (calm which is)) c.put_aside.ensures.calm
 
 pub returns-clause-free : goal.returns-clause-free
 returns-clause-free g c =
@@ -153,10 +154,10 @@ pub returns-in_err-probe-clause-lawful : goal.returns-in_err-probe-clause-lawful
 returns-in_err-probe-clause-lawful g c =
     let D = g.D.Dir in
     err_same (λ e. NeverStray D.observed e (D.shown c.probe.new.dir)) c.probe.result c.from_residual.result (λ e h. search (rules, h, c.from_residual.ensures, c.in_err-probe.is))
-    (err_more (λ e. e ≡ stop.Stray → ⊥) (λ e. NeverStray D.observed e (D.shown c.probe.new.dir)) c.probe.result (λ e never is t conforming. never is) c.probe.ensures.never)
+    (if_err (λ e. e ≡ stop.Stray → ⊥) (λ e. NeverStray D.observed e (D.shown c.probe.new.dir)) c.probe.result (λ e never is t conforming. never is) c.probe.ensures.never)
 
 pub returns-clause-lawful : goal.returns-clause-lawful
 returns-clause-lawful g c =
     let D = g.D.Dir in
     let new = D.shown c.put_aside.new.dir in
-    err_more (λ e. is_stage Prepare ≡ true → NeverStray D.observed e new) (λ e. NeverStray D.observed e new) c.put_aside.result (λ e x. x refl) c.put_aside.ensures.lawful
+    if_err (λ e. is_stage Prepare ≡ true → NeverStray D.observed e new) (λ e. NeverStray D.observed e new) c.put_aside.result (λ e x. x refl) c.put_aside.ensures.lawful

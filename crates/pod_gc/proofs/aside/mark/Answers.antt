@@ -4,7 +4,7 @@ use Rattle.dir_model.specs.declared.request.DirError.TheVariants.{Exists}
 use Rattle.dir_model.specs.Paths.{is_path}
 use Rattle.folder_building.proofs.Working.{worked_none}
 use Rattle.pod_locks.specs.declared.setback.Setback.{Setback}
-use Rattle.pod_locks.specs.Causes.{Stopped, IsAbsentAt}
+use Rattle.pod_locks.specs.Causes.{StepWasStopped, IsAbsentAt}
 use Rattle.pod_locks.proofs.Knowing.{never_busy}
 use Rattle.pod_gc.proofs.MarkNames.{marked_is_path}
 use Rattle.pod_gc.proofs.Retiring.{with_mark, noted_marked, noted_already, worked_mark, knows_marked, knows_there, ready_mark, mark_stops}
@@ -49,7 +49,7 @@ pub returns-clause-stopped : goal.returns-clause-stopped
 returns-clause-stopped g c =
     let D = g.D.Dir in
     let made = c.in-Err-make_file_in.ensures in
-    subst (λ (x : Setback). Stopped D.observed c.args.pod (IsAbsentAt c.args.pod Run) x (D.shown c.args.dir.now) (D.shown c.make_file_in.new.self)) (sym c.set_back.ensures)
+    subst (λ (x : Setback). StepWasStopped D.observed c.args.pod (IsAbsentAt c.args.pod Run) x (D.shown c.args.dir.now) (D.shown c.make_file_in.new.self)) (sym c.set_back.ensures)
     (mark_stops (record { spot = c.pod_spot.result; path = c.as_str.result.now }) c.args.pod c.args.now c.in-Err-make_file_in.error (λ is. search (rules, is, c.in-Err-make_file_in.error-is)) made.refusals (λ is. made.cause (ap Err is))
     (with_mark c.args.pod c.args.now c.pod_spot.ensures (c.as_str.ensures ∙ c.in-Ok.ensures) made.called))
 

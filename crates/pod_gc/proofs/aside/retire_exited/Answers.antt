@@ -1,4 +1,5 @@
 use Rattle.std.proofs.Common.{◌≡◌, rules, true, false, refl, arith, ◌∙◌}
+use Rattle.plain_laws.proofs.Results.{if_ok, if_err, err_same, ok_all, err_all}
 use Rattle.dir_model.specs.declared.area.Area.TheVariants.{Run, ExitedGarbage}
 use Rattle.dir_model.specs.declared.spot.Mode.TheVariants.{Shared}
 use Rattle.dir_model.specs.declared.spot.Which.{Which}
@@ -6,21 +7,21 @@ use Rattle.dir_model.specs.declared.spot.Which.TheVariants.{Own}
 use Rattle.dir_model.specs.declared.request.Request.TheVariants.{MoveFolder}
 use Rattle.dir_model.specs.declared.request.Reply.TheVariants.{Done}
 use Rattle.dir_trait.specs.DirCalls.{ExtendsBy, LockToldBetween}
-use Rattle.folder_building.proofs.Copying.{ok_more, err_more}
+use Rattle.dir_trait.specs.Effects.{Given}
 use Rattle.folder_building.proofs.Working.{worked_more, worked_wider}
 use Rattle.phase_read.specs.Read.{pod_spot}
 use Rattle.pod_locks.proofs.Times.{deeds_part}
 use Rattle.pod_locks.proofs.Traces.{grown_none, grown_more}
 use Rattle.pod_locks.proofs.Within.{told_within}
 use Rattle.pod_locks.specs.declared.setback.Setback.TheVariants as stop
-use Rattle.pod_locks.specs.Holding.{MayLook, Stays}
-use Rattle.pod_locks.specs.Causes.{Stopped, IsAbsentAt, BusyElsewhere, Did}
+use Rattle.pod_locks.specs.Holding.{MayLook}
+use Rattle.pod_locks.specs.Causes.{StepWasStopped, IsAbsentAt, LockBusyElsewhere, Did}
 use Rattle.pod_locks.proofs.Calls.{follows_none, follows_work, stops_part}
 use Rattle.pod_gc.specs.RemovalHolding.{MayRemove}
 use Rattle.pod_gc.specs.RemovalCauses.{BusyByPeeks, MarkedFirst}
 use Rattle.pod_gc.specs.RemovalRequests.{puts_aside}
 use Rattle.pod_gc.proofs.CallKinds.{looks_remove, marks_remove, third_remove, put_marked}
-use Rattle.pod_gc.proofs.Stages.{err_same, looks_exited, same_ready, ok_all, err_all}
+use Rattle.pod_gc.proofs.Stages.{looks_exited, same_ready}
 use Rattle.pod_gc.proofs.Retiring.{ready_exited, ready_unmarked, marked_first}
 use Rattle.pod_locks.specs.Taking.{TakesNothing}
 use Rattle.pod_locks.proofs.Taking.{took_looks, took_more}
@@ -37,19 +38,19 @@ returns-in_err-probe-clause-worked g c = worked_wider (looks_remove c.args.pod c
 pub returns-in_err-probe-clause-stopped : goal.returns-in_err-probe-clause-stopped
 returns-in_err-probe-clause-stopped g c =
     let D = g.D.Dir in
-    err_same (λ e. Stopped D.observed c.args.pod (IsAbsentAt c.args.pod Run) e (D.shown c.args.dir.now) (D.shown c.probe.new.dir)) c.probe.result c.from_residual.result
+    err_same (λ e. StepWasStopped D.observed c.args.pod (IsAbsentAt c.args.pod Run) e (D.shown c.args.dir.now) (D.shown c.probe.new.dir)) c.probe.result c.from_residual.result
     (λ e h. search (rules, h, c.from_residual.ensures, c.in_err-probe.is)) c.probe.ensures.stopped
 
-pub returns-in_err-probe-clause-another : goal.returns-in_err-probe-clause-another
-returns-in_err-probe-clause-another g c =
+pub returns-in_err-probe-clause-by_other_process : goal.returns-in_err-probe-clause-by_other_process
+returns-in_err-probe-clause-by_other_process g c =
     let D = g.D.Dir in
     let old = D.shown c.args.dir.now in
     let new = D.shown c.probe.new.dir in
-    err_same (λ e. D.observed ≡ true → Stays (MayRemove c.args.now) old (λ s. BusyElsewhere c.args.pod Run Shared e old new)) c.probe.result c.from_residual.result
+    err_same (λ e. D.observed ≡ true → Given (MayRemove c.args.now) old (λ s. LockBusyElsewhere c.args.pod Run Shared e old new)) c.probe.result c.from_residual.result
     (λ e h. search (rules, h, c.from_residual.ensures, c.in_err-probe.is))
-    (err_more (λ e. D.observed ≡ true → Stays (MayLook c.args.pod Run) old (λ s. BusyElsewhere c.args.pod Run Shared e old new))
-    (λ e. D.observed ≡ true → Stays (MayRemove c.args.now) old (λ s. BusyElsewhere c.args.pod Run Shared e old new))
-    c.probe.result (λ e busy t s k may. busy t s k (looks_exited c.args.pod may)) c.probe.ensures.another)
+    (if_err (λ e. D.observed ≡ true → Given (MayLook c.args.pod Run) old (λ s. LockBusyElsewhere c.args.pod Run Shared e old new))
+    (λ e. D.observed ≡ true → Given (MayRemove c.args.now) old (λ s. LockBusyElsewhere c.args.pod Run Shared e old new))
+    c.probe.result (λ e busy t s k may. busy t s k (looks_exited c.args.pod may)) c.probe.ensures.by_other_process)
 
 pub returns-in_err-probe-clause-ready : goal.returns-in_err-probe-clause-ready
 returns-in_err-probe-clause-ready g c t s k may = same_ready may (c.in_err-probe.ensures.left t s k (looks_exited c.args.pod may))
@@ -64,19 +65,19 @@ returns-in_err-mark-clause-stopped g c =
     let old = D.shown c.args.dir.now in
     let mid = D.shown c.probe.new.dir in
     let new = D.shown c.mark.new.dir in
-    err_same (λ e. Stopped D.observed c.args.pod (IsAbsentAt c.args.pod Run) e old new) c.mark.result c.from_residual-in_err-mark.result
+    err_same (λ e. StepWasStopped D.observed c.args.pod (IsAbsentAt c.args.pod Run) e old new) c.mark.result c.from_residual-in_err-mark.result
     (λ e h. search (rules, h, c.from_residual-in_err-mark.ensures, c.in_err-mark.is))
-    (err_more (λ e. Stopped D.observed c.args.pod (IsAbsentAt c.args.pod Run) e mid new) (λ e. Stopped D.observed c.args.pod (IsAbsentAt c.args.pod Run) e old new) c.mark.result
+    (if_err (λ e. StepWasStopped D.observed c.args.pod (IsAbsentAt c.args.pod Run) e mid new) (λ e. StepWasStopped D.observed c.args.pod (IsAbsentAt c.args.pod Run) e old new) c.mark.result
     (λ e x. stops_part (follows_work c.probe.ensures.worked) follows_none x) c.mark.ensures.stopped)
 
-pub returns-in_err-mark-clause-another : goal.returns-in_err-mark-clause-another
-returns-in_err-mark-clause-another g c =
+pub returns-in_err-mark-clause-by_other_process : goal.returns-in_err-mark-clause-by_other_process
+returns-in_err-mark-clause-by_other_process g c =
     let D = g.D.Dir in
     let old = D.shown c.args.dir.now in
     let new = D.shown c.mark.new.dir in
-    err_same (λ e. D.observed ≡ true → Stays (MayRemove c.args.now) old (λ s. BusyElsewhere c.args.pod Run Shared e old new)) c.mark.result c.from_residual-in_err-mark.result
+    err_same (λ e. D.observed ≡ true → Given (MayRemove c.args.now) old (λ s. LockBusyElsewhere c.args.pod Run Shared e old new)) c.mark.result c.from_residual-in_err-mark.result
     (λ e h. search (rules, h, c.from_residual-in_err-mark.ensures, c.in_err-mark.is))
-    (err_more (λ e. (which : Which) → e ≡ stop.Busy which → ⊥) (λ e. D.observed ≡ true → Stays (MayRemove c.args.now) old (λ s. BusyElsewhere c.args.pod Run Shared e old new)) c.mark.result
+    (if_err (λ e. (which : Which) → e ≡ stop.Busy which → ⊥) (λ e. D.observed ≡ true → Given (MayRemove c.args.now) old (λ s. LockBusyElsewhere c.args.pod Run Shared e old new)) c.mark.result
     (λ e calm t s k may which is. absurd (calm which is)) c.mark.ensures.calm)
 
 pub returns-in_err-mark-clause-ready : goal.returns-in_err-mark-clause-ready
@@ -94,15 +95,15 @@ returns-clause-stopped g c =
     let mid = D.shown c.probe.new.dir in
     let late = D.shown c.mark.new.dir in
     let new = D.shown c.put_aside.new.dir in
-    err_more (λ e. Stopped D.observed c.args.pod (IsAbsentAt c.args.pod Run) e late new) (λ e. Stopped D.observed c.args.pod (IsAbsentAt c.args.pod Run) e old new) c.put_aside.result
+    if_err (λ e. StepWasStopped D.observed c.args.pod (IsAbsentAt c.args.pod Run) e late new) (λ e. StepWasStopped D.observed c.args.pod (IsAbsentAt c.args.pod Run) e old new) c.put_aside.result
     (λ e x. stops_part (follows_work c.probe.ensures.worked) follows_none (stops_part (follows_work c.mark.ensures.worked) follows_none x)) c.put_aside.ensures.stopped
 
-pub returns-clause-another : goal.returns-clause-another
-returns-clause-another g c =
+pub returns-clause-by_other_process : goal.returns-clause-by_other_process
+returns-clause-by_other_process g c =
     let D = g.D.Dir in
     let old = D.shown c.args.dir.now in
     let new = D.shown c.put_aside.new.dir in
-    err_more (λ e. (which : Which) → e ≡ stop.Busy which → ⊥) (λ e. D.observed ≡ true → Stays (MayRemove c.args.now) old (λ s. BusyElsewhere c.args.pod Run Shared e old new)) c.put_aside.result
+    if_err (λ e. (which : Which) → e ≡ stop.Busy which → ⊥) (λ e. D.observed ≡ true → Given (MayRemove c.args.now) old (λ s. LockBusyElsewhere c.args.pod Run Shared e old new)) c.put_aside.result
     (λ e calm t s k may which is. absurd (calm which is)) c.put_aside.ensures.calm
 
 pub returns-clause-done : goal.returns-clause-done
@@ -113,7 +114,7 @@ returns-clause-done g c =
     let late = D.shown c.mark.new.dir in
     let new = D.shown c.put_aside.new.dir in
     let did = MoveFolder (pod_spot c.args.pod Run) (pod_spot c.args.pod ExitedGarbage) in
-    ok_more (λ done. D.observed ≡ true → Did did Done late.process late.trace new.trace) (λ done. D.observed ≡ true → Did did Done old.process old.trace new.trace) c.put_aside.result
+    if_ok (λ done. D.observed ≡ true → Did did Done late.process late.trace new.trace) (λ done. D.observed ≡ true → Did did Done old.process old.trace new.trace) c.put_aside.result
     (λ done x t. deeds_part ((follows_work c.probe.ensures.worked).grown t) c.probe.ensures.worked.same grown_none (deeds_part ((follows_work c.mark.ensures.worked).grown t) c.mark.ensures.worked.same grown_none (x t))) c.put_aside.ensures.done
 
 pub returns-clause-ready : goal.returns-clause-ready
@@ -132,7 +133,7 @@ returns-clause-owned g c =
     let D = g.D.Dir in
     let old = D.shown c.args.dir.now in
     let new = D.shown c.put_aside.new.dir in
-    err_more (λ e. (which : Which) → e ≡ stop.Busy which → ⊥) (λ e. (which : Which) → e ≡ stop.Busy which → D.observed ≡ true → LockToldBetween old new (pod_spot c.args.pod Run) true) c.put_aside.result
+    if_err (λ e. (which : Which) → e ≡ stop.Busy which → ⊥) (λ e. (which : Which) → e ≡ stop.Busy which → D.observed ≡ true → LockToldBetween old new (pod_spot c.args.pod Run) true) c.put_aside.result
     (λ e calm which is t. absurd (calm which is)) c.put_aside.ensures.calm
 
 pub returns-in_err-mark-clause-owned : goal.returns-in_err-mark-clause-owned
@@ -142,7 +143,7 @@ returns-in_err-mark-clause-owned g c =
     let new = D.shown c.mark.new.dir in
     err_same (λ e. (which : Which) → e ≡ stop.Busy which → D.observed ≡ true → LockToldBetween old new (pod_spot c.args.pod Run) true) c.mark.result c.from_residual-in_err-mark.result
     (λ e h. search (rules, h, c.from_residual-in_err-mark.ensures, c.in_err-mark.is))
-    (err_more (λ e. (which : Which) → e ≡ stop.Busy which → ⊥) (λ e. (which : Which) → e ≡ stop.Busy which → D.observed ≡ true → LockToldBetween old new (pod_spot c.args.pod Run) true) c.mark.result
+    (if_err (λ e. (which : Which) → e ≡ stop.Busy which → ⊥) (λ e. (which : Which) → e ≡ stop.Busy which → D.observed ≡ true → LockToldBetween old new (pod_spot c.args.pod Run) true) c.mark.result
     (λ e calm which is t. absurd (calm which is)) c.mark.ensures.calm)
 
 pub returns-in_err-probe-clause-peeks : goal.returns-in_err-probe-clause-peeks
@@ -153,7 +154,7 @@ returns-in_err-probe-clause-peeks g c =
 pub returns-clause-peeks : goal.returns-clause-peeks
 returns-clause-peeks g c =
     let D = g.D.Dir in
-    err_more (λ e. (which : Which) → e ≡ stop.Busy which → ⊥) (λ e. BusyByPeeks D.observed c.args.pod Run e (D.shown c.args.dir.now) (D.shown c.put_aside.new.dir)) c.put_aside.result
+    if_err (λ e. (which : Which) → e ≡ stop.Busy which → ⊥) (λ e. BusyByPeeks D.observed c.args.pod Run e (D.shown c.args.dir.now) (D.shown c.put_aside.new.dir)) c.put_aside.result
     (λ e calm which is t. absurd (calm which is)) c.put_aside.ensures.calm
 
 pub returns-in_err-mark-clause-peeks : goal.returns-in_err-mark-clause-peeks
@@ -163,7 +164,7 @@ returns-in_err-mark-clause-peeks g c =
     let new = D.shown c.mark.new.dir in
     err_same (λ e. BusyByPeeks D.observed c.args.pod Run e old new) c.mark.result c.from_residual-in_err-mark.result
     (λ e h. search (rules, h, c.from_residual-in_err-mark.ensures, c.in_err-mark.is))
-    (err_more (λ e. (which : Which) → e ≡ stop.Busy which → ⊥) (λ e. BusyByPeeks D.observed c.args.pod Run e old new) c.mark.result (λ e calm which is t. absurd (calm which is)) c.mark.ensures.calm)
+    (if_err (λ e. (which : Which) → e ≡ stop.Busy which → ⊥) (λ e. BusyByPeeks D.observed c.args.pod Run e old new) c.mark.result (λ e calm which is t. absurd (calm which is)) c.mark.ensures.calm)
 
 pub returns-in_err-probe-clause-still : goal.returns-in_err-probe-clause-still
 returns-in_err-probe-clause-still g c =
@@ -182,7 +183,7 @@ returns-clause-still g c =
     let new = D.shown c.put_aside.new.dir in
     let looked = c.probe.ensures.worked in
     let marked = c.mark.ensures.worked in
-    err_more (λ e. TakesNothing D.observed (D.shown c.mark.new.dir) new) (λ e. TakesNothing D.observed (D.shown c.args.dir.now) new) c.put_aside.result
+    if_err (λ e. TakesNothing D.observed (D.shown c.mark.new.dir) new) (λ e. TakesNothing D.observed (D.shown c.args.dir.now) new) c.put_aside.result
     (λ e x t. took_more (took_looks c.args.pod Run (looked.extends t)) looked.same (took_more (took_marks c.args.pod c.args.now (marked.extends t)) marked.same (x t))) c.put_aside.ensures.still
 
 pub returns-clause-aside : goal.returns-clause-aside
@@ -197,12 +198,12 @@ returns-in_err-probe-clause-named g c =
 
 pub returns-clause-named : goal.returns-clause-named
 returns-clause-named g c =
-    err_more (λ e. (which : Which) → e ≡ stop.Busy which → ⊥) (λ e. (which : Which) → e ≡ stop.Busy which → which ≡ Own) c.put_aside.result (λ e calm which is. absurd (calm which is)) c.put_aside.ensures.calm
+    if_err (λ e. (which : Which) → e ≡ stop.Busy which → ⊥) (λ e. (which : Which) → e ≡ stop.Busy which → which ≡ Own) c.put_aside.result (λ e calm which is. absurd (calm which is)) c.put_aside.ensures.calm
 
 pub returns-in_err-mark-clause-named : goal.returns-in_err-mark-clause-named
 returns-in_err-mark-clause-named g c =
     err_same (λ e. (which : Which) → e ≡ stop.Busy which → which ≡ Own) c.mark.result c.from_residual-in_err-mark.result (λ e h. search (rules, h, c.from_residual-in_err-mark.ensures, c.in_err-mark.is))
-    (err_more (λ e. (which : Which) → e ≡ stop.Busy which → ⊥) (λ e. (which : Which) → e ≡ stop.Busy which → which ≡ Own) c.mark.result (λ e calm which is. absurd (calm which is)) c.mark.ensures.calm)
+    (if_err (λ e. (which : Which) → e ≡ stop.Busy which → ⊥) (λ e. (which : Which) → e ≡ stop.Busy which → which ≡ Own) c.mark.result (λ e calm which is. absurd (calm which is)) c.mark.ensures.calm)
 
 pub returns-clause-free : goal.returns-clause-free
 returns-clause-free g c =
@@ -230,16 +231,16 @@ pub returns-in_err-probe-clause-lawful : goal.returns-in_err-probe-clause-lawful
 returns-in_err-probe-clause-lawful g c =
     let D = g.D.Dir in
     err_same (λ e. NeverStray D.observed e (D.shown c.probe.new.dir)) c.probe.result c.from_residual.result (λ e h. search (rules, h, c.from_residual.ensures, c.in_err-probe.is))
-    (err_more (λ e. e ≡ stop.Stray → ⊥) (λ e. NeverStray D.observed e (D.shown c.probe.new.dir)) c.probe.result (λ e never is t conforming. never is) c.probe.ensures.never)
+    (if_err (λ e. e ≡ stop.Stray → ⊥) (λ e. NeverStray D.observed e (D.shown c.probe.new.dir)) c.probe.result (λ e never is t conforming. never is) c.probe.ensures.never)
 
 pub returns-in_err-mark-clause-lawful : goal.returns-in_err-mark-clause-lawful
 returns-in_err-mark-clause-lawful g c =
     let D = g.D.Dir in
     err_same (λ e. NeverStray D.observed e (D.shown c.mark.new.dir)) c.mark.result c.from_residual-in_err-mark.result (λ e h. search (rules, h, c.from_residual-in_err-mark.ensures, c.in_err-mark.is))
-    (err_more (λ e. e ≡ stop.Stray → ⊥) (λ e. NeverStray D.observed e (D.shown c.mark.new.dir)) c.mark.result (λ e never is t conforming. never is) c.mark.ensures.never)
+    (if_err (λ e. e ≡ stop.Stray → ⊥) (λ e. NeverStray D.observed e (D.shown c.mark.new.dir)) c.mark.result (λ e never is t conforming. never is) c.mark.ensures.never)
 
 pub returns-clause-lawful : goal.returns-clause-lawful
 returns-clause-lawful g c =
     let D = g.D.Dir in
     let new = D.shown c.put_aside.new.dir in
-    err_more (λ e. is_stage Run ≡ true → NeverStray D.observed e new) (λ e. NeverStray D.observed e new) c.put_aside.result (λ e x. x refl) c.put_aside.ensures.lawful
+    if_err (λ e. is_stage Run ≡ true → NeverStray D.observed e new) (λ e. NeverStray D.observed e new) c.put_aside.result (λ e x. x refl) c.put_aside.ensures.lawful

@@ -1,8 +1,8 @@
 use Rattle.std.proofs.Common.{◌≡◌, rules, true, Err, Result, IfOk, IfErr, refl, sym, subst, arith}
+use Rattle.plain_laws.proofs.Results.{if_ok, if_err}
 use Rattle.dir_model.specs.declared.area.Area.{Area}
 use Rattle.dir_model.specs.declared.area.Area.TheVariants as area
 use Rattle.dir_model.specs.declared.area.Phase.TheVariants as phase
-use Rattle.folder_building.proofs.Copying.{ok_more, err_more}
 use Rattle.folder_building.proofs.Working.{worked_more, worked_wider}
 use Rattle.pod_locks.proofs.Calls.{follows_work}
 use Rattle.pod_gc.specs.RemovalHolding.{MayRemove}
@@ -10,12 +10,12 @@ use Rattle.pod_gc.specs.declared.gc_error.GcError.{GcError}
 use Rattle.pod_gc.specs.declared.line.Deed.{Deed}
 use Rattle.pod_gc.specs.declared.line.Deed.TheVariants.{Moved}
 use Rattle.pod_gc.specs.Causes.{GcCause, deed_of}
-use Rattle.pod_gc.specs.Deeds.{DeedCause, SaysThere, LetBe, LeavesWhere, MarksFirst}
+use Rattle.pod_gc.specs.Deeds.{DeedCause, SaysThere, LetBe, LeavesIfObserved, MarksFirst}
 use Rattle.pod_gc.proofs.Steps.{removes_deal, looks_deal, set_stopped, cause_moved, step_deed, step_cause, step_another, said_deed, said_refused, cause_after, ready_looked, said_unbusy, left_moved, said_unmoved, step_unmoved}
 use Rattle.pod_gc.proofs.Untouched.{let_moved, let_refused, step_let_be, peeked_looks, owns_elsewhere}
 use Rattle.pod_gc.specs.declared.gc_error.GcError.TheVariants as fault
 use Rattle.pod_locks.specs.Causes.{BreaksRules}
-use Rattle.pod_gc.specs.Causes.{NeverStray}
+use Rattle.pod_gc.specs.Causes.{GcNeverStray}
 use Rattle.pod_gc.proofs.Lawful.{step_stray}
 use Rattle.pod_gc.proofs.deals.deal_run.Goals as goal
 
@@ -25,8 +25,8 @@ returns-in-Ok-clause-worked g c = worked_wider (removes_deal c.args.pod c.args.n
 pub returns-in-Ok-clause-deed : goal.returns-in-Ok-clause-deed
 returns-in-Ok-clause-deed g c t = cause_moved c.args.pod area.Run area.ExitedGarbage refl refl (c.in-Ok.ensures.done t) (λ is. cc) (λ is. c.in-Ok.ensures.free t)
 
-pub returns-in-Ok-clause-another : goal.returns-in-Ok-clause-another
-returns-in-Ok-clause-another g c t s k m = left_moved
+pub returns-in-Ok-clause-by_other_process : goal.returns-in-Ok-clause-by_other_process
+returns-in-Ok-clause-by_other_process g c t s k m = left_moved
 
 pub returns-in-Err-Busy-clause-worked : goal.returns-in-Err-Busy-clause-worked
 returns-in-Err-Busy-clause-worked g c = worked_more (worked_wider (removes_deal c.args.pod c.args.now area.Run) c.retire_exited.ensures.worked) (worked_wider (looks_deal c.args.pod c.args.now area.Run (omega arith)) c.kept.ensures.worked)
@@ -37,7 +37,7 @@ returns-in-Err-Busy-clause-cause g c =
     let old = D.shown c.args.dir.now in
     let mid = D.shown c.retire_exited.new.dir in
     let new = D.shown c.kept.new.dir in
-    err_more (λ e. GcCause D.observed e mid new) (λ e. GcCause D.observed e old new) c.kept.result (λ e x. cause_after (follows_work c.retire_exited.ensures.worked) x) c.kept.ensures.cause
+    if_err (λ e. GcCause D.observed e mid new) (λ e. GcCause D.observed e old new) c.kept.result (λ e x. cause_after (follows_work c.retire_exited.ensures.worked) x) c.kept.ensures.cause
 
 pub returns-in-Err-Busy-clause-deed : goal.returns-in-Err-Busy-clause-deed
 returns-in-Err-Busy-clause-deed g c =
@@ -46,11 +46,11 @@ returns-in-Err-Busy-clause-deed g c =
     said_deed D.observed c.args.pod area.Run phase.Running true (omega arith) refl refl (λ rest. cc) (λ s h. h) (D.shown c.args.dir.now) (D.shown c.retire_exited.new.dir) (D.shown c.kept.new.dir) (follows_work c.retire_exited.ensures.worked) (follows_work c.kept.ensures.worked) (λ t. e.owned _ refl t)
     c.kept.result c.kept.ensures.said
 
-pub returns-in-Err-Busy-clause-another : goal.returns-in-Err-Busy-clause-another
-returns-in-Err-Busy-clause-another g c =
+pub returns-in-Err-Busy-clause-by_other_process : goal.returns-in-Err-Busy-clause-by_other_process
+returns-in-Err-Busy-clause-by_other_process g c =
     let D = g.D.Dir in
     let e = rw c.in-Err-Busy.field-0-is at c.in-Err-Busy.ensures in
-    said_refused D.observed c.args.now c.args.pod area.Run _ phase.Running (D.shown c.args.dir.now) (D.shown c.retire_exited.new.dir) (D.shown c.kept.new.dir) (omega arith) c.retire_exited.ensures.worked.same (follows_work c.kept.ensures.worked) (e.named _ refl) e.another (e.peeks _ refl) c.kept.ensures.peeks
+    said_refused D.observed c.args.now c.args.pod area.Run _ phase.Running (D.shown c.args.dir.now) (D.shown c.retire_exited.new.dir) (D.shown c.kept.new.dir) (omega arith) c.retire_exited.ensures.worked.same (follows_work c.kept.ensures.worked) (e.named _ refl) e.by_other_process (e.peeks _ refl) c.kept.ensures.peeks
     c.kept.result c.kept.ensures.said
     (said_deed D.observed c.args.pod area.Run phase.Running true (omega arith) refl refl (λ rest. cc) (λ s h. h) (D.shown c.args.dir.now) (D.shown c.retire_exited.new.dir) (D.shown c.kept.new.dir) (follows_work c.retire_exited.ensures.worked) (follows_work c.kept.ensures.worked) (λ t. e.owned _ refl t)
     c.kept.result c.kept.ensures.said)
@@ -77,29 +77,29 @@ returns-in-Err-clause-deed g c =
     subst (λ (x : Result Deed GcError). IfOk x (λ deed. D.observed ≡ true → DeedCause c.args.pod area.Run deed old.process old.trace new.trace)) (sym c.deed_of.ensures)
     (step_deed D.observed c.args.pod area.Run (Moved area.ExitedGarbage) old new (Err c.in-Err.stop) tt (set_stopped c.args.pod area.Run (λ s h. h) c.in-Err.ensures.stopped) (λ is here. cc))
 
-pub returns-in-Err-clause-another : goal.returns-in-Err-clause-another
-returns-in-Err-clause-another g c =
+pub returns-in-Err-clause-by_other_process : goal.returns-in-Err-clause-by_other_process
+returns-in-Err-clause-by_other_process g c =
     let D = g.D.Dir in
     let old = D.shown c.args.dir.now in
     let new = D.shown c.retire_exited.new.dir in
-    subst (λ (x : Result Deed GcError). IfOk x (λ deed. LeavesWhere D.observed (MayRemove c.args.now) c.args.pod area.Run deed old new)) (sym c.deed_of.ensures)
+    subst (λ (x : Result Deed GcError). IfOk x (λ deed. LeavesIfObserved D.observed (MayRemove c.args.now) c.args.pod area.Run deed old new)) (sym c.deed_of.ensures)
     (step_another D.observed c.args.pod area.Run (Moved area.ExitedGarbage) old new (MayRemove c.args.now) (λ which is. cc) (λ p is. cc) (Err c.in-Err.stop) (λ t s k m which is. search (rules, is, c.in-Err.stop-is)))
 
-pub returns-in-Ok-clause-let_be : goal.returns-in-Ok-clause-let_be
-returns-in-Ok-clause-let_be g c t = let_moved (c.in-Ok.ensures.aside t)
+pub returns-in-Ok-clause-left_untouched : goal.returns-in-Ok-clause-left_untouched
+returns-in-Ok-clause-left_untouched g c t = let_moved (c.in-Ok.ensures.aside t)
 
-pub returns-in-Err-Busy-clause-let_be : goal.returns-in-Err-Busy-clause-let_be
-returns-in-Err-Busy-clause-let_be g c =
+pub returns-in-Err-Busy-clause-left_untouched : goal.returns-in-Err-Busy-clause-left_untouched
+returns-in-Err-Busy-clause-left_untouched g c =
     let D = g.D.Dir in
     let e = rw c.in-Err-Busy.field-0-is at c.in-Err-Busy.ensures in
     let old = D.shown c.args.dir.now in
     let mid = D.shown c.retire_exited.new.dir in
     let new = D.shown c.kept.new.dir in
-    ok_more (λ deed. SaysThere D.observed c.args.pod area.Run phase.Running deed mid new) (λ deed. LetBe D.observed c.args.pod area.Run deed old new) c.kept.result
+    if_ok (λ deed. SaysThere D.observed c.args.pod area.Run phase.Running deed mid new) (λ deed. LetBe D.observed c.args.pod area.Run deed old new) c.kept.result
     (λ deed x t. let_refused old mid new t (peeked_looks c.args.pod area.Run old mid e.peeks) c.retire_exited.ensures.worked.same (c.kept.ensures.worked.extends t) (said_unbusy phase.Running deed x.is) t) c.kept.ensures.said
 
-pub returns-in-Err-clause-let_be : goal.returns-in-Err-clause-let_be
-returns-in-Err-clause-let_be g c =
+pub returns-in-Err-clause-left_untouched : goal.returns-in-Err-clause-left_untouched
+returns-in-Err-clause-left_untouched g c =
     let D = g.D.Dir in
     let old = D.shown c.args.dir.now in
     let new = D.shown c.retire_exited.new.dir in
@@ -113,7 +113,7 @@ returns-in-Ok-clause-marked g c t to is = c.in-Ok.ensures.noted t
 pub returns-in-Err-Busy-clause-marked : goal.returns-in-Err-Busy-clause-marked
 returns-in-Err-Busy-clause-marked g c =
     let D = g.D.Dir in
-    ok_more (λ deed. SaysThere D.observed c.args.pod area.Run phase.Running deed (D.shown c.retire_exited.new.dir) (D.shown c.kept.new.dir)) (λ deed. D.observed ≡ true → MarksFirst c.args.pod c.args.now deed (D.shown c.args.dir.now) (D.shown c.kept.new.dir)) c.kept.result
+    if_ok (λ deed. SaysThere D.observed c.args.pod area.Run phase.Running deed (D.shown c.retire_exited.new.dir) (D.shown c.kept.new.dir)) (λ deed. D.observed ≡ true → MarksFirst c.args.pod c.args.now deed (D.shown c.args.dir.now) (D.shown c.kept.new.dir)) c.kept.result
     (λ deed x t to is. absurd (said_unmoved phase.Running deed x.is to is)) c.kept.ensures.said
 
 pub returns-in-Err-clause-marked : goal.returns-in-Err-clause-marked
@@ -122,16 +122,16 @@ returns-in-Err-clause-marked g c =
     let old = D.shown c.args.dir.now in
     let new = D.shown c.retire_exited.new.dir in
     subst (λ (x : Result Deed GcError). IfOk x (λ deed. D.observed ≡ true → MarksFirst c.args.pod c.args.now deed old new)) (sym c.deed_of.ensures)
-    (ok_more (λ deed. (to : Area) → deed ≡ Moved to → ⊥) (λ deed. D.observed ≡ true → MarksFirst c.args.pod c.args.now deed old new) (deed_of (Err c.in-Err.stop) (Moved area.ExitedGarbage)) (λ deed never t to is. absurd (never to is)) (step_unmoved (Moved area.ExitedGarbage) c.in-Err.stop))
+    (if_ok (λ deed. (to : Area) → deed ≡ Moved to → ⊥) (λ deed. D.observed ≡ true → MarksFirst c.args.pod c.args.now deed old new) (deed_of (Err c.in-Err.stop) (Moved area.ExitedGarbage)) (λ deed never t to is. absurd (never to is)) (step_unmoved (Moved area.ExitedGarbage) c.in-Err.stop))
 
 pub returns-in-Err-Busy-clause-lawful : goal.returns-in-Err-Busy-clause-lawful
 returns-in-Err-Busy-clause-lawful g c =
     let D = g.D.Dir in
-    err_more (λ e. e ≡ fault.Stray → ⊥) (λ e. NeverStray D.observed e (D.shown c.kept.new.dir)) c.kept.result (λ e never is. absurd (never is)) c.kept.ensures.never
+    if_err (λ e. e ≡ fault.Stray → ⊥) (λ e. GcNeverStray D.observed e (D.shown c.kept.new.dir)) c.kept.result (λ e never is. absurd (never is)) c.kept.ensures.never
 
 pub returns-in-Err-clause-lawful : goal.returns-in-Err-clause-lawful
 returns-in-Err-clause-lawful g c =
     let D = g.D.Dir in
     let new = D.shown c.retire_exited.new.dir in
-    subst (λ (x : Result Deed GcError). IfErr x (λ e. NeverStray D.observed e new)) (sym c.deed_of.ensures)
+    subst (λ (x : Result Deed GcError). IfErr x (λ e. GcNeverStray D.observed e new)) (sym c.deed_of.ensures)
     (step_stray (BreaksRules D.observed new) (Moved area.ExitedGarbage) (Err c.in-Err.stop) c.in-Err.ensures.lawful)

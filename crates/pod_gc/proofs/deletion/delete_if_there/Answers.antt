@@ -1,17 +1,18 @@
 use Rattle.std.proofs.Common.{◌≡◌, true, false, Err, refl, sym, ap, subst, ◌∙◌}
+use Rattle.plain_laws.proofs.Results.{if_ok, if_err, err_both}
 use Rattle.dir_model.specs.declared.request.Request.TheVariants.{RemoveFolder}
 use Rattle.dir_model.specs.declared.request.Reply.TheVariants.{Done}
-use Rattle.folder_building.proofs.Copying.{ok_more, err_more}
 use Rattle.folder_building.proofs.Working.{worked_more, worked_wider}
 use Rattle.phase_read.specs.Read.{pod_spot}
 use Rattle.pod_locks.proofs.Times.{deeds_part, at_part}
 use Rattle.pod_locks.proofs.Traces.{grown_none}
 use Rattle.pod_locks.specs.declared.setback.Setback.{Setback}
-use Rattle.pod_locks.specs.Causes.{Stopped, IsAbsentAt, Did}
+use Rattle.pod_locks.specs.Causes.{StepWasStopped, IsAbsentAt, Did}
 use Rattle.pod_locks.proofs.Calls.{follows_work}
 use Rattle.dir_model.specs.State.{DirState, stands}
 use Rattle.dir_model.specs.declared.spot.Spot.{Spot}
 use Rattle.dir_trait.specs.DirCalls.{HeldBetween}
+use Rattle.dir_trait.specs.Effects.{Given}
 use Rattle.pod_gc.proofs.Looking.{worked_look, missing_stops, failed_stops, look_calm, look_no_stray}
 use Rattle.pod_gc.proofs.Deleting.{look_kinds, stood_stops, known_later, known_looked}
 use Rattle.pod_gc.specs.RemovalCauses.{StoppedDeleting, MissedUntaken}
@@ -20,10 +21,8 @@ use Rattle.folder_removal.specs.Removal.{KeepsFolders}
 use Rattle.folder_removal.proofs.Keeping.{kept_more}
 use Rattle.pod_gc.proofs.Unread.{kept_looks}
 use Rattle.folder_removal.specs.Known.{StrayKnowing}
-use Rattle.pod_locks.specs.Holding.{Stays}
 use Rattle.pod_locks.specs.Causes.{StrayByApp}
 use Rattle.pod_gc.specs.RemovalHolding.{HasOwn}
-use Rattle.pod_gc.proofs.Stages.{err_both}
 use Rattle.pod_gc.proofs.RemovalLawful.{deletion_by_app}
 use Rattle.dir_model.specs.State.{spot_eq}
 use Rattle.pod_gc.proofs.deletion.delete_if_there.Goals as goal
@@ -42,7 +41,7 @@ returns-in-Ok-true-clause-stopped g c =
     let new = D.shown c.delete_standing.new.dir in
     let told = rw c.in-Ok-true.field-0-test at c.in-Ok-true.ensures in
     let w = worked_look c.args.pod c.args.area old mid c.pod_spot.ensures l.same l.faults l.local l.extends in
-    err_more (λ e. StoppedDeleting D.observed (pod_spot c.args.pod c.args.area) e mid new) (λ e. Stopped D.observed c.args.pod (IsAbsentAt c.args.pod c.args.area) e old new) c.delete_standing.result
+    if_err (λ e. StoppedDeleting D.observed (pod_spot c.args.pod c.args.area) e mid new) (λ e. StepWasStopped D.observed c.args.pod (IsAbsentAt c.args.pod c.args.area) e old new) c.delete_standing.result
     (λ e x. stood_stops w.same w.faults (follows_work w).grown
     (λ t. subst (λ (spot : Spot). HeldBetween old mid (λ (s : DirState). stands s.namespace spot ≡ true)) c.pod_spot.ensures (told.there t)) x) c.delete_standing.ensures.stopped
 
@@ -54,7 +53,7 @@ returns-in-Ok-true-clause-done g c =
     let mid = D.shown c.look.new.dir in
     let new = D.shown c.delete_standing.new.dir in
     let w = worked_look c.args.pod c.args.area old mid c.pod_spot.ensures l.same l.faults l.local l.extends in
-    ok_more (λ done. D.observed ≡ true → Did (RemoveFolder (pod_spot c.args.pod c.args.area)) Done mid.process mid.trace new.trace)
+    if_ok (λ done. D.observed ≡ true → Did (RemoveFolder (pod_spot c.args.pod c.args.area)) Done mid.process mid.trace new.trace)
     (λ done. D.observed ≡ true → Did (RemoveFolder (pod_spot c.args.pod c.args.area)) Done old.process old.trace new.trace) c.delete_standing.result
     (λ done did t. deeds_part ((follows_work w).grown t) w.same grown_none (did t)) c.delete_standing.ensures.done
 
@@ -82,7 +81,7 @@ returns-in-Err-clause-worked g c =
 pub returns-in-Err-clause-stopped : goal.returns-in-Err-clause-stopped
 returns-in-Err-clause-stopped g c =
     let D = g.D.Dir in
-    subst (λ (x : Setback). Stopped D.observed c.args.pod (IsAbsentAt c.args.pod c.args.area) x (D.shown c.args.dir.now) (D.shown c.look.new.dir)) (sym c.look_setback.ensures)
+    subst (λ (x : Setback). StepWasStopped D.observed c.args.pod (IsAbsentAt c.args.pod c.args.area) x (D.shown c.args.dir.now) (D.shown c.look.new.dir)) (sym c.look_setback.ensures)
     (failed_stops c.in-Err.error (λ is. c.look.ensures.cause (c.in-Err.is ∙ ap Err is)))
 
 pub returns-in-Err-clause-calm : goal.returns-in-Err-clause-calm
@@ -94,7 +93,7 @@ returns-in-Err-clause-known g c t = known_looked (c.look.ensures.known t)
 pub returns-in-Ok-true-clause-still : goal.returns-in-Ok-true-clause-still
 returns-in-Ok-true-clause-still g c =
     let D = g.D.Dir in
-    err_more (λ e. StoppedDeleting D.observed (pod_spot c.args.pod c.args.area) e (D.shown c.look.new.dir) (D.shown c.delete_standing.new.dir)) (λ e. MissedUntaken D.observed e (D.shown c.args.dir.now) (D.shown c.delete_standing.new.dir)) c.delete_standing.result
+    if_err (λ e. StoppedDeleting D.observed (pod_spot c.args.pod c.args.area) e (D.shown c.look.new.dir) (D.shown c.delete_standing.new.dir)) (λ e. MissedUntaken D.observed e (D.shown c.args.dir.now) (D.shown c.delete_standing.new.dir)) c.delete_standing.result
     (λ e x is t. let clash : true ≡ false = sym is ∙ x.there in cc) c.delete_standing.ensures.stopped
 
 pub returns-in-Ok-false-clause-still : goal.returns-in-Ok-false-clause-still
@@ -116,7 +115,7 @@ returns-in-Ok-true-clause-stood g c =
     let mid = D.shown c.look.new.dir in
     let new = D.shown c.delete_standing.new.dir in
     let told = rw c.in-Ok-true.field-0-test at c.in-Ok-true.ensures in
-    err_more (λ e. StoppedDeleting D.observed (pod_spot c.args.pod c.args.area) e mid new)
+    if_err (λ e. StoppedDeleting D.observed (pod_spot c.args.pod c.args.area) e mid new)
     (λ e. e ≡ Setback.Stray → D.observed ≡ true → HeldBetween old new (λ s. stands s.namespace (pod_spot c.args.pod c.args.area) ≡ true)) c.delete_standing.result
     (λ e x is t. at_part grown_none refl ((follows_work c.delete_standing.ensures.worked).grown t)
     (subst (λ (spot : Spot). HeldBetween old mid (λ (s : DirState). stands s.namespace spot ≡ true)) c.pod_spot.ensures (told.there t))) c.delete_standing.ensures.stopped
@@ -129,7 +128,7 @@ returns-in-Ok-true-clause-kept g c =
     let D = g.D.Dir in
     let l = c.look.ensures in
     let w = worked_look c.args.pod c.args.area (D.shown c.args.dir.now) (D.shown c.look.new.dir) c.pod_spot.ensures l.same l.faults l.local l.extends in
-    err_more (λ e. D.observed ≡ true → KeepsFolders (D.shown c.look.new.dir) (D.shown c.delete_standing.new.dir)) (λ e. D.observed ≡ true → KeepsFolders (D.shown c.args.dir.now) (D.shown c.delete_standing.new.dir)) c.delete_standing.result
+    if_err (λ e. D.observed ≡ true → KeepsFolders (D.shown c.look.new.dir) (D.shown c.delete_standing.new.dir)) (λ e. D.observed ≡ true → KeepsFolders (D.shown c.args.dir.now) (D.shown c.delete_standing.new.dir)) c.delete_standing.result
     (λ e kept t. kept_more (kept_looks c.args.pod c.args.area (w.extends t)) w.same (kept t)) c.delete_standing.ensures.kept
 
 pub returns-in-Ok-false-clause-kept : goal.returns-in-Ok-false-clause-kept
@@ -156,7 +155,7 @@ returns-in-Ok-true-clause-lawful g c =
     let told = rw c.in-Ok-true.field-0-test at c.in-Ok-true.ensures in
     let w = worked_look c.args.pod c.args.area old mid c.pod_spot.ensures l.same l.faults l.local l.extends in
     err_both (λ e. StoppedDeleting D.observed (pod_spot c.args.pod c.args.area) e mid new × (D.observed ≡ true → KeepsFolders mid new))
-    (λ e. e ≡ Setback.Stray → D.observed ≡ true → Stays (HasOwn c.args.pod c.args.area) mid (λ s. StrayKnowing (pod_spot c.args.pod c.args.area) mid.process new.trace))
+    (λ e. e ≡ Setback.Stray → D.observed ≡ true → Given (HasOwn c.args.pod c.args.area) mid (λ s. StrayKnowing (pod_spot c.args.pod c.args.area) mid.process new.trace))
     (λ e. StrayByApp D.observed e (HasOwn c.args.pod c.args.area) old new) c.delete_standing.result
     (λ e x knew. deletion_by_app c.args.pod c.args.area (spot_eq c.pod_spot.result) c.requires.garbage (follows_work w)
     (λ t. subst (λ (spot : Spot). HeldBetween old mid (λ (s : DirState). stands s.namespace spot ≡ true)) c.pod_spot.ensures (told.there t)) (λ t. l.extends t) (λ t. l.known t) x.0 x.1 knew)

@@ -1,12 +1,12 @@
 use Rattle.std.proofs.Common.{◌≡◌, true, sym, subst, IfOk, IfErr}
+use Rattle.plain_laws.proofs.Results.{if_ok, if_err}
 use Rattle.dir_model.specs.declared.area.Area.{Area}
-use Rattle.folder_building.proofs.Copying.{ok_more, err_more}
 use Rattle.pod_gc.specs.Told.{AddsShown, AddsPassed}
 use Rattle.pod_gc.proofs.Gates.{adds_plain}
 use Rattle.pod_gc.specs.Ended.{EndsListingBetween, EndsPassBetween}
 use Rattle.pod_gc.proofs.Ending.{ends_plain}
-use Rattle.pod_gc.specs.Causes.{StrayByApp}
-use Rattle.pod_gc.specs.Sweeping.{MayPass, MaySweepAll}
+use Rattle.pod_gc.specs.Causes.{GcStrayByApp}
+use Rattle.pod_gc.specs.Sweeping.{MayPassPods, MaySweepAll}
 use Rattle.pod_gc.proofs.passes.pass.Goals as goal
 
 pub returns-in-Embryo-clause-told : goal.returns-in-Embryo-clause-told
@@ -22,7 +22,7 @@ returns-in_default-clause-told g c =
     let new = D.shown c.pass_listed.new.dir in
     let before = c.args.lines.now.items in
     let after = c.pass_listed.new.lines.items in
-    ok_more (λ done. D.observed ≡ true → AddsShown c.args.times place old new before after) (λ done. D.observed ≡ true → AddsPassed c.args.times place old new before after) c.pass_listed.result
+    if_ok (λ done. D.observed ≡ true → AddsShown c.args.times place old new before after) (λ done. D.observed ≡ true → AddsPassed c.args.times place old new before after) c.pass_listed.result
     (λ done told t. adds_plain old new c.args.times place before after (λ is. c.in_default.not-Embryo is) (told t)) c.pass_listed.ensures.told
 
 pub returns-in_default-clause-ready : goal.returns-in_default-clause-ready
@@ -39,7 +39,7 @@ returns-in_default-clause-ended g c =
     let place = c.args.place in
     let old = D.shown c.args.dir.now in
     let new = D.shown c.pass_listed.new.dir in
-    err_more (λ e. D.observed ≡ true → EndsListingBetween c.args.times place old new) (λ e. D.observed ≡ true → EndsPassBetween c.args.times place old new) c.pass_listed.result
+    if_err (λ e. D.observed ≡ true → EndsListingBetween c.args.times place old new) (λ e. D.observed ≡ true → EndsPassBetween c.args.times place old new) c.pass_listed.result
     (λ e x t. ends_plain old new c.args.times place (λ is. c.in_default.not-Embryo is) (x t)) c.pass_listed.ensures.ended
 
 pub returns-in_default-clause-lawful : goal.returns-in_default-clause-lawful
@@ -47,5 +47,5 @@ returns-in_default-clause-lawful g c =
     let D = g.D.Dir in
     let old = D.shown c.args.dir.now in
     let new = D.shown c.pass_listed.new.dir in
-    err_more (λ e. StrayByApp D.observed e (MayPass c.args.place c.args.times.now c.args.times.expire) old new) (λ e. StrayByApp D.observed e (MaySweepAll c.args.times.now c.args.times.expire) old new) c.pass_listed.result
+    if_err (λ e. GcStrayByApp D.observed e (MayPassPods c.args.place c.args.times.now c.args.times.expire) old new) (λ e. GcStrayByApp D.observed e (MaySweepAll c.args.times.now c.args.times.expire) old new) c.pass_listed.result
     (λ e x is t s k m. x is t s k (record { sweeps = m.sweeps; gate = λ is. absurd (c.in_default.not-Embryo is) })) c.pass_listed.ensures.lawful

@@ -1,5 +1,4 @@
 use Rattle.std.proofs.Common.{◌≡◌, inr, ℕ, List, true, Ok, Err, sym, ap, subst}
-use Rattle.folder_building.proofs.Copying.{ok_more, err_more}
 use Rattle.folder_building.proofs.Working.{worked_more, worked_wider}
 use Rattle.pod_locks.proofs.Calls.{follows_work}
 use Rattle.pod_gc.specs.declared.gc_error.GcError.{GcError}
@@ -13,8 +12,9 @@ use Rattle.pod_gc.proofs.Telling.{adds_shown}
 use Rattle.pod_gc.specs.Ended.{EndsAmongBetween, EndsListingBetween}
 use Rattle.pod_gc.proofs.Ending.{ends_listed}
 use Rattle.std.proofs.Common.{◌∙◌}
-use Rattle.pod_gc.specs.Causes.{StrayByApp}
-use Rattle.pod_gc.specs.Sweeping.{MayPass}
+use Rattle.plain_laws.proofs.Results.{if_ok, if_err}
+use Rattle.pod_gc.specs.Causes.{GcStrayByApp}
+use Rattle.pod_gc.specs.Sweeping.{MayPassPods}
 use Rattle.pod_gc.proofs.InTurn.{pass_kept}
 use Rattle.pod_gc.proofs.Lawful.{by_app_later, area_never}
 use Rattle.pod_gc.proofs.passes.pass_listed.Goals as goal
@@ -31,7 +31,7 @@ returns-in-Ok-clause-cause g c =
     let old = D.shown c.args.dir.now in
     let mid = D.shown c.names_of.new.dir in
     let new = D.shown c.deal_each.new.dir in
-    err_more (λ e. GcCause D.observed e mid new) (λ e. GcCause D.observed e old new) c.deal_each.result (λ e x. cause_after (follows_work (worked_area c.args.place (Ok c.in-Ok.names) c.in-Ok.ensures.called)) x) c.deal_each.ensures.cause
+    if_err (λ e. GcCause D.observed e mid new) (λ e. GcCause D.observed e old new) c.deal_each.result (λ e x. cause_after (follows_work (worked_area c.args.place (Ok c.in-Ok.names) c.in-Ok.ensures.called)) x) c.deal_each.ensures.cause
 
 pub returns-in-Ok-clause-told : goal.returns-in-Ok-clause-told
 returns-in-Ok-clause-told g c =
@@ -45,7 +45,7 @@ returns-in-Ok-clause-told g c =
     let before = c.args.lines.now.items in
     let after = c.deal_each.new.lines.items in
     let shown = c.as_slice.result.now in
-    ok_more (λ done. D.observed ≡ true → AddsTold times place shown mid new before after) (λ done. D.observed ≡ true → AddsShown times place old new before after) c.deal_each.result
+    if_ok (λ done. D.observed ≡ true → AddsTold times place shown mid new before after) (λ done. D.observed ≡ true → AddsShown times place old new before after) c.deal_each.result
     (λ done told t. adds_shown old mid new times place names before after t c.in-Ok.ensures.called c.in-Ok.ensures.ordered (c.in-Ok.ensures.shows t) (ready_area place (Ok names) c.requires.stage c.in-Ok.ensures.called t)
     (subst (λ (ns : List (List ℕ)). AddsTold times place ns mid new before after) c.as_slice.ensures (told t))) c.deal_each.ensures.told
 
@@ -73,7 +73,7 @@ returns-in-Ok-clause-ended g c =
     let old = D.shown c.args.dir.now in
     let mid = D.shown c.names_of.new.dir in
     let new = D.shown c.deal_each.new.dir in
-    err_more (λ e. D.observed ≡ true → EndsAmongBetween times place c.as_slice.result.now mid new) (λ e. D.observed ≡ true → EndsListingBetween times place old new) c.deal_each.result
+    if_err (λ e. D.observed ≡ true → EndsAmongBetween times place c.as_slice.result.now mid new) (λ e. D.observed ≡ true → EndsListingBetween times place old new) c.deal_each.result
     (λ e x t. ends_listed old mid new times place names t c.in-Ok.ensures.called c.in-Ok.ensures.ordered (c.in-Ok.ensures.shows t) (ready_area place (Ok names) c.requires.stage c.in-Ok.ensures.called t)
     (subst (λ (ns : List (List ℕ)). EndsAmongBetween times place ns mid new) c.as_slice.ensures (x t))) c.deal_each.ensures.ended
 
@@ -86,7 +86,7 @@ returns-in-Ok-clause-lawful g c =
     let old = D.shown c.args.dir.now in
     let mid = D.shown c.names_of.new.dir in
     let new = D.shown c.deal_each.new.dir in
-    err_more (λ e. StrayByApp D.observed e (MayPass c.args.place c.args.times.now c.args.times.expire) mid new) (λ e. StrayByApp D.observed e (MayPass c.args.place c.args.times.now c.args.times.expire) old new) c.deal_each.result
+    if_err (λ e. GcStrayByApp D.observed e (MayPassPods c.args.place c.args.times.now c.args.times.expire) mid new) (λ e. GcStrayByApp D.observed e (MayPassPods c.args.place c.args.times.now c.args.times.expire) old new) c.deal_each.result
     (λ e x is. by_app_later new (λ s z. pass_kept) (follows_work (worked_area c.args.place (Ok c.in-Ok.names) c.in-Ok.ensures.called)) (ready_area c.args.place (Ok c.in-Ok.names) c.requires.stage c.in-Ok.ensures.called) (x is)) c.deal_each.ensures.lawful
 
 pub returns-in-Err-clause-lawful : goal.returns-in-Err-clause-lawful

@@ -1,23 +1,23 @@
 use Rattle.std.proofs.Common.{◌≡◌, rules, true, false, refl, arith}
+use Rattle.plain_laws.proofs.Results.{if_err, err_same, err_both, ok_all, err_all}
 use Rattle.dir_model.specs.declared.area.Area.TheVariants.{Prepared, Garbage}
 use Rattle.dir_model.specs.declared.spot.Mode.TheVariants.{Shared}
 use Rattle.dir_model.specs.declared.spot.Which.{Which}
 use Rattle.dir_model.specs.declared.spot.Which.TheVariants.{Own}
 use Rattle.dir_trait.specs.DirCalls.{ExtendsBy, LockToldBetween}
-use Rattle.folder_building.proofs.Copying.{err_more}
+use Rattle.dir_trait.specs.Effects.{Given}
 use Rattle.folder_building.proofs.Working.{worked_more, worked_wider}
 use Rattle.phase_read.specs.Read.{pod_spot}
 use Rattle.pod_locks.proofs.Traces.{grown_none}
 use Rattle.pod_locks.specs.declared.setback.Setback.TheVariants as stop
-use Rattle.pod_locks.specs.Holding.{MayLook, Stays}
-use Rattle.pod_locks.specs.Causes.{Stopped, IsAbsentAt, BusyElsewhere}
+use Rattle.pod_locks.specs.Holding.{MayLook}
+use Rattle.pod_locks.specs.Causes.{StepWasStopped, IsAbsentAt, LockBusyElsewhere}
 use Rattle.pod_locks.proofs.Calls.{follows_none, follows_work, stops_part}
 use Rattle.pod_locks.proofs.Within.{told_within}
 use Rattle.pod_gc.specs.RemovalHolding.{UnderClaim}
 use Rattle.pod_gc.specs.RemovalCauses.{BusyInPrepared, BusyByLooks}
 use Rattle.pod_gc.specs.RemovalRequests.{puts_aside}
 use Rattle.pod_gc.proofs.CallKinds.{looks_remove, second_remove, put_aside}
-use Rattle.pod_gc.proofs.Stages.{err_same, err_both, ok_all, err_all}
 use Rattle.pod_gc.proofs.Discarding.{looks_under, bare_under, ready_under, busy_own}
 use Rattle.pod_locks.specs.Taking.{TakesNothing}
 use Rattle.pod_locks.proofs.Taking.{took_looks, took_more}
@@ -33,20 +33,20 @@ returns-in_err-probe-clause-worked g c = worked_wider (looks_remove c.args.pod c
 pub returns-in_err-probe-clause-stopped : goal.returns-in_err-probe-clause-stopped
 returns-in_err-probe-clause-stopped g c =
     let D = g.D.Dir in
-    err_same (λ e. Stopped D.observed c.args.pod (IsAbsentAt c.args.pod Prepared) e (D.shown c.args.dir.now) (D.shown c.probe.new.dir)) c.probe.result c.from_residual.result
+    err_same (λ e. StepWasStopped D.observed c.args.pod (IsAbsentAt c.args.pod Prepared) e (D.shown c.args.dir.now) (D.shown c.probe.new.dir)) c.probe.result c.from_residual.result
     (λ e h. search (rules, h, c.from_residual.ensures, c.in_err-probe.is)) c.probe.ensures.stopped
 
-pub returns-in_err-probe-clause-another : goal.returns-in_err-probe-clause-another
-returns-in_err-probe-clause-another g c =
+pub returns-in_err-probe-clause-by_other_process : goal.returns-in_err-probe-clause-by_other_process
+returns-in_err-probe-clause-by_other_process g c =
     let D = g.D.Dir in
     let old = D.shown c.args.dir.now in
     let new = D.shown c.probe.new.dir in
-    err_same (λ e. D.observed ≡ true → Stays (UnderClaim c.args.pod c.args.now) old (λ s. BusyInPrepared c.args.pod e old new)) c.probe.result c.from_residual.result
+    err_same (λ e. D.observed ≡ true → Given (UnderClaim c.args.pod c.args.now) old (λ s. BusyInPrepared c.args.pod e old new)) c.probe.result c.from_residual.result
     (λ e h. search (rules, h, c.from_residual.ensures, c.in_err-probe.is))
     (err_both (λ e. (which : Which) → e ≡ stop.Busy which → which ≡ Own)
-    (λ e. D.observed ≡ true → Stays (MayLook c.args.pod Prepared) old (λ s. BusyElsewhere c.args.pod Prepared Shared e old new))
-    (λ e. D.observed ≡ true → Stays (UnderClaim c.args.pod c.args.now) old (λ s. BusyInPrepared c.args.pod e old new))
-    c.probe.result (λ e named busy t s k u. busy_own old new c.args.pod e named (busy t s k (looks_under c.args.pod u))) c.probe.ensures.named c.probe.ensures.another)
+    (λ e. D.observed ≡ true → Given (MayLook c.args.pod Prepared) old (λ s. LockBusyElsewhere c.args.pod Prepared Shared e old new))
+    (λ e. D.observed ≡ true → Given (UnderClaim c.args.pod c.args.now) old (λ s. BusyInPrepared c.args.pod e old new))
+    c.probe.result (λ e named busy t s k u. busy_own old new c.args.pod e named (busy t s k (looks_under c.args.pod u))) c.probe.ensures.named c.probe.ensures.by_other_process)
 
 pub returns-in_err-probe-clause-ready : goal.returns-in_err-probe-clause-ready
 returns-in_err-probe-clause-ready g c t s k u = bare_under u (c.in_err-probe.ensures.left t s k (looks_under c.args.pod u))
@@ -60,15 +60,15 @@ returns-clause-stopped g c =
     let old = D.shown c.args.dir.now in
     let mid = D.shown c.probe.new.dir in
     let new = D.shown c.put_aside.new.dir in
-    err_more (λ e. Stopped D.observed c.args.pod (IsAbsentAt c.args.pod Prepared) e mid new) (λ e. Stopped D.observed c.args.pod (IsAbsentAt c.args.pod Prepared) e old new) c.put_aside.result
+    if_err (λ e. StepWasStopped D.observed c.args.pod (IsAbsentAt c.args.pod Prepared) e mid new) (λ e. StepWasStopped D.observed c.args.pod (IsAbsentAt c.args.pod Prepared) e old new) c.put_aside.result
     (λ e x. stops_part (follows_work c.probe.ensures.worked) follows_none x) c.put_aside.ensures.stopped
 
-pub returns-clause-another : goal.returns-clause-another
-returns-clause-another g c =
+pub returns-clause-by_other_process : goal.returns-clause-by_other_process
+returns-clause-by_other_process g c =
     let D = g.D.Dir in
     let old = D.shown c.args.dir.now in
     let new = D.shown c.put_aside.new.dir in
-    err_more (λ e. (which : Which) → e ≡ stop.Busy which → ⊥) (λ e. D.observed ≡ true → Stays (UnderClaim c.args.pod c.args.now) old (λ s. BusyInPrepared c.args.pod e old new)) c.put_aside.result
+    if_err (λ e. (which : Which) → e ≡ stop.Busy which → ⊥) (λ e. D.observed ≡ true → Given (UnderClaim c.args.pod c.args.now) old (λ s. BusyInPrepared c.args.pod e old new)) c.put_aside.result
     (λ e calm t s k may which is. absurd (calm which is)) c.put_aside.ensures.calm
 
 pub returns-clause-ready : goal.returns-clause-ready
@@ -82,7 +82,7 @@ returns-in_err-probe-clause-looks g c =
 pub returns-clause-looks : goal.returns-clause-looks
 returns-clause-looks g c =
     let D = g.D.Dir in
-    err_more (λ e. (which : Which) → e ≡ stop.Busy which → ⊥) (λ e. BusyByLooks D.observed c.args.pod Prepared e (D.shown c.args.dir.now) (D.shown c.put_aside.new.dir)) c.put_aside.result
+    if_err (λ e. (which : Which) → e ≡ stop.Busy which → ⊥) (λ e. BusyByLooks D.observed c.args.pod Prepared e (D.shown c.args.dir.now) (D.shown c.put_aside.new.dir)) c.put_aside.result
     (λ e calm which is t. absurd (calm which is)) c.put_aside.ensures.calm
 
 pub returns-in_err-probe-clause-still : goal.returns-in_err-probe-clause-still
@@ -94,7 +94,7 @@ pub returns-clause-still : goal.returns-clause-still
 returns-clause-still g c =
     let D = g.D.Dir in
     let new = D.shown c.put_aside.new.dir in
-    err_more (λ e. TakesNothing D.observed (D.shown c.probe.new.dir) new) (λ e. TakesNothing D.observed (D.shown c.args.dir.now) new) c.put_aside.result
+    if_err (λ e. TakesNothing D.observed (D.shown c.probe.new.dir) new) (λ e. TakesNothing D.observed (D.shown c.args.dir.now) new) c.put_aside.result
     (λ e x t. took_more (took_looks c.args.pod Prepared (c.probe.ensures.worked.extends t)) c.probe.ensures.worked.same (x t)) c.put_aside.ensures.still
 
 pub returns-clause-aside : goal.returns-clause-aside
@@ -118,10 +118,10 @@ pub returns-in_err-probe-clause-lawful : goal.returns-in_err-probe-clause-lawful
 returns-in_err-probe-clause-lawful g c =
     let D = g.D.Dir in
     err_same (λ e. NeverStray D.observed e (D.shown c.probe.new.dir)) c.probe.result c.from_residual.result (λ e h. search (rules, h, c.from_residual.ensures, c.in_err-probe.is))
-    (err_more (λ e. e ≡ stop.Stray → ⊥) (λ e. NeverStray D.observed e (D.shown c.probe.new.dir)) c.probe.result (λ e never is t conforming. never is) c.probe.ensures.never)
+    (if_err (λ e. e ≡ stop.Stray → ⊥) (λ e. NeverStray D.observed e (D.shown c.probe.new.dir)) c.probe.result (λ e never is t conforming. never is) c.probe.ensures.never)
 
 pub returns-clause-lawful : goal.returns-clause-lawful
 returns-clause-lawful g c =
     let D = g.D.Dir in
     let new = D.shown c.put_aside.new.dir in
-    err_more (λ e. is_stage Prepared ≡ true → NeverStray D.observed e new) (λ e. NeverStray D.observed e new) c.put_aside.result (λ e x. x refl) c.put_aside.ensures.lawful
+    if_err (λ e. is_stage Prepared ≡ true → NeverStray D.observed e new) (λ e. NeverStray D.observed e new) c.put_aside.result (λ e x. x refl) c.put_aside.ensures.lawful

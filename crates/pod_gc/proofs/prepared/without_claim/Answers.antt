@@ -1,7 +1,7 @@
 use Rattle.std.proofs.Common.{Err, sym, ap, subst, ◌∙◌}
 use Rattle.dir_model.specs.declared.area.Area.TheVariants.{Prepared}
 use Rattle.pod_locks.specs.declared.setback.Setback.{Setback}
-use Rattle.pod_gc.specs.RemovalCauses.{StopsAlone}
+use Rattle.pod_gc.specs.RemovalCauses.{RemovalStopsAlone}
 use Rattle.pod_gc.proofs.Looking.{worked_look, alone_there, alone_missing, alone_failed}
 use Rattle.pod_gc.proofs.prepared.without_claim.Goals as goal
 
@@ -27,5 +27,5 @@ returns-in-Ok-false-clause-stopped g c =
 pub returns-in-Err-clause-stopped : goal.returns-in-Err-clause-stopped
 returns-in-Err-clause-stopped g c =
     let D = g.D.Dir in
-    subst (λ (x : Setback). StopsAlone D.observed c.args.pod x (D.shown c.args.dir.now) (D.shown c.look.new.dir)) (sym c.look_setback.ensures)
+    subst (λ (x : Setback). RemovalStopsAlone D.observed c.args.pod x (D.shown c.args.dir.now) (D.shown c.look.new.dir)) (sym c.look_setback.ensures)
     (alone_failed c.args.pod (D.shown c.args.dir.now) (D.shown c.look.new.dir) c.in-Err.error (λ is. c.look.ensures.cause (c.in-Err.is ∙ ap Err is)))

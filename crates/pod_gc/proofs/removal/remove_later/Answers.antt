@@ -1,16 +1,14 @@
 use Rattle.std.proofs.Common.{[], append-nil, ◌+◌, ◌≡◌, rules, false, true, ℕ, sym, subst, ◌∙◌, arith}
+use Rattle.plain_laws.proofs.Results.{if_err, err_same}
 use Rattle.dir_model.specs.Local.{Local, IsActive, has_own_open}
 use Rattle.dir_model.specs.Pods.{pod_text}
-use Rattle.folder_building.proofs.Copying.{err_more}
 use Rattle.folder_building.proofs.Working.{worked_none, worked_more}
-use Rattle.pod_locks.specs.Holding.{Stays}
 use Rattle.pod_locks.proofs.Calls.{follows_work}
 use Rattle.pod_locks.proofs.Traces.{grown_none}
 use Rattle.pod_gc.specs.declared.attempt.Round.{Round}
 use Rattle.pod_gc.specs.declared.attempt.Round.TheVariants as round
 use Rattle.pod_gc.specs.RemovalHolding.{MayRemovePod}
-use Rattle.pod_gc.specs.Removals.{MissedTimes, WentRound, RoundCause, LaterCause, RefusedByAnother}
-use Rattle.pod_gc.proofs.Stages.{err_same}
+use Rattle.pod_gc.specs.Removals.{MissedTimes, WentRound, RoundCause, LaterCause, RemovalRefusedByAnother}
 use Rattle.pod_gc.proofs.Rounds.{missed_next, ended_at, cause_later, cause_last, refused_later, ready_here, ready_more}
 use Rattle.phase_read.proofs.Often.{reads_more, reads_within}
 use Rattle.pod_gc.proofs.Unread.{unread_here}
@@ -21,6 +19,7 @@ use Rattle.pod_gc.specs.Found.{RoundWent}
 use Rattle.pod_gc.specs.Removals.{RoundByApp, LaterByApp}
 use Rattle.pod_gc.proofs.RemovalLawful.{later_by_app, missed_by_app}
 use Rattle.pod_gc.proofs.removal.remove_later.Goals as goal
+use Rattle.dir_trait.specs.Effects.{Given}
 
 pub rounds-init : goal.rounds-init
 rounds-init g c = record { worked = worked_none; missed = λ t. grown_none; reads = unread_here c.args.pod (g.D.Dir.shown c.args.dir.now); kept = λ t. record { more = []; grown = sym (append-nil (g.D.Dir.shown c.args.dir.now).trace); kept = tt }; ready = λ t. ready_here }
@@ -42,18 +41,18 @@ returns-in_err-attempt-clause-cause g c =
     let new = D.shown c.attempt.new.dir in
     err_same (λ e. LaterCause D.observed c.args.pod e old new) c.attempt.result c.from_residual.result
     (λ e h. search (rules, h, c.from_residual.ensures, c.in_err-attempt.is))
-    (err_more (λ e. RoundCause D.observed c.args.pod e mid new) (λ e. LaterCause D.observed c.args.pod e old new) c.attempt.result (λ e x. cause_later (follows_work c.rounds.invariant.worked) x) c.attempt.ensures.cause)
+    (if_err (λ e. RoundCause D.observed c.args.pod e mid new) (λ e. LaterCause D.observed c.args.pod e old new) c.attempt.result (λ e x. cause_later (follows_work c.rounds.invariant.worked) x) c.attempt.ensures.cause)
 
-pub returns-in_err-attempt-clause-another : goal.returns-in_err-attempt-clause-another
-returns-in_err-attempt-clause-another g c =
+pub returns-in_err-attempt-clause-by_other_process : goal.returns-in_err-attempt-clause-by_other_process
+returns-in_err-attempt-clause-by_other_process g c =
     let D = g.D.Dir in
     let old = D.shown c.args.dir.now in
     let mid = D.shown c.rounds.dir in
     let new = D.shown c.attempt.new.dir in
-    err_same (λ e. D.observed ≡ true → Stays (MayRemovePod c.args.pod c.args.now) old (λ s. RefusedByAnother c.args.pod e old new)) c.attempt.result c.from_residual.result
+    err_same (λ e. D.observed ≡ true → Given (MayRemovePod c.args.pod c.args.now) old (λ s. RemovalRefusedByAnother c.args.pod e old new)) c.attempt.result c.from_residual.result
     (λ e h. search (rules, h, c.from_residual.ensures, c.in_err-attempt.is))
-    (err_more (λ e. D.observed ≡ true → Stays (MayRemovePod c.args.pod c.args.now) mid (λ s. RefusedByAnother c.args.pod e mid new)) (λ e. D.observed ≡ true → Stays (MayRemovePod c.args.pod c.args.now) old (λ s. RefusedByAnother c.args.pod e old new)) c.attempt.result
-    (λ e busy t. refused_later e new t (follows_work c.rounds.invariant.worked) (c.rounds.invariant.ready t) (busy t)) c.attempt.ensures.another)
+    (if_err (λ e. D.observed ≡ true → Given (MayRemovePod c.args.pod c.args.now) mid (λ s. RemovalRefusedByAnother c.args.pod e mid new)) (λ e. D.observed ≡ true → Given (MayRemovePod c.args.pod c.args.now) old (λ s. RemovalRefusedByAnother c.args.pod e old new)) c.attempt.result
+    (λ e busy t. refused_later e new t (follows_work c.rounds.invariant.worked) (c.rounds.invariant.ready t) (busy t)) c.attempt.ensures.by_other_process)
 
 pub returns-in_err-attempt-clause-ready : goal.returns-in_err-attempt-clause-ready
 returns-in_err-attempt-clause-ready g c t = ready_more (c.rounds.invariant.ready t) (c.attempt.ensures.ready t)
@@ -126,7 +125,7 @@ pub returns-in_err-attempt-clause-kept : goal.returns-in_err-attempt-clause-kept
 returns-in_err-attempt-clause-kept g c =
     let D = g.D.Dir in
     err_same (λ e. D.observed ≡ true → KeepsFolders (D.shown c.args.dir.now) (D.shown c.attempt.new.dir)) c.attempt.result c.from_residual.result (λ e h. search (rules, h, c.from_residual.ensures, c.in_err-attempt.is))
-    (err_more (λ e. D.observed ≡ true → KeepsFolders (D.shown c.rounds.dir) (D.shown c.attempt.new.dir)) (λ e. D.observed ≡ true → KeepsFolders (D.shown c.args.dir.now) (D.shown c.attempt.new.dir)) c.attempt.result
+    (if_err (λ e. D.observed ≡ true → KeepsFolders (D.shown c.rounds.dir) (D.shown c.attempt.new.dir)) (λ e. D.observed ≡ true → KeepsFolders (D.shown c.args.dir.now) (D.shown c.attempt.new.dir)) c.attempt.result
     (λ e kept t. kept_more (c.rounds.invariant.kept t) c.rounds.invariant.worked.same (kept t)) c.attempt.ensures.kept)
 
 pub returns-clause-kept : goal.returns-clause-kept
@@ -140,7 +139,7 @@ returns-in_err-attempt-clause-lawful g c =
     let mid = D.shown c.rounds.dir in
     let new = D.shown c.attempt.new.dir in
     err_same (λ e. LaterByApp D.observed c.args.pod c.args.now e old new) c.attempt.result c.from_residual.result (λ e h. search (rules, h, c.from_residual.ensures, c.in_err-attempt.is))
-    (err_more (λ e. RoundByApp D.observed c.args.pod c.args.now e mid new) (λ e. LaterByApp D.observed c.args.pod c.args.now e old new) c.attempt.result
+    (if_err (λ e. RoundByApp D.observed c.args.pod c.args.now e mid new) (λ e. LaterByApp D.observed c.args.pod c.args.now e old new) c.attempt.result
     (λ e x. later_by_app old mid new (follows_work c.rounds.invariant.worked) c.rounds.invariant.ready x) c.attempt.ensures.lawful)
 
 pub returns-clause-lawful : goal.returns-clause-lawful

@@ -1,11 +1,11 @@
 use Rattle.std.proofs.Common.{◌≡◌, rules, true}
-use Rattle.pod_gc.proofs.Stages.{err_same}
 use Rattle.pod_gc.specs.Causes.{GcCause}
 use Rattle.pod_gc.proofs.Sweeps.{swept_all}
 use Rattle.pod_gc.specs.Ended.{EndsSweepBetween}
 use Rattle.std.proofs.Common.{refl}
+use Rattle.plain_laws.proofs.Results.{err_same}
 use Rattle.pod_gc.specs.declared.gc_error.GcError.TheVariants as fault
-use Rattle.pod_gc.specs.Causes.{StrayByApp}
+use Rattle.pod_gc.specs.Causes.{GcStrayByApp}
 use Rattle.pod_gc.specs.Sweeping.{MaySweepAll}
 use Rattle.pod_gc.proofs.RemovalLawful.{of_err}
 use Rattle.pod_gc.proofs.sweeping.gc.Goals as goal
@@ -32,5 +32,5 @@ returns-in_err-pass_each-clause-lawful g c =
     let D = g.D.Dir in
     let old = D.shown c.args.dir.now in
     let new = D.shown c.pass_each.new.dir in
-    λ is. of_err (λ e. StrayByApp D.observed e (MaySweepAll c.args.now c.args.expire) old new) c.from_residual.result fault.Stray is
-    (err_same (λ e. StrayByApp D.observed e (MaySweepAll c.args.now c.args.expire) old new) c.pass_each.result c.from_residual.result (λ e h. search (rules, h, c.from_residual.ensures, c.in_err-pass_each.is)) c.pass_each.ensures.lawful) refl
+    λ is. of_err (λ e. GcStrayByApp D.observed e (MaySweepAll c.args.now c.args.expire) old new) c.from_residual.result fault.Stray is
+    (err_same (λ e. GcStrayByApp D.observed e (MaySweepAll c.args.now c.args.expire) old new) c.pass_each.result c.from_residual.result (λ e h. search (rules, h, c.from_residual.ensures, c.in_err-pass_each.is)) c.pass_each.ensures.lawful) refl

@@ -5,9 +5,9 @@ use Rattle.pod_locks.specs.Running.{IsOwned}
 use Rattle.pod_locks.specs.declared.claim_error.ClaimError.{ClaimError}
 use Rattle.pod_locks.specs.declared.claim_error.ClaimError.TheVariants.{Stray}
 use Rattle.pod_locks.specs.ClaimHolding.{MayClaim}
-use Rattle.pod_locks.specs.Work.{TookBoth, Leaves}
+use Rattle.pod_locks.specs.Work.{TookBoth, WhereObservedKnew}
 use Rattle.pod_locks.specs.ClaimCauses.{ClaimCause}
-use Rattle.pod_locks.specs.Claims.{HasPod, RefusedByAnother}
+use Rattle.pod_locks.specs.Claims.{HasPod, ClaimRefusedByAnother}
 use Rattle.pod_locks.proofs.Parts.{went_as, went_wider}
 use Rattle.pod_locks.proofs.Outcomes.{took_part, last_cause, last_still, left_twice, held_twice, another_twice, another_once, runs_it, went_twice, owned_twice, only_failures}
 use Rattle.pod_locks.specs.Elsewhere.{MetOwner}
@@ -44,7 +44,7 @@ returns-in-Ok-clause-held g c =
     let D = g.D.Dir in
     let a = D.shown c.args.dir.now in
     let b = D.shown c.attempt.new.dir in
-    subst (λ (o : Owned). Leaves D.observed MayClaim a (λ s. HasPod c.args.pod o.own s b)) (sym c.owned.ensures) c.in-Ok.ensures.held
+    subst (λ (o : Owned). WhereObservedKnew D.observed MayClaim a (λ s. HasPod c.args.pod o.own s b)) (sym c.owned.ensures) c.in-Ok.ensures.held
 
 pub returns-in-Err-Refused-clause-went : goal.returns-in-Err-Refused-clause-went
 returns-in-Err-Refused-clause-went g c = let e = rw c.in-Err-Refused.field-0-is at c.in-Err-Refused.ensures in went_wider (omega arith) e.went
@@ -52,14 +52,14 @@ returns-in-Err-Refused-clause-went g c = let e = rw c.in-Err-Refused.field-0-is 
 pub returns-in-Err-Refused-clause-cause : goal.returns-in-Err-Refused-clause-cause
 returns-in-Err-Refused-clause-cause g c = let e = rw c.in-Err-Refused.field-0-is at c.in-Err-Refused.ensures in e.set_back.cause c.in-Err-Refused.error refl
 
-pub returns-in-Err-Refused-clause-another : goal.returns-in-Err-Refused-clause-another
-returns-in-Err-Refused-clause-another g c =
+pub returns-in-Err-Refused-clause-by_other_process : goal.returns-in-Err-Refused-clause-by_other_process
+returns-in-Err-Refused-clause-by_other_process g c =
     let e = rw c.in-Err-Refused.field-0-is at c.in-Err-Refused.ensures in
-    another_once c.in-Err-Refused.error (g.D.Dir.shown c.args.dir.now) (g.D.Dir.shown c.attempt.new.dir) e.another
+    another_once c.in-Err-Refused.error (g.D.Dir.shown c.args.dir.now) (g.D.Dir.shown c.attempt.new.dir) e.by_other_process
 
 pub returns-in-Err-Refused-clause-complete : goal.returns-in-Err-Refused-clause-complete
 returns-in-Err-Refused-clause-complete g c t s may k conforming free =
-    only_failures c.in-Err-Refused.error t (returns-in-Err-Refused-clause-cause g c) (returns-in-Err-Refused-clause-another g c t s may k) conforming free
+    only_failures c.in-Err-Refused.error t (returns-in-Err-Refused-clause-cause g c) (returns-in-Err-Refused-clause-by_other_process g c t s may k) conforming free
 
 -- the second
 
@@ -89,7 +89,7 @@ returns-in-Ok-attempt-clause-held g c =
     let a = D.shown c.args.dir.now in
     let d = D.shown c.attempt-in-Err-Missing.new.dir in
     let e = rw c.in-Err-Missing.field-0-is at c.in-Err-Missing.ensures in
-    subst (λ (o : Owned). Leaves D.observed MayClaim a (λ s. HasPod c.args.pod o.own s d)) (sym c.owned-in-Ok-attempt.ensures) (held_twice e.went e.left d c.in-Ok-attempt.own c.in-Ok-attempt.ensures.held)
+    subst (λ (o : Owned). WhereObservedKnew D.observed MayClaim a (λ s. HasPod c.args.pod o.own s d)) (sym c.owned-in-Ok-attempt.ensures) (held_twice e.went e.left d c.in-Ok-attempt.own c.in-Ok-attempt.ensures.held)
 
 pub returns-in-Ok-attempt-clause-runs : goal.returns-in-Ok-attempt-clause-runs
 returns-in-Ok-attempt-clause-runs g c =
@@ -111,13 +111,13 @@ returns-in-Err-clause-cause g c =
     subst (λ (x : ClaimError). ClaimCause D.observed c.args.pod x (D.shown c.args.dir.now) (D.shown c.attempt-in-Err-Missing.new.dir)) (sym c.last_refusal.ensures)
     (last_cause e.went c.in-Err.stop e.set_back c.in-Err.ensures.set_back)
 
-pub returns-in-Err-clause-another : goal.returns-in-Err-clause-another
-returns-in-Err-clause-another g c =
+pub returns-in-Err-clause-by_other_process : goal.returns-in-Err-clause-by_other_process
+returns-in-Err-clause-by_other_process g c =
     let D = g.D.Dir in
     let a = D.shown c.args.dir.now in
     let d = D.shown c.attempt-in-Err-Missing.new.dir in
     let e = rw c.in-Err-Missing.field-0-is at c.in-Err-Missing.ensures in
-    subst (λ (x : ClaimError). Leaves D.observed MayClaim a (λ s. RefusedByAnother c.args.pod x a d)) (sym c.last_refusal.ensures) (another_twice e.went e.left d c.in-Err.stop c.in-Err.ensures.another)
+    subst (λ (x : ClaimError). WhereObservedKnew D.observed MayClaim a (λ s. ClaimRefusedByAnother c.args.pod x a d)) (sym c.last_refusal.ensures) (another_twice e.went e.left d c.in-Err.stop c.in-Err.ensures.by_other_process)
 
 pub returns-in-Err-clause-still : goal.returns-in-Err-clause-still
 returns-in-Err-clause-still g c =
@@ -131,7 +131,7 @@ returns-in-Err-clause-left g c =
 
 pub returns-in-Err-clause-complete : goal.returns-in-Err-clause-complete
 returns-in-Err-clause-complete g c t s may k conforming free =
-    only_failures c.last_refusal.result t (returns-in-Err-clause-cause g c) (returns-in-Err-clause-another g c t s may k) conforming free
+    only_failures c.last_refusal.result t (returns-in-Err-clause-cause g c) (returns-in-Err-clause-by_other_process g c t s may k) conforming free
 
 -- the pod was another process's
 
@@ -146,7 +146,7 @@ returns-in-Err-clause-owned_elsewhere g c =
     let a = D.shown c.args.dir.now in
     let d = D.shown c.attempt-in-Err-Missing.new.dir in
     let e = rw c.in-Err-Missing.field-0-is at c.in-Err-Missing.ensures in
-    subst (λ (x : ClaimError). Leaves D.observed MayClaim a (λ s. MetOwner c.args.pod x a d)) (sym c.last_refusal.ensures) (met_twice e.went e.left d c.in-Err.stop c.in-Err.ensures.owned_elsewhere)
+    subst (λ (x : ClaimError). WhereObservedKnew D.observed MayClaim a (λ s. MetOwner c.args.pod x a d)) (sym c.last_refusal.ensures) (met_twice e.went e.left d c.in-Err.stop c.in-Err.ensures.owned_elsewhere)
 
 pub returns-in-Ok-clause-reads : goal.returns-in-Ok-clause-reads
 returns-in-Ok-clause-reads g c = reads_within 2 (omega arith) c.attempt.ensures.reads

@@ -1,8 +1,9 @@
 use Rattle.std.proofs.Common.{◌≡◌, rules, Ok, Err, refl, sym, ap, subst, arith, ◌∙◌}
 use Rattle.dir_model.specs.declared.spot.Which.TheVariants.{Own}
+use Rattle.dir_trait.proofs.Calls.{with_spots}
 use Rattle.pod_locks.specs.declared.claim_setback.Setback.{Setback}
-use Rattle.pod_locks.specs.ClaimCauses.{Stopped, IsAbsent}
-use Rattle.pod_locks.proofs.ClaimCalls.{with_spots, move_stops}
+use Rattle.pod_locks.specs.ClaimCauses.{ClaimWasStopped, IsNotInPrepared}
+use Rattle.pod_locks.proofs.ClaimCalls.{move_stops}
 use Rattle.pod_locks.proofs.ClaimKnowing.{knows_moved, knows_unmoved}
 use Rattle.pod_locks.proofs.Parts.{went_as, went_run, went_unrun, locked_ok, follows_taken}
 use Rattle.pod_locks.proofs.Times.{follows_call, stops_part, alone_had}
@@ -33,7 +34,7 @@ returns-in-Err-clause-stopped g c =
     let e = c.in-Err.error in
     let asks = c.in-Err.ensures in
     let moves = with_spots c.pod_spot-from.ensures c.pod_spot-to.ensures asks.called in
-    subst (λ (x : Setback). Stopped D.observed c.args.pod (IsAbsent c.args.pod) x (D.shown c.args.dir.now) (D.shown c.close.new.self)) (sym c.set_back.ensures)
+    subst (λ (x : Setback). ClaimWasStopped D.observed c.args.pod (IsNotInPrepared c.args.pod) x (D.shown c.args.dir.now) (D.shown c.close.new.self)) (sym c.set_back.ensures)
     (stops_part (follows_taken c.take.ensures.went c.in_ok-own.ensures.still) asks.called.same (follows_call refl c.close.ensures.called)
     (move_stops e asks.refusals (λ is. asks.cause (ap Err is)) (λ t. still_call refl (asks.called.step t)) moves))
 

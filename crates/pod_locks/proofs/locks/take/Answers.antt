@@ -7,8 +7,8 @@ use Rattle.dir_model.specs.Local.{Local, IsUnlocked}
 use Rattle.dir_model.specs.Locks.{target_of}
 use Rattle.dir_model.proofs.Holdings.{unlocked_new}
 use Rattle.pod_locks.specs.declared.claim_setback.Setback.{Setback}
-use Rattle.pod_locks.specs.ClaimCauses.{Stopped, CannotOpen}
-use Rattle.pod_locks.proofs.ClaimCalls.{with_spot, went_taken, went_untaken, went_unopened, lock_stops, open_stops}
+use Rattle.pod_locks.specs.ClaimCauses.{ClaimWasStopped, CannotOpen}
+use Rattle.pod_locks.proofs.ClaimCalls.{went_taken, went_untaken, went_unopened, lock_stops, open_stops}
 use Rattle.pod_locks.proofs.ClaimKnowing.{busy_elsewhere, knows_taken, knows_untaken, knows_unopened}
 use Rattle.pod_locks.proofs.ClaimOpposed.{alone_step}
 use Rattle.pod_locks.proofs.Times.{follows_call, stops_part}
@@ -18,6 +18,7 @@ use Rattle.dir_model.specs.declared.area.Area.TheVariants.{Prepared}
 use Rattle.dir_model.specs.declared.spot.Spot.{Spot}
 use Rattle.dir_model.specs.State.{spot_eq}
 use Rattle.dir_model.proofs.Spots.{spot_self}
+use Rattle.dir_trait.proofs.Calls.{with_spot}
 use Rattle.pod_locks.specs.ClaimRequests.{in_prepared}
 use Rattle.pod_locks.proofs.locks.take.Goals as goal
 
@@ -46,7 +47,7 @@ returns-in-Err-try_lock-clause-stopped g c =
     let D = g.D.Dir in
     let e = c.in-Err-try_lock.error in
     let asks = c.in-Err-try_lock.ensures in
-    subst (λ (x : Setback). Stopped D.observed c.args.pod (CannotOpen c.args.pod c.args.which) x (D.shown c.args.dir.now) (D.shown c.close.new.self)) (sym c.lock_setback.ensures)
+    subst (λ (x : Setback). ClaimWasStopped D.observed c.args.pod (CannotOpen c.args.pod c.args.which) x (D.shown c.args.dir.now) (D.shown c.close.new.self)) (sym c.lock_setback.ensures)
     (stops_part (follows_call refl c.in-Ok.ensures.called) asks.called.same (follows_call refl c.close.ensures.called)
     (lock_stops c.args.which c.in-Ok.handle e asks.refusals (λ is. asks.cause (ap Err is)) (λ t. still_call refl (asks.called.step t))))
 
@@ -62,7 +63,7 @@ returns-in-Err-clause-stopped g c =
     let D = g.D.Dir in
     let e = c.in-Err.error in
     let opens = c.in-Err.ensures in
-    subst (λ (x : Setback). Stopped D.observed c.args.pod (CannotOpen c.args.pod c.args.which) x (D.shown c.args.dir.now) (D.shown c.«open».new.self)) (sym c.set_back.ensures)
+    subst (λ (x : Setback). ClaimWasStopped D.observed c.args.pod (CannotOpen c.args.pod c.args.which) x (D.shown c.args.dir.now) (D.shown c.«open».new.self)) (sym c.set_back.ensures)
     (open_stops e opens.refusals (λ is. opens.cause (ap Err is)) (λ t. still_call refl (opens.called.step t)) (with_spot (λ s. Open s c.args.which) c.pod_spot-prepared.ensures opens.called))
 
 pub returns-in-Err-clause-left : goal.returns-in-Err-clause-left
@@ -71,8 +72,8 @@ returns-in-Err-clause-left g c = knows_unopened c.args.pod c.args.which c.in-Err
 pub returns-in-Ok-try_lock-clause-still : goal.returns-in-Ok-try_lock-clause-still
 returns-in-Ok-try_lock-clause-still g c t = still_more (still_call refl (c.in-Ok.ensures.called.step t)) c.in-Ok.ensures.called.same (still_call refl (c.in-Ok-try_lock.ensures.called.step t))
 
-pub returns-in-Err-try_lock-clause-another : goal.returns-in-Err-try_lock-clause-another
-returns-in-Err-try_lock-clause-another g c t s may k which is =
+pub returns-in-Err-try_lock-clause-by_other_process : goal.returns-in-Err-try_lock-clause-by_other_process
+returns-in-Err-try_lock-clause-by_other_process g c t s may k which is =
     busy_elsewhere c.args.pod c.args.which c.in-Err-try_lock.error (with_spot (λ s. Open s c.args.which) c.pod_spot-prepared.ensures c.in-Ok.ensures.called) c.in-Err-try_lock.ensures.called c.close.ensures.called t s may k which (sym c.lock_setback.ensures ∙ is)
 
 pub returns-in-Ok-try_lock-clause-reads : goal.returns-in-Ok-try_lock-clause-reads

@@ -4,7 +4,7 @@ use Rattle.dir_model.specs.State.{stands}
 use Rattle.dir_trait.specs.DirCalls.{HeldBetween}
 use Rattle.pod_locks.specs.declared.claim_setback.Setback.TheVariants as setback
 use Rattle.pod_locks.specs.declared.claim_error.ClaimError.{ClaimError}
-use Rattle.pod_locks.specs.ClaimCauses.{StopsAlone}
+use Rattle.pod_locks.specs.ClaimCauses.{ClaimStopsAlone}
 use Rattle.pod_locks.proofs.Reading.{went_looked, looks_there, alone_there, alone_missing, alone_failed}
 use Rattle.phase_read.proofs.Often.{reads_area}
 use Rattle.dir_model.specs.declared.area.Area.TheVariants.{Prepared}
@@ -40,7 +40,7 @@ returns-in-Ok-false-clause-stopped g c =
 pub returns-in-Err-clause-stopped : goal.returns-in-Err-clause-stopped
 returns-in-Err-clause-stopped g c =
     let D = g.D.Dir in
-    subst (λ (x : ClaimError). StopsAlone D.observed c.args.pod (setback.Refused x) (D.shown c.args.dir.now) (D.shown c.look.new.dir)) (sym c.look_refusal.ensures)
+    subst (λ (x : ClaimError). ClaimStopsAlone D.observed c.args.pod (setback.Refused x) (D.shown c.args.dir.now) (D.shown c.look.new.dir)) (sym c.look_refusal.ensures)
     (alone_failed (looks_there c.args.pod (g.D.Dir.shown c.args.dir.now) (g.D.Dir.shown c.look.new.dir) c.pod_spot.ensures c.look.ensures.extends) c.in-Err.error (λ is. c.look.ensures.cause (c.in-Err.is ∙ ap Err is)))
 
 pub returns-in-Ok-true-clause-reads : goal.returns-in-Ok-true-clause-reads

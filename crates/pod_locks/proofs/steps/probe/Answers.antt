@@ -5,9 +5,9 @@ use Rattle.dir_model.specs.declared.request.Request.TheVariants.{Open}
 use Rattle.dir_model.specs.Local.{Local, IsUnlocked}
 use Rattle.dir_model.specs.Locks.{target_of}
 use Rattle.dir_model.proofs.Holdings.{unlocked_new}
-use Rattle.pod_locks.proofs.ClaimCalls.{with_spot}
+use Rattle.dir_trait.proofs.Calls.{with_spot}
 use Rattle.pod_locks.specs.declared.setback.Setback.{Setback}
-use Rattle.pod_locks.specs.Causes.{Stopped, IsAbsentAt}
+use Rattle.pod_locks.specs.Causes.{StepWasStopped, IsAbsentAt}
 use Rattle.pod_locks.proofs.Calls.{worked_tried, worked_unopened, peeked_tried, peeked_unopened, lock_stops, own_stops, stops_part, follows_call}
 use Rattle.pod_locks.proofs.Knowing.{busy_probe, lock_named, never_busy, knows_probed, knows_unprobed, knows_unopened, told_probed, told_busy}
 use Rattle.pod_locks.proofs.Lawful.{lock_never, open_never}
@@ -34,7 +34,7 @@ pub returns-in-Err-answer-clause-stopped : goal.returns-in-Err-answer-clause-sto
 returns-in-Err-answer-clause-stopped g c =
     let D = g.D.Dir in
     let asks = c.in-Err-answer.ensures in
-    subst (λ (x : Setback). Stopped D.observed c.args.pod (IsAbsentAt c.args.pod c.args.area) x (D.shown c.args.dir.now) (D.shown c.close.new.self)) (sym c.lock_setback.ensures)
+    subst (λ (x : Setback). StepWasStopped D.observed c.args.pod (IsAbsentAt c.args.pod c.args.area) x (D.shown c.args.dir.now) (D.shown c.close.new.self)) (sym c.lock_setback.ensures)
     (stops_part (follows_call c.in-Ok.ensures.called) (follows_call c.close.ensures.called)
     (lock_stops Own c.in-Ok.handle Shared c.in-Err-answer.error asks.refusals (λ is. asks.cause (ap Err is))))
 
@@ -48,18 +48,18 @@ returns-in-Err-clause-worked g c = worked_unopened c.args.pod c.args.area Own c.
 pub returns-in-Err-clause-stopped : goal.returns-in-Err-clause-stopped
 returns-in-Err-clause-stopped g c =
     let D = g.D.Dir in
-    subst (λ (x : Setback). Stopped D.observed c.args.pod (IsAbsentAt c.args.pod c.args.area) x (D.shown c.args.dir.now) (D.shown c.«open».new.self)) (sym c.set_back.ensures)
+    subst (λ (x : Setback). StepWasStopped D.observed c.args.pod (IsAbsentAt c.args.pod c.args.area) x (D.shown c.args.dir.now) (D.shown c.«open».new.self)) (sym c.set_back.ensures)
     (own_stops c.args.pod c.args.area Own c.in-Err.error c.in-Err.ensures.refusals (λ is. c.in-Err.ensures.cause (ap Err is)) (with_spot (λ s. Open s Own) c.pod_spot.ensures c.in-Err.ensures.called))
 
 pub returns-in-Err-clause-left : goal.returns-in-Err-clause-left
 returns-in-Err-clause-left g c = knows_unopened c.args.pod c.args.area c.in-Err.error (with_spot (λ s. Open s Own) c.pod_spot.ensures c.in-Err.ensures.called)
 
-pub returns-in-Err-answer-clause-another : goal.returns-in-Err-answer-clause-another
-returns-in-Err-answer-clause-another g c t s k may which is =
+pub returns-in-Err-answer-clause-by_other_process : goal.returns-in-Err-answer-clause-by_other_process
+returns-in-Err-answer-clause-by_other_process g c t s k may which is =
     busy_probe c.args.pod c.args.area c.in-Ok.ensures.unopened c.in-Err-answer.error (with_spot (λ s. Open s Own) c.pod_spot.ensures c.in-Ok.ensures.called) c.in-Err-answer.ensures.called c.close.ensures.called t s k may which (sym c.lock_setback.ensures ∙ is)
 
-pub returns-in-Err-clause-another : goal.returns-in-Err-clause-another
-returns-in-Err-clause-another g c t s k may which is = absurd (never_busy c.in-Err.error which (sym c.set_back.ensures ∙ is))
+pub returns-in-Err-clause-by_other_process : goal.returns-in-Err-clause-by_other_process
+returns-in-Err-clause-by_other_process g c t s k may which is = absurd (never_busy c.in-Err.error which (sym c.set_back.ensures ∙ is))
 
 pub returns-in-Err-answer-clause-named : goal.returns-in-Err-answer-clause-named
 returns-in-Err-answer-clause-named g c which is = lock_named Own c.in-Err-answer.error which (sym c.lock_setback.ensures ∙ is)

@@ -1,8 +1,8 @@
 use Rattle.std.proofs.Common.{Ok, Err, refl, sym, ap, subst, ◌∙◌}
-use Rattle.pod_locks.proofs.ClaimCalls.{with_spots}
+use Rattle.dir_trait.proofs.Calls.{with_spots}
 use Rattle.pod_locks.proofs.Traces.{one_deed}
 use Rattle.pod_locks.specs.declared.setback.Setback.{Setback}
-use Rattle.pod_locks.specs.Causes.{Stopped, IsAbsentAt}
+use Rattle.pod_locks.specs.Causes.{StepWasStopped, IsAbsentAt}
 use Rattle.pod_locks.proofs.Calls.{worked_move, move_stops}
 use Rattle.pod_locks.proofs.Knowing.{never_busy, ready_moved, ready_unmoved}
 use Rattle.pod_locks.proofs.Taking.{took_call}
@@ -25,7 +25,7 @@ returns-in-Err-clause-worked g c = worked_move c.args.pod c.args.from c.args.to 
 pub returns-in-Err-clause-stopped : goal.returns-in-Err-clause-stopped
 returns-in-Err-clause-stopped g c =
     let D = g.D.Dir in
-    subst (λ (x : Setback). Stopped D.observed c.args.pod (IsAbsentAt c.args.pod c.args.from) x (D.shown c.args.dir.now) (D.shown c.move_folder.new.self)) (sym c.set_back.ensures)
+    subst (λ (x : Setback). StepWasStopped D.observed c.args.pod (IsAbsentAt c.args.pod c.args.from) x (D.shown c.args.dir.now) (D.shown c.move_folder.new.self)) (sym c.set_back.ensures)
     (move_stops c.in-Err.error c.in-Err.ensures.refusals (λ is. c.in-Err.ensures.cause (ap Err is)) (with_spots c.pod_spot.ensures c.pod_spot-2.ensures c.in-Err.ensures.called))
 
 pub returns-in-Err-clause-ready : goal.returns-in-Err-clause-ready

@@ -4,9 +4,9 @@ use Rattle.dir_model.specs.declared.request.Request.TheVariants.{Open}
 use Rattle.dir_model.specs.Local.{Local, IsUnlocked}
 use Rattle.dir_model.specs.Locks.{target_of}
 use Rattle.dir_model.proofs.Holdings.{unlocked_new}
-use Rattle.pod_locks.proofs.ClaimCalls.{with_spot}
+use Rattle.dir_trait.proofs.Calls.{with_spot}
 use Rattle.pod_locks.specs.declared.setback.Setback.{Setback}
-use Rattle.pod_locks.specs.Causes.{Stopped, CannotOpenAt}
+use Rattle.pod_locks.specs.Causes.{StepWasStopped, CannotOpenAt}
 use Rattle.pod_locks.proofs.Calls.{went_taken, went_tried, went_unopened, lock_stops, open_stops, stops_part, follows_call}
 use Rattle.pod_locks.proofs.Knowing.{free_taken, busy_take, lock_named, never_busy, knows_taken, knows_untaken, knows_unlocked}
 use Rattle.pod_locks.proofs.Lawful.{lock_never, open_never}
@@ -31,7 +31,7 @@ pub returns-in-Err-try_lock-clause-stopped : goal.returns-in-Err-try_lock-clause
 returns-in-Err-try_lock-clause-stopped g c =
     let D = g.D.Dir in
     let asks = c.in-Err-try_lock.ensures in
-    subst (λ (x : Setback). Stopped D.observed c.args.pod (CannotOpenAt c.args.pod c.args.area c.args.which) x (D.shown c.args.dir.now) (D.shown c.close.new.self)) (sym c.lock_setback.ensures)
+    subst (λ (x : Setback). StepWasStopped D.observed c.args.pod (CannotOpenAt c.args.pod c.args.area c.args.which) x (D.shown c.args.dir.now) (D.shown c.close.new.self)) (sym c.lock_setback.ensures)
     (stops_part (follows_call c.in-Ok.ensures.called) (follows_call c.close.ensures.called)
     (lock_stops c.args.which c.in-Ok.handle Exclusive c.in-Err-try_lock.error asks.refusals (λ is. asks.cause (ap Err is))))
 
@@ -45,18 +45,18 @@ returns-in-Err-clause-went g c = went_unopened c.args.pod c.args.area c.args.whi
 pub returns-in-Err-clause-stopped : goal.returns-in-Err-clause-stopped
 returns-in-Err-clause-stopped g c =
     let D = g.D.Dir in
-    subst (λ (x : Setback). Stopped D.observed c.args.pod (CannotOpenAt c.args.pod c.args.area c.args.which) x (D.shown c.args.dir.now) (D.shown c.«open».new.self)) (sym c.set_back.ensures)
+    subst (λ (x : Setback). StepWasStopped D.observed c.args.pod (CannotOpenAt c.args.pod c.args.area c.args.which) x (D.shown c.args.dir.now) (D.shown c.«open».new.self)) (sym c.set_back.ensures)
     (open_stops c.args.pod c.args.area c.args.which c.in-Err.error c.in-Err.ensures.refusals (λ is. c.in-Err.ensures.cause (ap Err is)) (with_spot (λ s. Open s c.args.which) c.pod_spot.ensures c.in-Err.ensures.called))
 
 pub returns-in-Err-clause-left : goal.returns-in-Err-clause-left
 returns-in-Err-clause-left g c = knows_unlocked c.args.pod c.args.area c.args.which c.in-Err.error (with_spot (λ s. Open s c.args.which) c.pod_spot.ensures c.in-Err.ensures.called)
 
-pub returns-in-Err-try_lock-clause-another : goal.returns-in-Err-try_lock-clause-another
-returns-in-Err-try_lock-clause-another g c t s k may which is =
+pub returns-in-Err-try_lock-clause-by_other_process : goal.returns-in-Err-try_lock-clause-by_other_process
+returns-in-Err-try_lock-clause-by_other_process g c t s k may which is =
     busy_take c.args.pod c.args.area c.in-Ok.ensures.unopened c.args.which c.in-Err-try_lock.error (with_spot (λ s. Open s c.args.which) c.pod_spot.ensures c.in-Ok.ensures.called) c.in-Err-try_lock.ensures.called c.close.ensures.called t s k may which (sym c.lock_setback.ensures ∙ is)
 
-pub returns-in-Err-clause-another : goal.returns-in-Err-clause-another
-returns-in-Err-clause-another g c t s k may which is = absurd (never_busy c.in-Err.error which (sym c.set_back.ensures ∙ is))
+pub returns-in-Err-clause-by_other_process : goal.returns-in-Err-clause-by_other_process
+returns-in-Err-clause-by_other_process g c t s k may which is = absurd (never_busy c.in-Err.error which (sym c.set_back.ensures ∙ is))
 
 pub returns-in-Err-try_lock-clause-named : goal.returns-in-Err-try_lock-clause-named
 returns-in-Err-try_lock-clause-named g c other is = lock_named c.args.which c.in-Err-try_lock.error other (sym c.lock_setback.ensures ∙ is)

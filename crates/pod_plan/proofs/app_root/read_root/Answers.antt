@@ -1,8 +1,8 @@
 use Rattle.std.proofs.Common.{◌≡◌, length}
+use Rattle.plain_laws.proofs.Results.{ok_three, if_err}
 use Rattle.tree_digest.specs.Listings.{IsListing, lines_of}
-use Rattle.pod_plan.specs.Roots.{IsRoot}
+use Rattle.pod_plan.specs.Roots.{IsRootAsRead}
 use Rattle.pod_plan.specs.RootRefusals.{IsListingRefusal, IsRootRefusal}
-use Rattle.pod_plan.proofs.Results.{ok_three, if_err}
 use Rattle.pod_plan.proofs.Rooted.{rendered_listable, root_made, listing_refused, rendering_refused}
 use Rattle.pod_plan.proofs.app_root.read_root.Goals as goal
 
@@ -16,7 +16,7 @@ returns-in-Ok-clause-root g c =
     let D = g.D.Dir in
     let old = D.shown c.args.dir.now in
     let new = D.shown c.read_rendering.new.dir in
-    ok_three (λ root. root.rendering ≡ c.in-Ok.rendering) (λ root. root.listing ≡ lines_of c.in-Ok.rendering.map) (λ root. IsListing root.listing) (IsRoot D.observed c.args.images.now old new c.args.tree.now) c.listed.result
+    ok_three (λ root. root.rendering ≡ c.in-Ok.rendering) (λ root. root.listing ≡ lines_of c.in-Ok.rendering.map) (λ root. IsListing root.listing) (IsRootAsRead D.observed c.args.images.now old new c.args.tree.now) c.listed.result
     (λ root same listing kind. root_made D.observed c.args.images.now old new c.args.tree.now c.in-Ok.rendering root c.in-Ok.ensures.rendered same listing kind)
     c.listed.ensures.rendering c.listed.ensures.listing c.listed.ensures.kind
 

@@ -1,9 +1,9 @@
 use Rattle.std.proofs.Common.{rules, ◌≡◌, ◌+◌, ◌∷◌, ◌++◌, [], take, refl, ap, sym, ◌∙◌}
 use Rattle.std.proofs.lemmas.List.{take_more}
+use Rattle.plain_laws.proofs.Results.{passed_on}
 use Rattle.image_reading.proofs.Asking.{images_none, images_more}
 use Rattle.image_reading.proofs.Trees.{trees_none, trees_more}
 use Rattle.pod_plan.specs.RootRefusals.{IsRootRefusal, IsRootsRefusal}
-use Rattle.pod_plan.proofs.Results.{passed_on}
 use Rattle.pod_plan.proofs.Rooted.{none_rooted, roots_more, first_fault}
 use Rattle.pod_plan.proofs.PickedTrees.{trees_of_tree}
 use Rattle.pod_plan.proofs.app_root.read_roots.Goals as goal

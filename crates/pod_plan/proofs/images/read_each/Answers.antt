@@ -1,9 +1,10 @@
 use Rattle.std.proofs.Common.{rules, ◌≡◌, ◌+◌, ◌∷◌, ◌++◌, [], take, refl, ap, sym, ◌∙◌}
 use Rattle.std.proofs.lemmas.List.{take_more}
+use Rattle.plain_laws.proofs.Results.{passed_on}
 use Rattle.image_reading.proofs.Asking.{images_none, images_more}
 use Rattle.image_reading.proofs.Trees.{trees_none, trees_more}
-use Rattle.pod_plan.specs.PlanRefusals.{IsLack, LacksManifestAt, LacksAmong}
-use Rattle.pod_plan.proofs.Results.{passed_on, lack_wider}
+use Rattle.pod_plan.specs.PlanRefusals.{IsStoreLack, LacksManifestAt, LacksAmong}
+use Rattle.pod_plan.proofs.Results.{lack_wider}
 use Rattle.pod_plan.proofs.Lacks.{manifest_at_after, lack_among}
 use Rattle.pod_plan.proofs.Again.{again_start, again_more, manifests_later}
 use Rattle.pod_plan.proofs.images.read_each.Goals as goal
@@ -32,7 +33,7 @@ returns-in_err-read_next-clause-lacks g c =
     let listed = c.args.listed.now in
     let image = c.image-item.result in
     let again = c.images.invariant.read in
-    passed_on (IsLack D.observed (λ path. LacksManifestAt image.key path mid new)) (IsLack D.observed (λ path. LacksAmong listed path old new)) c.read_next.result c.from_residual.result
+    passed_on (IsStoreLack D.observed (λ path. LacksManifestAt image.key path mid new)) (IsStoreLack D.observed (λ path. LacksAmong listed path old new)) c.read_next.result c.from_residual.result
     (λ e h. search (rules, h, c.from_residual.ensures, c.in_err-read_next.is))
     (λ e is. lack_wider D.observed (λ path. LacksManifestAt image.key path mid new) (λ path. LacksAmong listed path old new) e
     (λ t path lacks. lack_among listed c.images.image-index image c.images-test.true c.image-item.is new c.images.read again.same (manifests_later t c.read_next.ensures.only c.images.read again) path (manifest_at_after t image.key path new c.images.invariant.only lacks)) is)

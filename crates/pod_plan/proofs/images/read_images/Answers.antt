@@ -1,11 +1,12 @@
 use Rattle.std.proofs.Common.{inr, List, subst}
+use Rattle.plain_laws.proofs.Results.{if_ok, if_err}
 use Rattle.dep_match.specs.declared.stored.Stored.{Stored}
 use Rattle.image_reading.proofs.Asking.{images_more}
 use Rattle.image_reading.proofs.Trees.{trees_more}
 use Rattle.image_reading.proofs.Holding.{knows_images}
-use Rattle.pod_plan.specs.PlanRefusals.{IsLack, LacksAmong, LacksPart}
+use Rattle.pod_plan.specs.PlanRefusals.{IsStoreLack, LacksAmong, ReadsLackingPart}
 use Rattle.pod_plan.specs.Readings.{AreReadAgain, ReadsImages}
-use Rattle.pod_plan.proofs.Results.{if_ok, if_err, lack_wider}
+use Rattle.pod_plan.proofs.Results.{lack_wider}
 use Rattle.pod_plan.proofs.Lacks.{listing_lack, among_after}
 use Rattle.pod_plan.proofs.Again.{images_read, listed_before}
 use Rattle.pod_plan.proofs.images.read_images.Goals as goal
@@ -33,8 +34,8 @@ returns-in-Ok-clause-lacks g c =
     let mid = D.shown c.stored.new.dir in
     let new = D.shown c.read_each.new.dir in
     let listed = c.in-Ok.listed.items in
-    if_err (IsLack D.observed (λ path. LacksAmong c.as_slice.result.now path mid new)) (IsLack D.observed (λ path. LacksPart path old new)) c.read_each.result
-    (λ e is. lack_wider D.observed (λ path. LacksAmong c.as_slice.result.now path mid new) (λ path. LacksPart path old new) e
+    if_err (IsStoreLack D.observed (λ path. LacksAmong c.as_slice.result.now path mid new)) (IsStoreLack D.observed (λ path. ReadsLackingPart path old new)) c.read_each.result
+    (λ e is. lack_wider D.observed (λ path. LacksAmong c.as_slice.result.now path mid new) (λ path. ReadsLackingPart path old new) e
     (λ t path lacks. inr (listed, listed_before t listed (c.in-Ok.ensures.listed t) c.read_each.ensures.only, among_after t new listed path c.stored.ensures.only (subst (λ (xs : List Stored). LacksAmong xs path mid new) c.as_slice.ensures.value lacks))) is)
     c.read_each.ensures.lacks
 

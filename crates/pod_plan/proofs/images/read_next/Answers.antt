@@ -1,7 +1,8 @@
 use Rattle.std.proofs.Common.{rules}
+use Rattle.plain_laws.proofs.Results.{if_ok}
 use Rattle.image_reading.proofs.Asking.{images_one}
-use Rattle.pod_plan.specs.Readings.{with_manifest, Adds, ReadsNext}
-use Rattle.pod_plan.proofs.Results.{if_ok, ok_same}
+use Rattle.pod_plan.specs.Readings.{with_manifest, AddsReadImage, ReadsNextManifest}
+use Rattle.pod_plan.proofs.Results.{ok_same}
 use Rattle.pod_plan.proofs.Lacks.{manifest_lack}
 use Rattle.pod_plan.proofs.Again.{kept_manifest}
 use Rattle.pod_plan.proofs.images.read_next.Goals as goal
@@ -16,8 +17,8 @@ returns-in-Ok-clause-read g c =
     let kept = c.in-Ok.kept in
     let old = D.shown c.args.dir.now in
     let new = D.shown c.read_manifest.new.dir in
-    ok_same (λ done. ReadsNext D.observed listed c.args.read.now c.add.new.self old new) c.add.result c.map_err.result (λ a h. search (rules, h, c.map_err.ensures.cases))
-    (if_ok (λ done. Adds (with_manifest listed kept.manifest) kept.bytes.items c.args.read.now c.add.new.self) (λ done. ReadsNext D.observed listed c.args.read.now c.add.new.self old new) c.add.result
+    ok_same (λ done. ReadsNextManifest D.observed listed c.args.read.now c.add.new.self old new) c.add.result c.map_err.result (λ a h. search (rules, h, c.map_err.ensures.cases))
+    (if_ok (λ done. AddsReadImage (with_manifest listed kept.manifest) kept.bytes.items c.args.read.now c.add.new.self) (λ done. ReadsNextManifest D.observed listed c.args.read.now c.add.new.self old new) c.add.result
     (λ done adds. record {
       manifest = kept.manifest;
       bytes = kept.bytes.items;

@@ -1,9 +1,10 @@
 use Rattle.std.proofs.Common.{◌≡◌, rules}
+use Rattle.plain_laws.proofs.Results.{ok_three}
 use Rattle.tree_digest.specs.Listings.{AreListable, entries_of}
 use Rattle.path_map.specs.Entries.{entry_at, IsPathMap}
 use Rattle.pod_plan.specs.Readings.{KnowsTree}
 use Rattle.pod_plan.proofs.Lacks.{tree_lack}
-use Rattle.pod_plan.proofs.Results.{ok_same, ok_three}
+use Rattle.pod_plan.proofs.Results.{ok_same}
 use Rattle.pod_plan.proofs.laying.read_map.Goals as goal
 
 pub returns-in-Ok-clause-known : goal.returns-in-Ok-clause-known

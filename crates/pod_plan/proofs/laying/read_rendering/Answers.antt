@@ -1,9 +1,9 @@
 use Rattle.std.proofs.Common.{rules, get_or, sym, ◌∙◌}
+use Rattle.plain_laws.proofs.Results.{passed_on}
 use Rattle.image_reading.proofs.Asking.{images_none, images_more}
 use Rattle.image_reading.proofs.Trees.{trees_none, trees_more}
 use Rattle.pod_plan.specs.RootRefusals.{IsLayRefusal, IsRenderingRefusal}
-use Rattle.pod_plan.proofs.Results.{passed_on}
-use Rattle.pod_plan.proofs.Laid.{wanted_within, wanted_key, next_inside, still_open, none_left, none_laid, laid_more, laid_refused, rendered}
+use Rattle.pod_plan.proofs.Laid.{wanted_within, wanted_key, still_open, none_left, none_laid, laid_more, laid_refused, rendered, next_inside}
 use Rattle.pod_plan.proofs.PickedTrees.{trees_of_node}
 use Rattle.pod_plan.proofs.laying.read_rendering.Goals as goal
 

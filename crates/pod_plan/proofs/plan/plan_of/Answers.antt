@@ -1,9 +1,9 @@
 use Rattle.std.proofs.Common.{◌≡◌, List, ℕ, length, map, ap, ◌∙◌}
+use Rattle.plain_laws.proofs.Results.{ok_both}
 use Rattle.dep_match.specs.declared.stored.Stored.{Stored}
 use Rattle.pod_plan.specs.PodPlans.{pod_entries}
 use Rattle.pod_plan.specs.Pods.{files_of, MakesPod}
 use Rattle.pod_plan.specs.Plans.{folders, apps_of, IsPlanOf}
-use Rattle.pod_plan.proofs.Results.{ok_both}
 use Rattle.pod_plan.proofs.Ready.{names_differ}
 use Rattle.pod_plan.proofs.Plans.{plan_is}
 use Rattle.pod_plan.proofs.plan.plan_of.Goals as goal

@@ -1,14 +1,15 @@
 use Rattle.std.proofs.Common.{rules, List, length, sym, subst}
 use Rattle.std.specs.List.{All}
+use Rattle.plain_laws.proofs.Results.{if_ok}
 use Rattle.dep_match.specs.declared.dep_tree.DepTree.{DepTree}
 use Rattle.dep_match.specs.declared.stored.Stored.{Stored}
 use Rattle.dep_match.specs.TreeOrder.{IsOrderedTree}
 use Rattle.image_reading.specs.Trees.{ReadsTreesOf}
 use Rattle.pod_plan.specs.PickedTrees.{tree_keys}
-use Rattle.pod_plan.specs.Roots.{ComesOnce, AreRoots}
+use Rattle.pod_plan.specs.Roots.{ComesOnce, AreImageRoots}
 use Rattle.pod_plan.specs.RootRefusals.{IsRootsRefusal}
 use Rattle.pod_plan.specs.Plans.{IsPlanOf, PlansChoice}
-use Rattle.pod_plan.proofs.Results.{if_ok, ok_same}
+use Rattle.pod_plan.proofs.Results.{ok_same}
 use Rattle.pod_plan.proofs.Once.{all_once}
 use Rattle.pod_plan.proofs.Ready.{is_ready}
 use Rattle.pod_plan.proofs.planning.plan_chosen.Goals as goal
@@ -31,9 +32,9 @@ plan_of-requires g c =
     let images = c.args.read.now.images.items in
     let trees = c.args.choice.trees in
     let roots = c.in-Ok.roots in
-    let rooted : AreRoots D.observed images old new trees roots =
-    subst (λ (xs : List Stored). AreRoots D.observed xs old new trees roots) c.as_slice.ensures.value
-    (subst (λ (ts : List DepTree). AreRoots D.observed c.as_slice.result.now old new ts roots) c.as_slice-2.ensures c.in-Ok.ensures.roots) in
+    let rooted : AreImageRoots D.observed images old new trees roots =
+    subst (λ (xs : List Stored). AreImageRoots D.observed xs old new trees roots) c.as_slice.ensures.value
+    (subst (λ (ts : List DepTree). AreImageRoots D.observed c.as_slice.result.now old new ts roots) c.as_slice-2.ensures c.in-Ok.ensures.roots) in
     record { ready = is_ready c.args.refs.now c.args.options.now c.args.choice c.requires.chosen (length c.args.read.now.manifests.items) c.requires.whole D.observed old new roots rooted }
 
 pub returns-in-Ok-clause-made : goal.returns-in-Ok-clause-made
@@ -46,9 +47,9 @@ returns-in-Ok-clause-made g c =
     let choice = c.args.choice in
     let trees = choice.trees in
     let roots = c.in-Ok.roots in
-    let rooted : AreRoots D.observed images old new trees roots =
-    subst (λ (xs : List Stored). AreRoots D.observed xs old new trees roots) c.as_slice.ensures.value
-    (subst (λ (ts : List DepTree). AreRoots D.observed c.as_slice.result.now old new ts roots) c.as_slice-2.ensures c.in-Ok.ensures.roots) in
+    let rooted : AreImageRoots D.observed images old new trees roots =
+    subst (λ (xs : List Stored). AreImageRoots D.observed xs old new trees roots) c.as_slice.ensures.value
+    (subst (λ (ts : List DepTree). AreImageRoots D.observed c.as_slice.result.now old new ts roots) c.as_slice-2.ensures c.in-Ok.ensures.roots) in
     ok_same (λ plan. PlansChoice D.observed images manifests c.args.refs.now c.args.options.now c.args.now c.args.token.now plan.items old new) c.plan_of.result c.map_err.result (λ a h. search (rules, h, c.map_err.ensures.cases))
     (if_ok (λ plan. IsPlanOf images manifests choice roots c.args.now c.args.token.now plan.items) (λ plan. PlansChoice D.observed images manifests c.args.refs.now c.args.options.now c.args.now c.args.token.now plan.items old new) c.plan_of.result
     (λ plan planned. record { choice = choice; wishes = c.volumes-wishes.ensures.kind; chosen = c.requires.chosen; roots = roots; rooted = rooted; planned = planned }) c.plan_of.ensures.made)

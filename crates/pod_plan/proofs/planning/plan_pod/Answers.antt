@@ -1,11 +1,11 @@
-use Rattle.std.proofs.Common.{◌≡◌, inl, true, List, ℕ, sym, subst, ◌∙◌, ap}
+use Rattle.std.proofs.Common.{◌≡◌, true, sym, subst, inl, List, ℕ, ◌∙◌, ap}
+use Rattle.plain_laws.proofs.Results.{if_ok, if_err}
 use Rattle.image_reading.proofs.Asking.{images_more}
 use Rattle.image_reading.proofs.Holding.{knows_images}
 use Rattle.pod_plan.specs.declared.plan_error.PlanError.{PlanError}
 use Rattle.pod_plan.specs.Plans.{PlansChoice}
 use Rattle.pod_plan.specs.FaithfulPods.{PlansFaithfully}
 use Rattle.pod_plan.specs.NoPlans.{IsUnplanned, IsNoPlan}
-use Rattle.pod_plan.proofs.Results.{if_ok, if_err}
 use Rattle.pod_plan.proofs.Again.{as_many, have_manifests, listed_before, manifests_before}
 use Rattle.pod_plan.proofs.Plans.{choice_since, none_planned, none_read}
 use Rattle.pod_plan.proofs.Faithful.{plans_faithfully}

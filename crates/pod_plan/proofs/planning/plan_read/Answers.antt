@@ -1,12 +1,12 @@
-use Rattle.std.proofs.Common.{inl, inr, List, sym, subst}
+use Rattle.std.proofs.Common.{List, sym, subst, inl, inr}
+use Rattle.plain_laws.proofs.Results.{if_err}
 use Rattle.dep_match.specs.declared.stored.Stored.{Stored}
 use Rattle.image_reading.proofs.Asking.{images_none}
 use Rattle.image_reading.proofs.Trees.{trees_none}
-use Rattle.pod_plan.specs.Choices.{IsChoice, IsRefused}
+use Rattle.pod_plan.specs.Choices.{IsChoice, IsChoiceRefused}
 use Rattle.pod_plan.specs.declared.plan_error.PlanError.{PlanError}
 use Rattle.pod_plan.specs.RootRefusals.{IsRootsRefusal}
 use Rattle.pod_plan.specs.NoPlans.{IsUnplanned}
-use Rattle.pod_plan.proofs.Results.{if_err}
 use Rattle.pod_plan.proofs.Plans.{unchosen, unrooted}
 use Rattle.pod_plan.proofs.planning.plan_read.Goals as goal
 
@@ -38,7 +38,7 @@ returns-in-Err-clause-refused g c =
     let refs = c.args.refs.now in
     let options = c.args.options.now in
     subst (λ (e : PlanError). IsUnplanned D.observed images refs options e here here) (sym c.choice_refusal.ensures)
-    (unchosen D.observed here here images refs options c.in-Err.error (subst (λ (xs : List Stored). IsRefused xs refs options c.in-Err.error) c.as_slice.ensures.value c.in-Err.ensures.refused))
+    (unchosen D.observed here here images refs options c.in-Err.error (subst (λ (xs : List Stored). IsChoiceRefused xs refs options c.in-Err.error) c.as_slice.ensures.value c.in-Err.ensures.refused))
 
 pub returns-in-Ok-clause-trees : goal.returns-in-Ok-clause-trees
 returns-in-Ok-clause-trees g c =

@@ -3,7 +3,7 @@ use Rattle.std.specs.List.{flat_map}
 use Rattle.folder_building.specs.declared.plan.PlanEntry.{PlanEntry}
 use Rattle.folder_building.specs.Plans.{is_plan}
 use Rattle.folder_building.specs.ImagePlans.{given_file}
-use Rattle.pod_plan.specs.PodPlans.{head_entries, app_entries, pod_entries, ComesInTurn, MakesWhole}
+use Rattle.pod_plan.specs.PodPlans.{pod_head_entries, app_entries, pod_entries, ComesInTurn, MakesWhole}
 use Rattle.pod_plan.specs.Pods.{files_of, MakesPod}
 use Rattle.pod_plan.proofs.PodFolders.{in_parts, each_ok, pod_is_plan, makes_pod, comes_in_turn, makes_whole}
 use Rattle.pod_plan.proofs.pod_folder.pod_plan.Goals as goal
@@ -12,7 +12,7 @@ pub returns-clause-entries : goal.returns-clause-entries
 returns-clause-entries c =
     let last = given_file (codes "pod") c.args.manifest.now in
     each_ok (λ new. new.items ≡ c.in_ok-plan-2.plan.items ++ last ∷ []) (λ new. new.items ≡ pod_entries c.args.now c.args.token.now c.args.manifest.now c.args.images.now c.args.apps.now)
-    (λ new is. in_parts (head_entries c.args.now c.args.token.now) (flat_map (app_entries c.args.images.now) c.args.apps.now) c.in_ok-plan.plan.items c.in_ok-plan-2.plan.items new.items last c.in_ok-plan.ensures c.in_ok-plan-2.ensures.entries is)
+    (λ new is. in_parts (pod_head_entries c.args.now c.args.token.now) (flat_map (app_entries c.args.images.now) c.args.apps.now) c.in_ok-plan.plan.items c.in_ok-plan-2.plan.items new.items last c.in_ok-plan.ensures c.in_ok-plan-2.ensures.entries is)
     c.add_manifest.result c.add_manifest.ensures
 
 pub returns-clause-plan : goal.returns-clause-plan

@@ -1,4 +1,5 @@
 use Rattle.std.proofs.Common.{◌≡◌, true, ℕ, List, MatchOption, sym, subst}
+use Rattle.plain_laws.proofs.Results.{if_ok}
 use Rattle.dir_model.specs.declared.spot.Spot.{Spot}
 use Rattle.dir_trait.specs.DirCalls.{HeldBetween}
 use Rattle.dir_files.specs.Reads.{inner_at, OnlyReads, TellsFile, IsPiece, WasMissing}
@@ -7,7 +8,6 @@ use Rattle.pod_report.specs.Ends.{IsStatusText, IsNoStatus, status_path}
 use Rattle.pod_report.specs.Inspections.{TellsEnd}
 use Rattle.pod_report.proofs.Asking.{asks_wider, visits_inspect}
 use Rattle.pod_report.proofs.Reading.{looks_file}
-use Rattle.pod_report.proofs.Results.{if_ok}
 use Rattle.pod_report.proofs.TellingEnds.{end_told, end_missing}
 use Rattle.pod_report.proofs.ends.end_at.Goals as goal
 

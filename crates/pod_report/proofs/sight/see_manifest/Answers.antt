@@ -1,16 +1,17 @@
 use Rattle.std.proofs.Common.{◌≡◌, true, codes, ℕ, List, sym, subst}
+use Rattle.plain_laws.proofs.Results.{if_ok}
 use Rattle.dir_model.specs.declared.spot.Spot.{Spot}
+use Rattle.dir_laws.proofs.Names.{manifest_form}
 use Rattle.dir_trait.specs.DirCalls.{HeldBetween}
 use Rattle.dir_files.specs.Reads.{inner_at, OnlyReads, TellsFile, IsPiece, WasMissing}
 use Rattle.phase_read.specs.Read.{pod_spot}
 use Rattle.pod_report.proofs.Asking.{asks_more}
 use Rattle.pod_report.specs.Sights.{IsSightOf, Sees, SeesNoFile}
-use Rattle.pod_report.proofs.Results.{if_ok}
-use Rattle.pod_report.proofs.Reading.{pod_path, looks_file, sees_bytes, sees_missing}
+use Rattle.pod_report.proofs.Reading.{looks_file, sees_bytes, sees_missing}
 use Rattle.pod_report.proofs.sight.see_manifest.Goals as goal
 
 pub read_whole-requires-clause-path : goal.read_whole-requires-clause-path
-read_whole-requires-clause-path g c = pod_path
+read_whole-requires-clause-path g c = manifest_form
 
 pub returns-in-Ok-Some-clause-only : goal.returns-in-Ok-Some-clause-only
 returns-in-Ok-Some-clause-only g c =

@@ -1,9 +1,9 @@
 use Rattle.std.proofs.Common.{◌≡◌, ◌++◌, ◌∷◌, [], inl, inr, refl, true}
+use Rattle.plain_laws.proofs.Results.{if_ok}
 use Rattle.lifecycle.specs.Executions.{IsConforming}
 use Rattle.pod_report.proofs.Asking.{asks_wider}
 use Rattle.pod_report.specs.SeenLines.{AddsSeen}
-use Rattle.pod_report.specs.Snapshot.{AddsLine}
-use Rattle.pod_report.proofs.Results.{if_ok}
+use Rattle.pod_report.specs.Snapshot.{AddsPodLine}
 use Rattle.pod_report.proofs.Going.{visits_survey}
 use Rattle.pod_report.proofs.Telling.{line_added}
 use Rattle.pod_report.proofs.survey.add_line.Goals as goal
@@ -25,7 +25,7 @@ returns-in-Ok-Some-clause-told g c =
     let e = rw c.in-Ok-Some.field-0-is at c.in-Ok-Some.ensures in
     let before = c.args.lines.now.items in
     let after = c.push.new.lines.items in
-    if_ok (λ done. after ≡ before ++ c.in-Ok-Some.line ∷ []) (λ done. D.observed ≡ true → IsConforming new.trace → AddsLine c.args.pod before after old new) c.push.result
+    if_ok (λ done. after ≡ before ++ c.in-Ok-Some.line ∷ []) (λ done. D.observed ≡ true → IsConforming new.trace → AddsPodLine c.args.pod before after old new) c.push.result
     (λ done is t conforming. line_added c.args.pod before after c.in-Ok-Some.line old new is (e.told t conforming)) c.push.ensures.items
 
 pub returns-in-Ok-None-clause-told : goal.returns-in-Ok-None-clause-told

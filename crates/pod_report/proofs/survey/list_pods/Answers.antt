@@ -1,13 +1,13 @@
 use Rattle.std.proofs.Common.{◌≡◌, ℕ, true, List, subst}
+use Rattle.plain_laws.proofs.Results.{if_ok}
 use Rattle.dir_model.specs.declared.pod.PodId.{PodId}
 use Rattle.lifecycle.specs.Executions.{IsConforming}
-use Rattle.pod_report.specs.Before.{ListsQuietly}
+use Rattle.pod_report.specs.Before.{ListsPodsQuietly}
 use Rattle.pod_report.specs.SeenLines.{LinesSeen, LinesSeenBetween, ListsSeenBetween}
 use Rattle.pod_report.specs.Snapshot.{TellsPods, IsSnapshotBetween, LinesStanding}
 use Rattle.pod_report.proofs.Asking.{asks_more, asks_looks}
 use Rattle.pod_report.proofs.Going.{lists_survey}
 use Rattle.pod_report.proofs.Listing.{list_tells}
-use Rattle.pod_report.proofs.Results.{if_ok}
 use Rattle.pod_report.proofs.survey.list_pods.Goals as goal
 
 pub returns-in-Ok-clause-only : goal.returns-in-Ok-clause-only
@@ -42,7 +42,7 @@ returns-in-Ok-clause-quiet g c =
     let old = D.shown c.args.dir.now in
     let mid = D.shown c.listed_pods.new.dir in
     let new = D.shown c.lines_of.new.dir in
-    if_ok (λ lines. D.observed ≡ true → IsConforming new.trace → TellsPods c.deref.result.now lines.items mid new) (λ lines. D.observed ≡ true → IsConforming new.trace → ListsQuietly old new lines.items) c.lines_of.result
+    if_ok (λ lines. D.observed ≡ true → IsConforming new.trace → TellsPods c.deref.result.now lines.items mid new) (λ lines. D.observed ≡ true → IsConforming new.trace → ListsPodsQuietly old new lines.items) c.lines_of.result
     (λ lines tells t conforming. (list_tells c.in-Ok.pods.items c.deref.result.now lines.items old mid new t (asks_looks lists_survey c.listed_pods.ensures.only) c.lines_of.ensures.only conforming c.in-Ok.ensures.rise (c.in-Ok.ensures.gone t) (c.in-Ok.ensures.still t) c.deref.ensures.value (tells t conforming)).quiet)
     c.lines_of.ensures.told
 

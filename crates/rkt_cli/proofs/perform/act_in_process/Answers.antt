@@ -1,7 +1,7 @@
 use Rattle.std.proofs.Common.{◌∙◌}
 use Rattle.dir_trait.specs.Knowledge.{Knows}
-use Rattle.command_outcomes.specs.Conforming.{begun}
-use Rattle.rkt_cli.specs.Tasks.{task_of, word_of}
+use Rattle.command_outcomes.specs.Conforming.{seen_at_begin}
+use Rattle.rkt_cli.specs.Tasks.{task_of, pod_word_of}
 use Rattle.rkt_cli.proofs.Acting.{acted_knows, acted_never, acted_vain, acted_whole, looked_by, same_intent, same_uses}
 use Rattle.rkt_cli.proofs.Linked.{links_never, links_vain, links_whole, vain_link}
 use Rattle.rkt_cli.proofs.Makers.{process_hands, vain_hands, never_begun_hands}
@@ -14,7 +14,7 @@ act-answer-requires-clause-known g c t intent said =
     let line = c.args.line.now in
     let pod = c.in-Ok-its_pod.pod in
     let k = acted_knows D.observed line c.args.now c.args.draw.now c.args.intent (D.shown c.args.dir.now) (D.shown c.begin.new.self) c.requires.said c.requires.fresh c.in-Ok.ensures.called (D.shown c.its_pod.new.dir) c.its_pod.ensures.comes t in
-    let known : Knows (D.shown c.its_pod.new.dir) (begun c.args.intent) = record { tied = k.tied; handles = k.handles } in
+    let known : Knows (D.shown c.its_pod.new.dir) (seen_at_begin c.args.intent) = record { tied = k.tied; handles = k.handles } in
     begun_as (task_of line pod) c.args.now c.args.draw.now c.args.intent intent (same_intent line pod c.args.now c.args.draw.now ∙ c.requires.said) said known
 
 pub returns-in-Ok-its_pod-clause-makers : goal.returns-in-Ok-its_pod-clause-makers
@@ -23,9 +23,9 @@ returns-in-Ok-its_pod-clause-makers g c t =
     let line = c.args.line.now in
     let pod = c.in-Ok-its_pod.pod in
     let k = acted_knows D.observed line c.args.now c.args.draw.now c.args.intent (D.shown c.args.dir.now) (D.shown c.begin.new.self) c.requires.said c.requires.fresh c.in-Ok.ensures.called (D.shown c.its_pod.new.dir) c.its_pod.ensures.comes t in
-    let known : Knows (D.shown c.its_pod.new.dir) (begun c.args.intent) = record { tied = k.tied; handles = k.handles } in
+    let known : Knows (D.shown c.its_pod.new.dir) (seen_at_begin c.args.intent) = record { tied = k.tied; handles = k.handles } in
     process_hands (D.shown c.args.dir.now) (D.shown c.begin.new.self) (D.shown c.its_pod.new.dir) (D.shown c.act-answer.new.dir) (D.shown c.finish.new.self) t c.in-Ok.ensures.called c.its_pod.ensures.comes.same
-    (looked_by D.observed (word_of line) (D.shown c.begin.new.self) (D.shown c.its_pod.new.dir) c.its_pod.ensures.comes t) c.act-answer.ensures.ran.same (c.act-answer.ensures.ran.extends t)
+    (looked_by D.observed (pod_word_of line) (D.shown c.begin.new.self) (D.shown c.its_pod.new.dir) c.its_pod.ensures.comes t) c.act-answer.ensures.ran.same (c.act-answer.ensures.ran.extends t)
     (c.act-answer.ensures.makers t (same_uses line pod ∙ c.requires.uses) c.args.intent (same_intent line pod c.args.now c.args.draw.now ∙ c.requires.said) known) c.finish.ensures.called
 
 pub returns-in-Ok-its_pod-clause-acts : goal.returns-in-Ok-its_pod-clause-acts
@@ -39,7 +39,7 @@ pub returns-in-Err-its_pod-clause-makers : goal.returns-in-Err-its_pod-clause-ma
 returns-in-Err-its_pod-clause-makers g c t =
     let D = g.D.Dir in
     vain_hands (D.shown c.args.dir.now) (D.shown c.begin.new.self) (D.shown c.its_pod.new.dir) (D.shown c.finish-in-Err-its_pod.new.self) t c.in-Ok.ensures.called c.its_pod.ensures.comes.same
-    (looked_by D.observed (word_of c.args.line.now) (D.shown c.begin.new.self) (D.shown c.its_pod.new.dir) c.its_pod.ensures.comes t) c.finish-in-Err-its_pod.ensures.called
+    (looked_by D.observed (pod_word_of c.args.line.now) (D.shown c.begin.new.self) (D.shown c.its_pod.new.dir) c.its_pod.ensures.comes t) c.finish-in-Err-its_pod.ensures.called
 
 pub returns-in-Err-its_pod-clause-acts : goal.returns-in-Err-its_pod-clause-acts
 returns-in-Err-its_pod-clause-acts g c =
@@ -63,7 +63,7 @@ pub returns-in-Err-its_pod-clause-serves : goal.returns-in-Err-its_pod-clause-se
 returns-in-Err-its_pod-clause-serves g c l d none = links_vain c.args.line.now c.args.now c.args.draw.now c.in-Err-its_pod.refusal _ _ _ _ _ c.in-Err-its_pod.ensures.finds
 
 pub returns-in-Err-its_pod-clause-link_cause : goal.returns-in-Err-its_pod-clause-link_cause
-returns-in-Err-its_pod-clause-link_cause g c is = vain_link (word_of c.args.line.now) c.args.draw.now _ _ c.in-Err-its_pod.refusal c.in-Err-its_pod.ensures.finds is
+returns-in-Err-its_pod-clause-link_cause g c is = vain_link (pod_word_of c.args.line.now) c.args.draw.now _ _ c.in-Err-its_pod.refusal c.in-Err-its_pod.ensures.finds is
 
 pub returns-in-Err-clause-serves : goal.returns-in-Err-clause-serves
 returns-in-Err-clause-serves g c l d none = links_never c.args.line.now c.args.now c.args.draw.now _ _ _

@@ -2,7 +2,7 @@ use Rattle.std.proofs.Common.{◌≡◌, Bool, if◌then◌else◌, List, [], �
 use Rattle.dir_trait.specs.Local.{nothing_local}
 use Rattle.rkt_cli.specs.declared.stage.Stage.{Stage}
 use Rattle.rkt_cli.specs.declared.turn.Turn.{Turn}
-use Rattle.rkt_cli.specs.Plays.{Went}
+use Rattle.rkt_cli.specs.Plays.{TurnWasPlayed}
 use Rattle.rkt_cli.specs.Turns.{run_turn, runs_of}
 use Rattle.rkt_cli.proofs.Played.{plays_next, plays_one}
 use Rattle.rkt_cli.proofs.playing.run_all.Goals as goal
@@ -21,7 +21,7 @@ pods-preserved c =
             fresh = subst (λ (s : Stage). s.dir.local ≡ nothing_local) (sym w.current-is) w.in_ok-current.ensures.fresh;
             plays = plays_next (runs_of c.args.count) n (turn ∷ []) c.args.stage c.pods.current c.if-is_run.current
                 (ap (λ (l : List Turn). runs_of c.args.count n ++ l) (chosen ∙ ap (λ (t : Turn). t ∷ []) (sym w.in_ok-turn.ensures))) c.pods.invariant.plays
-                (plays_one turn c.pods.current c.if-is_run.current (subst (λ (s : Stage). Went turn c.pods.current s) (sym w.current-is) w.in_ok-current.ensures.went));
+                (plays_one turn c.pods.current c.if-is_run.current (subst (λ (s : Stage). TurnWasPlayed turn c.pods.current s) (sym w.current-is) w.in_ok-current.ensures.went));
           }
       | else-is_run w ↦
           let chosen = ap (λ (b : Bool). if b then own ∷ [] else []) (sym c.is_run.ensures ∙ w.if-is_run.false) in

@@ -3,7 +3,7 @@ use Rattle.pod_build.proofs.Handing.{nothing_handed}
 use Rattle.rkt_cli.specs.declared.line.Line.{Line}
 use Rattle.command_outcomes.specs.Moments.{sink_at}
 use Rattle.rkt_cli.specs.Between.{RunBetween}
-use Rattle.rkt_cli.specs.Lines.{IsReading, line_in}
+use Rattle.rkt_cli.specs.Lines.{IsLineRead, line_of_arguments}
 use Rattle.rkt_words.specs.declared.error.WordsError.{WordsError}
 use Rattle.rkt_cli.specs.Links.{LinksIn}
 use Rattle.rkt_cli.proofs.Acting.{acted, forgotten, kept_seen, not_read}
@@ -19,12 +19,12 @@ returns-in-Ok-clause-ran g c =
     c.carry_out-answer.ensures.acts c.print-end.ensures.printed (kept_seen c.carry_out-answer.result (sink_at g.O.Sink) c.args.out.now c.print-end.new.out c.print-end.ensures.unwritten) c.report.ensures.said)
 
 pub returns-in-Err-Usage-clause-ran : goal.returns-in-Err-Usage-clause-ran
-returns-in-Err-Usage-clause-ran g c = not_read c.args.now c.args.draw.now _ _ _ (line_in c.args.words.now) (inl (record { is = c.refuse.ensures.status; outside = refl; spawner = refl; out = refl; reported = c.refuse.ensures.said }))
-    (subst (λ (e : WordsError). IsReading (line_in c.args.words.now) (Err e)) c.in-Err-Usage.field-0-is c.in-Err-Usage.ensures.line)
+returns-in-Err-Usage-clause-ran g c = not_read c.args.now c.args.draw.now _ _ _ (line_of_arguments c.args.words.now) (inl (record { is = c.refuse.ensures.status; outside = refl; spawner = refl; out = refl; reported = c.refuse.ensures.said }))
+    (subst (λ (e : WordsError). IsLineRead (line_of_arguments c.args.words.now) (Err e)) c.in-Err-Usage.field-0-is c.in-Err-Usage.ensures.line)
 
 pub returns-in-Err-NoMemory-clause-ran : goal.returns-in-Err-NoMemory-clause-ran
 returns-in-Err-NoMemory-clause-ran g c =
-    forgotten c.args.now c.args.draw.now _ _ _ (line_in c.args.words.now) (record { is = c.refuse-in-Err-NoMemory.ensures.status; outside = refl; spawner = refl; out = refl; reported = c.refuse-in-Err-NoMemory.ensures.said })
+    forgotten c.args.now c.args.draw.now _ _ _ (line_of_arguments c.args.words.now) (record { is = c.refuse-in-Err-NoMemory.ensures.status; outside = refl; spawner = refl; out = refl; reported = c.refuse-in-Err-NoMemory.ensures.said })
 
 pub returns-in-Err-Usage-clause-makers : goal.returns-in-Err-Usage-clause-makers
 returns-in-Err-Usage-clause-makers g c t run = nothing_handed
@@ -50,8 +50,8 @@ returns-in-Ok-clause-serves g c l d none =
 
 -- words of which nothing came asked nothing of the listener
 pub returns-in-Err-Usage-clause-serves : goal.returns-in-Err-Usage-clause-serves
-returns-in-Err-Usage-clause-serves g c l d none = unread_links c.args.now c.args.draw.now c.refuse.result _ _ _ (line_in c.args.words.now)
-    (subst (λ (e : WordsError). IsReading (line_in c.args.words.now) (Err e)) c.in-Err-Usage.field-0-is c.in-Err-Usage.ensures.line)
+returns-in-Err-Usage-clause-serves g c l d none = unread_links c.args.now c.args.draw.now c.refuse.result _ _ _ (line_of_arguments c.args.words.now)
+    (subst (λ (e : WordsError). IsLineRead (line_of_arguments c.args.words.now) (Err e)) c.in-Err-Usage.field-0-is c.in-Err-Usage.ensures.line)
 
 pub returns-in-Err-NoMemory-clause-serves : goal.returns-in-Err-NoMemory-clause-serves
-returns-in-Err-NoMemory-clause-serves g c l d none = forgotten_links c.args.now c.args.draw.now c.refuse-in-Err-NoMemory.result _ _ _ (line_in c.args.words.now) c.refuse-in-Err-NoMemory.ensures.status
+returns-in-Err-NoMemory-clause-serves g c l d none = forgotten_links c.args.now c.args.draw.now c.refuse-in-Err-NoMemory.result _ _ _ (line_of_arguments c.args.words.now) c.refuse-in-Err-NoMemory.ensures.status

@@ -1,10 +1,10 @@
 use Rattle.std.proofs.Common.{rules, ◌≡◌, ◌≤◌, true, arith, sym, subst}
+use Rattle.plain_laws.proofs.Results.{if_ok, if_err, err_same, any_ok, any_err}
 use Rattle.dir_model.specs.Local.{IsActive, Local}
 use Rattle.folder_building.proofs.Working.{worked_more}
 use Rattle.stage1.specs.Notes.{IsMarked}
-use Rattle.stage1.specs.Beginnings.{WentOn, GoingCut, HasBegun, IsBrokenOff}
+use Rattle.stage1.specs.Beginnings.{StartedMain, MainStartCut, AppHasBegun, IsInterrupted}
 use Rattle.stage1.specs.Refusals.{SpawnCause, NoteCause, RunCause}
-use Rattle.stage1.proofs.Results.{if_ok, if_err, err_same, any_ok, any_err}
 use Rattle.stage1.proofs.Noted.{stays_more}
 use Rattle.stage1.proofs.Causes.{by_note, by_spawn, run_after}
 use Rattle.stage1.proofs.OneApp.{broken_none, broken_early, broken_late, has_begun}
@@ -24,7 +24,7 @@ pub returns-in_err-mark_started-clause-broken : goal.returns-in_err-mark_started
 returns-in_err-mark_started-clause-broken g c =
     let S = g.S.Spawner in
     let s = S.shown c.args.spawner.now in
-    any_err (IsBrokenOff S.observed c.args.app.now s s) c.from_residual.result (broken_none c.args.app.now)
+    any_err (IsInterrupted S.observed c.args.app.now s s) c.from_residual.result (broken_none c.args.app.now)
 
 pub returns-in_err-status-clause-cause : goal.returns-in_err-status-clause-cause
 returns-in_err-status-clause-cause g c =
@@ -41,7 +41,7 @@ returns-in_err-status-clause-cause g c =
 pub returns-in_err-status-clause-broken : goal.returns-in_err-status-clause-broken
 returns-in_err-status-clause-broken g c =
     let S = g.S.Spawner in
-    any_err (IsBrokenOff S.observed c.args.app.now (S.shown c.args.spawner.now) (S.shown c.prelude.new.spawner)) c.from_residual-in_err-status.result (broken_early c.args.app.now c.in_err-status.ensures.cut)
+    any_err (IsInterrupted S.observed c.args.app.now (S.shown c.args.spawner.now) (S.shown c.prelude.new.spawner)) c.from_residual-in_err-status.result (broken_early c.args.app.now c.in_err-status.ensures.cut)
 
 pub go_on-requires-clause-active : goal.go_on-requires-clause-active
 go_on-requires-clause-active g c = subst (λ (m : Local). IsActive m) (sym c.mark_started.ensures.worked.local) c.requires.active
@@ -72,7 +72,7 @@ returns-clause-begun g c =
     let s = S.shown c.args.spawner.now in
     let s' = S.shown c.prelude.new.spawner in
     let s'' = S.shown c.go_on.new.spawner in
-    if_ok (λ stand. WentOn S.observed app status stand s' s'') (λ stand. HasBegun S.observed app stand s s'') c.go_on.result (λ stand w. has_begun app status s' c.in_ok-status.ensures.ran stand w) c.go_on.ensures.went
+    if_ok (λ stand. StartedMain S.observed app status stand s' s'') (λ stand. AppHasBegun S.observed app stand s s'') c.go_on.result (λ stand w. has_begun app status s' c.in_ok-status.ensures.ran stand w) c.go_on.ensures.went
 
 pub returns-clause-broken : goal.returns-clause-broken
 returns-clause-broken g c =
@@ -82,7 +82,7 @@ returns-clause-broken g c =
     let s = S.shown c.args.spawner.now in
     let s' = S.shown c.prelude.new.spawner in
     let s'' = S.shown c.go_on.new.spawner in
-    if_err (λ f. GoingCut S.observed app status s' s'') (λ f. IsBrokenOff S.observed app s s'') c.go_on.result (λ f w. broken_late app status s' c.in_ok-status.ensures.ran w) c.go_on.ensures.cut
+    if_err (λ f. MainStartCut S.observed app status s' s'') (λ f. IsInterrupted S.observed app s s'') c.go_on.result (λ f w. broken_late app status s' c.in_ok-status.ensures.ran w) c.go_on.ensures.cut
 
 pub returns-clause-may : goal.returns-clause-may
 returns-clause-may g c =

@@ -1,24 +1,25 @@
 use Rattle.std.proofs.Common.{rules, arith, ◌≡◌, ◌+◌, ℕ, List, [], ◌∷◌, ◌++◌, length, length-append, length-take, take, drop, refl, sym, ap, subst, ◌∙◌}
 use Rattle.std.proofs.lemmas.List.{take_all}
+use Rattle.plain_laws.proofs.Results.{if_err, err_same, any_err}
+use Rattle.plain_laws.proofs.Lists.{take_next}
 use Rattle.dir_model.proofs.Lists.{all_push}
 use Rattle.dir_model.specs.declared.spot.Spot.{Spot}
 use Rattle.dir_model.specs.Local.{IsActive, Local}
-use Rattle.folder_building.specs.Work.{Worked}
 use Rattle.folder_building.proofs.Working.{worked_none, worked_more}
 use Rattle.spawner.specs.Conditions.{StillRuns}
 use Rattle.stage1.specs.declared.start.AppStart.{AppStart}
 use Rattle.stage1.specs.declared.stand.Stand.{Stand}
 use Rattle.stage1.specs.Notes.{notes_at, IsMarked}
-use Rattle.stage1.specs.Beginnings.{IsInRun, AreMarked, AreStartedIn, AreWritten, HaveBegun, AreBrokenOff}
+use Rattle.stage1.specs.Beginnings.{IsInRun, AreMarked, AreStartedIn, AreStatusesWritten, HaveBegun, AreInterrupted}
 use Rattle.stage1.specs.Refusals.{RunCause}
-use Rattle.stage1.proofs.Results.{if_err, err_same, any_err}
 use Rattle.stage1.proofs.Noted.{stays_none, stays_more, worked_any}
 use Rattle.stage1.proofs.Causes.{run_after}
-use Rattle.stage1.proofs.Pairs.{at_place, take_next, parted_at, are_started_still, started_push, are_written_still, written_push, may_still, begun_none, begun_more, started_none, written_none}
-use Rattle.stage1.specs.Keeping.{Keeps, all_begun_times}
+use Rattle.stage1.proofs.Pairs.{at_place, parted_at, are_started_still, started_push, are_written_still, written_push, may_still, begun_none, begun_more, started_none, written_none}
+use Rattle.stage1.specs.Keeping.{NotesAtMost, all_begun_times}
 use Rattle.stage1.proofs.Keeping.{keeps_none}
 use Rattle.stage1.proofs.Times.{keeps_push, keeps_broken}
 use Rattle.stage1.proofs.beginning.begin_apps.Goals as goal
+use Rattle.dir_trait.specs.Effects.{OnlyAsks}
 
 pub apps-init : goal.apps-init
 apps-init g c = record {
@@ -67,7 +68,7 @@ apps-preserved g c =
     let pushed = c.push_within.ensures.pushed in
     record {
       went = worked_more inv.went (worked_any c.begin_app.ensures.worked);
-      worked = λ spot at. worked_more (inv.worked spot at) (subst (λ (s : Spot). Worked D.observed (notes_at s) (D.shown c.apps.dir) new) (at_place (λ (a : AppStart). a.root.spot ≡ spot) apps i app c.apps-test.true c.app-item.is at) c.begin_app.ensures.worked);
+      worked = λ spot at. worked_more (inv.worked spot at) (subst (λ (s : Spot). OnlyAsks D.observed (notes_at s) (D.shown c.apps.dir) new) (at_place (λ (a : AppStart). a.root.spot ≡ spot) apps i app c.apps-test.true c.app-item.is at) c.begin_app.ensures.worked);
       stays = λ t. stays_more (inv.stays t) (c.begin_app.ensures.stays t);
       many = omega (arith, inv.many, c.push_within.ensures.longer);
       each = ap length pushed ∙ omega (arith, length-append stands (stand ∷ []), inv.each);
@@ -81,13 +82,13 @@ apps-preserved g c =
           (subst (λ (l : List Stand). AreStartedIn last.calls (take i apps ++ app ∷ []) l) (sym pushed)
           (started_push last.calls (take i apps) stands app stand (are_started_still (S.shown c.apps.spawner).calls last.calls (one.begun.asked.kept t) (take i apps) stands (inv.started t)) (one.started t)));
       wrote = λ t.
-          subst (λ (l : List AppStart). AreWritten new l c.push_within.new.stands.items) (sym next)
-          (subst (λ (l : List Stand). AreWritten new (take i apps ++ app ∷ []) l) (sym pushed)
+          subst (λ (l : List AppStart). AreStatusesWritten new l c.push_within.new.stands.items) (sym next)
+          (subst (λ (l : List Stand). AreStatusesWritten new (take i apps ++ app ∷ []) l) (sym pushed)
           (written_push new (take i apps) stands app stand (are_written_still (c.begin_app.ensures.stays t) (take i apps) stands (inv.wrote t)) (one.wrote t)));
       keeps = λ t.
           let many : length (take i apps) ≡ length stands = omega (arith, length-take i apps, c.apps-test.true, inv.each) in
-          subst (λ (l : List AppStart). Keeps (all_begun_times l c.push_within.new.stands.items) (D.shown c.args.dir.now) new) (sym next)
-          (subst (λ (l : List Stand). Keeps (all_begun_times (take i apps ++ app ∷ []) l) (D.shown c.args.dir.now) new) (sym pushed)
+          subst (λ (l : List AppStart). NotesAtMost (all_begun_times l c.push_within.new.stands.items) (D.shown c.args.dir.now) new) (sym next)
+          (subst (λ (l : List Stand). NotesAtMost (all_begun_times (take i apps ++ app ∷ []) l) (D.shown c.args.dir.now) new) (sym pushed)
           (keeps_push (take i apps) stands app stand many (inv.keeps t) (one.keeps t)));
     }
 
@@ -97,7 +98,7 @@ returns-in_err-stand-clause-went g c = worked_more c.apps.invariant.went (worked
 pub returns-in_err-stand-clause-worked : goal.returns-in_err-stand-clause-worked
 returns-in_err-stand-clause-worked g c spot at =
     let D = g.D.Dir in
-    worked_more (c.apps.invariant.worked spot at) (subst (λ (s : Spot). Worked D.observed (notes_at s) (D.shown c.apps.dir) (D.shown c.begin_app.new.dir)) (at_place (λ (a : AppStart). a.root.spot ≡ spot) c.args.apps.now c.apps.app-index c.app-item.result c.apps-test.true c.app-item.is at) c.begin_app.ensures.worked)
+    worked_more (c.apps.invariant.worked spot at) (subst (λ (s : Spot). OnlyAsks D.observed (notes_at s) (D.shown c.apps.dir) (D.shown c.begin_app.new.dir)) (at_place (λ (a : AppStart). a.root.spot ≡ spot) c.args.apps.now c.apps.app-index c.app-item.result c.apps-test.true c.app-item.is at) c.begin_app.ensures.worked)
 
 pub returns-in_err-stand-clause-stays : goal.returns-in_err-stand-clause-stays
 returns-in_err-stand-clause-stays g c t = stays_more (c.apps.invariant.stays t) (c.begin_app.ensures.stays t)
@@ -121,7 +122,7 @@ returns-in_err-stand-clause-broken g c =
     let i = c.apps.app-index in
     let apps = c.args.apps.now in
     let app = c.app-item.result in
-    any_err (AreBrokenOff S.observed apps c.apps.stands.items (S.shown c.args.spawner.now) (S.shown c.begin_app.new.spawner)) c.from_residual.result
+    any_err (AreInterrupted S.observed apps c.apps.stands.items (S.shown c.args.spawner.now) (S.shown c.begin_app.new.spawner)) c.from_residual.result
     (record { done = take i apps; next = app; rest = drop (i + 1) apps; parted = parted_at apps i app c.apps-test.true c.app-item.is; between = S.shown c.apps.spawner; begun = c.apps.invariant.begun; broken = c.in_err-stand.ensures.broken })
 
 pub returns-in_err-stand-clause-may : goal.returns-in_err-stand-clause-may
@@ -144,7 +145,7 @@ returns-in_err-stand-clause-wrote g c t =
     let new = g.D.Dir.shown c.begin_app.new.dir in
     let apps = c.args.apps.now in
     let stands = c.apps.stands.items in
-    subst (λ (n : ℕ). AreWritten new (take n apps) stands) (sym c.apps.invariant.each) (are_written_still (c.begin_app.ensures.stays t) (take c.apps.app-index apps) stands (c.apps.invariant.wrote t))
+    subst (λ (n : ℕ). AreStatusesWritten new (take n apps) stands) (sym c.apps.invariant.each) (are_written_still (c.begin_app.ensures.stays t) (take c.apps.app-index apps) stands (c.apps.invariant.wrote t))
 
 pub returns-clause-went : goal.returns-clause-went
 returns-clause-went g c = c.apps.invariant.went
@@ -161,7 +162,7 @@ pub returns-clause-started : goal.returns-clause-started
 returns-clause-started g c t = subst (λ (n : ℕ). AreStartedIn (g.S.Spawner.shown c.apps.spawner).calls (take n c.args.apps.now) c.apps.stands.items) (sym c.apps.invariant.each) (c.apps.invariant.started t)
 
 pub returns-clause-wrote : goal.returns-clause-wrote
-returns-clause-wrote g c t = subst (λ (n : ℕ). AreWritten (g.D.Dir.shown c.apps.dir) (take n c.args.apps.now) c.apps.stands.items) (sym c.apps.invariant.each) (c.apps.invariant.wrote t)
+returns-clause-wrote g c t = subst (λ (n : ℕ). AreStatusesWritten (g.D.Dir.shown c.apps.dir) (take n c.args.apps.now) c.apps.stands.items) (sym c.apps.invariant.each) (c.apps.invariant.wrote t)
 
 pub returns-in_err-stand-clause-keeps : goal.returns-in_err-stand-clause-keeps
 returns-in_err-stand-clause-keeps g c t =
@@ -171,10 +172,10 @@ returns-in_err-stand-clause-keeps g c t =
     let app = c.app-item.result in
     let stands = c.apps.stands.items in
     let many : length (take i apps) ≡ length stands = omega (arith, length-take i apps, c.apps-test.true, c.apps.invariant.each) in
-    subst (λ (l : List AppStart). Keeps (all_begun_times l stands) (D.shown c.args.dir.now) (D.shown c.begin_app.new.dir)) (sym (parted_at apps i app c.apps-test.true c.app-item.is))
+    subst (λ (l : List AppStart). NotesAtMost (all_begun_times l stands) (D.shown c.args.dir.now) (D.shown c.begin_app.new.dir)) (sym (parted_at apps i app c.apps-test.true c.app-item.is))
     (keeps_broken (take i apps) stands app (drop (i + 1) apps) c.begin_app.result many (c.apps.invariant.keeps t) (c.begin_app.ensures.keeps t))
 
 pub returns-clause-keeps : goal.returns-clause-keeps
 returns-clause-keeps g c t =
     let D = g.D.Dir in
-    subst (λ (l : List AppStart). Keeps (all_begun_times l c.apps.stands.items) (D.shown c.args.dir.now) (D.shown c.apps.dir)) (take_all c.apps.app-index c.args.apps.now c.apps-test.false) (c.apps.invariant.keeps t)
+    subst (λ (l : List AppStart). NotesAtMost (all_begun_times l c.apps.stands.items) (D.shown c.args.dir.now) (D.shown c.apps.dir)) (take_all c.apps.app-index c.args.apps.now c.apps-test.false) (c.apps.invariant.keeps t)

@@ -1,8 +1,8 @@
 use Rattle.std.proofs.Common.{rules}
+use Rattle.plain_laws.proofs.Results.{if_ok, if_err, err_same, any_err}
 use Rattle.stage1.specs.Programs.{RanHandler, HandlerCut}
 use Rattle.stage1.specs.Beginnings.{RanPrelude, PreludeCut}
 use Rattle.stage1.specs.Refusals.{SpawnCause}
-use Rattle.stage1.proofs.Results.{if_ok, if_err, err_same, any_err}
 use Rattle.stage1.proofs.Causes.{spawn_after}
 use Rattle.stage1.proofs.OneApp.{unready, ran_prelude, prelude_cut}
 use Rattle.stage1.proofs.beginning.prelude.Goals as goal

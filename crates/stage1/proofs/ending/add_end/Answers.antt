@@ -1,7 +1,7 @@
 use Rattle.std.proofs.Common.{rules}
+use Rattle.plain_laws.proofs.Results.{err_same, any_err}
 use Rattle.stage1.specs.Endings.{EndsCut}
 use Rattle.stage1.specs.Refusals.{RunCause}
-use Rattle.stage1.proofs.Results.{err_same, any_err}
 use Rattle.stage1.proofs.OneEnd.{ends_cut}
 use Rattle.stage1.proofs.ending.add_end.Goals as goal
 

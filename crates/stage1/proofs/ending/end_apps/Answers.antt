@@ -1,8 +1,8 @@
 use Rattle.std.proofs.Common.{arith, ◌≡◌, ◌≤◌, ◌<◌, ◌+◌, ℕ, List, [], ◌∷◌, ◌++◌, length, length-take, take, drop, get_or, sym, ap, subst}
 use Rattle.std.proofs.lemmas.List.{take_all}
+use Rattle.plain_laws.proofs.Lists.{take_next}
 use Rattle.dir_model.specs.declared.spot.Spot.{Spot}
 use Rattle.dir_model.specs.Local.{IsActive, Local}
-use Rattle.folder_building.specs.Work.{Worked}
 use Rattle.folder_building.proofs.Working.{worked_none, worked_more}
 use Rattle.stage1.specs.declared.start.AppStart.{AppStart}
 use Rattle.stage1.specs.declared.stand.Stand.{Stand}
@@ -14,12 +14,13 @@ use Rattle.stage1.specs.Runs.{AreWrittenAll}
 use Rattle.stage1.proofs.Noted.{stays_none, stays_more, worked_any}
 use Rattle.stage1.proofs.Causes.{run_after}
 use Rattle.stage1.proofs.OneApp.{no_child}
-use Rattle.stage1.proofs.Pairs.{at_place, take_next, parted_at, started_at, started_still, written_at, written_still}
+use Rattle.stage1.proofs.Pairs.{at_place, parted_at, started_at, started_still, written_at, written_still}
 use Rattle.stage1.proofs.Ends.{ended_last, ended_more, ended_none, all_written_still, all_written_push, all_written_none, stand_at}
-use Rattle.stage1.specs.Keeping.{Keeps, all_end_times}
+use Rattle.stage1.specs.Keeping.{NotesAtMost, all_end_times}
 use Rattle.stage1.proofs.Keeping.{keeps_none}
 use Rattle.stage1.proofs.Times.{keeps_end_push, keeps_front}
 use Rattle.stage1.proofs.ending.end_apps.Goals as goal
+use Rattle.dir_trait.specs.Effects.{OnlyAsks}
 
 pub apps-init : goal.apps-init
 apps-init g c = record {
@@ -76,7 +77,7 @@ apps-preserved g c =
     let after = c.add_end.new.statuses.items in
     record {
       went = worked_more inv.went (worked_any c.add_end.ensures.worked);
-      worked = λ spot at. worked_more (inv.worked spot at) (subst (λ (x : Spot). Worked D.observed (notes_at x) mid new) (at_place (λ (a : AppStart). a.root.spot ≡ spot) apps i app c.apps-test.true c.index-apps-place.is at) c.add_end.ensures.worked);
+      worked = λ spot at. worked_more (inv.worked spot at) (subst (λ (x : Spot). OnlyAsks D.observed (notes_at x) mid new) (at_place (λ (a : AppStart). a.root.spot ≡ spot) apps i app c.apps-test.true c.index-apps-place.is at) c.add_end.ensures.worked);
       stays = λ t. stays_more (inv.stays t) (c.add_end.ensures.stays t);
       ended =
           subst (λ (l : List AppStart). HaveEnded S.observed l (take (i + 1) stands) after s s'') (sym next)
@@ -90,8 +91,8 @@ apps-preserved g c =
           (all_written_push new (take i apps) statuses app w.status (all_written_still (c.add_end.ensures.stays t) (take i apps) statuses (inv.wrote t)) w.wrote));
       keeps = λ t.
           let many : length (take i apps) ≡ length (take i stands) = omega (arith, length-take i apps, length-take i stands, c.apps-test.true, within) in
-          subst (λ (l : List AppStart). Keeps (all_end_times l (take (i + 1) stands)) (D.shown c.args.dir.now) new) (sym next)
-          (subst (λ (l : List Stand). Keeps (all_end_times (take i apps ++ app ∷ []) l) (D.shown c.args.dir.now) new) (sym next_stand)
+          subst (λ (l : List AppStart). NotesAtMost (all_end_times l (take (i + 1) stands)) (D.shown c.args.dir.now) new) (sym next)
+          (subst (λ (l : List Stand). NotesAtMost (all_end_times (take i apps ++ app ∷ []) l) (D.shown c.args.dir.now) new) (sym next_stand)
           (keeps_end_push (take i apps) (take i stands) app stand many (inv.keeps t) (c.add_end.ensures.keeps t)));
     }
 
@@ -101,7 +102,7 @@ returns-in-Err-clause-went g c = worked_more c.apps.invariant.went (worked_any c
 pub returns-in-Err-clause-worked : goal.returns-in-Err-clause-worked
 returns-in-Err-clause-worked g c spot at =
     let D = g.D.Dir in
-    worked_more (c.apps.invariant.worked spot at) (subst (λ (x : Spot). Worked D.observed (notes_at x) (D.shown c.apps.dir) (D.shown c.add_end.new.dir)) (at_place (λ (a : AppStart). a.root.spot ≡ spot) c.args.apps.now c.apps.place c.index-apps-place.result c.apps-test.true c.index-apps-place.is at) c.add_end.ensures.worked)
+    worked_more (c.apps.invariant.worked spot at) (subst (λ (x : Spot). OnlyAsks D.observed (notes_at x) (D.shown c.apps.dir) (D.shown c.add_end.new.dir)) (at_place (λ (a : AppStart). a.root.spot ≡ spot) c.args.apps.now c.apps.place c.index-apps-place.result c.apps-test.true c.index-apps-place.is at) c.add_end.ensures.worked)
 
 pub returns-in-Err-clause-stays : goal.returns-in-Err-clause-stays
 returns-in-Err-clause-stays g c t = stays_more (c.apps.invariant.stays t) (c.add_end.ensures.stays t)
@@ -176,8 +177,8 @@ returns-in-Err-clause-keeps_cut g c t =
     let stand = get_or stands i (Running no_child) in
     let within : i < length stands = omega (arith, c.apps-test.true, c.requires.each) in
     let many : length (take i apps) ≡ length (take i stands) = omega (arith, length-take i apps, length-take i stands, c.apps-test.true, within) in
-    subst (λ (l : List AppStart). Keeps (all_end_times l (take (i + 1) stands)) old new) (sym (take_next apps i app c.apps-test.true c.index-apps-place.is))
-    (subst (λ (l : List Stand). Keeps (all_end_times (take i apps ++ app ∷ []) l) old new) (sym (take_next stands i stand within (stand_at stands i within)))
+    subst (λ (l : List AppStart). NotesAtMost (all_end_times l (take (i + 1) stands)) old new) (sym (take_next apps i app c.apps-test.true c.index-apps-place.is))
+    (subst (λ (l : List Stand). NotesAtMost (all_end_times (take i apps ++ app ∷ []) l) old new) (sym (take_next stands i stand within (stand_at stands i within)))
     (keeps_end_push (take i apps) (take i stands) app stand many (c.apps.invariant.keeps t) (c.add_end.ensures.keeps t)))
 
 pub returns-clause-keeps : goal.returns-clause-keeps

@@ -1,7 +1,7 @@
 use Rattle.std.proofs.Common.{rules}
+use Rattle.plain_laws.proofs.Results.{err_same, any_err}
 use Rattle.stage1.specs.Endings.{IsEndCut}
 use Rattle.stage1.specs.Refusals.{RunCause}
-use Rattle.stage1.proofs.Results.{err_same, any_err}
 use Rattle.stage1.proofs.Causes.{by_spawn, run_after}
 use Rattle.stage1.proofs.OneEnd.{end_cut_early, end_cut_late, has_ended}
 use Rattle.stage1.proofs.ending.end_running.Goals as goal

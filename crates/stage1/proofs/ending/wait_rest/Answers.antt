@@ -1,8 +1,8 @@
 use Rattle.std.proofs.Common.{arith, ◌≡◌, ◌<◌, ◌+◌, List, [], ◌∷◌, ◌++◌, length, length-take, take, get_or, sym, subst}
 use Rattle.std.proofs.lemmas.List.{take_all}
+use Rattle.plain_laws.proofs.Lists.{take_next}
 use Rattle.dir_model.specs.declared.spot.Spot.{Spot}
 use Rattle.dir_model.specs.Local.{IsActive, Local}
-use Rattle.folder_building.specs.Work.{Worked}
 use Rattle.folder_building.proofs.Working.{worked_none, worked_more}
 use Rattle.stage1.specs.declared.start.AppStart.{AppStart}
 use Rattle.stage1.specs.declared.stand.Stand.{Stand}
@@ -12,12 +12,13 @@ use Rattle.stage1.specs.Beginnings.{IsInRun, running}
 use Rattle.stage1.specs.Endings.{WereWaitedFor}
 use Rattle.stage1.proofs.Noted.{stays_none, stays_more, worked_any}
 use Rattle.stage1.proofs.OneApp.{no_child}
-use Rattle.stage1.proofs.Pairs.{at_place, take_next, started_still}
+use Rattle.stage1.proofs.Pairs.{at_place, started_still}
 use Rattle.stage1.proofs.Ends.{were_none, were_more, stand_at, front_at, started_front}
-use Rattle.stage1.specs.Keeping.{Keeps, all_end_times}
+use Rattle.stage1.specs.Keeping.{NotesAtMost, all_end_times}
 use Rattle.stage1.proofs.Keeping.{keeps_none}
 use Rattle.stage1.proofs.Times.{keeps_end_push, keeps_front}
 use Rattle.stage1.proofs.ending.wait_rest.Goals as goal
+use Rattle.dir_trait.specs.Effects.{OnlyAsks}
 
 pub stands-init : goal.stands-init
 stands-init g c = record { went = worked_none; worked = λ spot at. worked_none; stays = λ t. stays_none; waited = were_none; keeps = λ t. keeps_none }
@@ -60,14 +61,14 @@ stands-preserved g c =
     let within : i < length apps = omega (arith, c.stands-test.true, c.requires.each) in
     record {
       went = worked_more inv.went (worked_any c.wait_still.ensures.worked);
-      worked = λ spot at. worked_more (inv.worked spot at) (subst (λ (x : Spot). Worked D.observed (notes_at x) mid new) (at_place (λ (a : AppStart). a.root.spot ≡ spot) apps i app within c.index-apps-place.is at) c.wait_still.ensures.worked);
+      worked = λ spot at. worked_more (inv.worked spot at) (subst (λ (x : Spot). OnlyAsks D.observed (notes_at x) mid new) (at_place (λ (a : AppStart). a.root.spot ≡ spot) apps i app within c.index-apps-place.is at) c.wait_still.ensures.worked);
       stays = λ t. stays_more (inv.stays t) (c.wait_still.ensures.stays t);
       waited = subst (λ (l : List Stand). WereWaitedFor S.observed (running l) s s'') (sym (take_next stands i stand c.stands-test.true (stand_at stands i c.stands-test.true))) (were_more (take i stands) (stand ∷ []) inv.waited c.wait_still.ensures.waited);
       keeps = λ t.
           let old = D.shown c.args.dir.now in
           let many : length (take i apps) ≡ length (take i stands) = omega (arith, length-take i apps, length-take i stands, within, c.stands-test.true) in
-          subst (λ (l : List AppStart). Keeps (all_end_times l (take (i + 1) stands)) old new) (sym (take_next apps i app within c.index-apps-place.is))
-          (subst (λ (l : List Stand). Keeps (all_end_times (take i apps ++ app ∷ []) l) old new) (sym (take_next stands i stand c.stands-test.true (stand_at stands i c.stands-test.true)))
+          subst (λ (l : List AppStart). NotesAtMost (all_end_times l (take (i + 1) stands)) old new) (sym (take_next apps i app within c.index-apps-place.is))
+          (subst (λ (l : List Stand). NotesAtMost (all_end_times (take i apps ++ app ∷ []) l) old new) (sym (take_next stands i stand c.stands-test.true (stand_at stands i c.stands-test.true)))
           (keeps_end_push (take i apps) (take i stands) app stand many (inv.keeps t) (c.wait_still.ensures.keeps t)));
     }
 

@@ -4,7 +4,7 @@ use Rattle.stage1.specs.Beginnings.{IsStartedIn, running}
 use Rattle.stage1.specs.Endings.{WereWaitedFor}
 use Rattle.stage1.proofs.Asked.{asks_none}
 use Rattle.stage1.proofs.OneEnd.{waited_either}
-use Rattle.stage1.specs.Keeping.{Keeps, end_times}
+use Rattle.stage1.specs.Keeping.{NotesAtMost, end_times}
 use Rattle.stage1.proofs.Keeping.{keeps_none}
 use Rattle.stage1.proofs.ending.wait_still.Goals as goal
 
@@ -27,7 +27,7 @@ returns-in-Ended-clause-waited g c =
 pub returns-in-Running-clause-keeps : goal.returns-in-Running-clause-keeps
 returns-in-Running-clause-keeps g c t =
     let D = g.D.Dir in
-    subst (λ (x : Stand). Keeps (end_times c.args.app.now x) (D.shown c.args.dir.now) (D.shown c.wait_app-status.new.dir)) (sym c.in-Running.is) (c.wait_app-status.ensures.keeps t)
+    subst (λ (x : Stand). NotesAtMost (end_times c.args.app.now x) (D.shown c.args.dir.now) (D.shown c.wait_app-status.new.dir)) (sym c.in-Running.is) (c.wait_app-status.ensures.keeps t)
 
 pub returns-in-Ended-clause-keeps : goal.returns-in-Ended-clause-keeps
 returns-in-Ended-clause-keeps g c t = keeps_none

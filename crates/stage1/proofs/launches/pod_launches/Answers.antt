@@ -1,11 +1,11 @@
 use Rattle.std.proofs.Common.{rules, ◌≡◌, true, ℕ, List, subst}
+use Rattle.plain_laws.proofs.Results.{if_ok, if_err, err_same}
 use Rattle.manifests.specs.declared.runtime_app.RuntimeApp.{RuntimeApp}
-use Rattle.image_reading.proofs.Results.{if_ok, if_err, err_same}
 use Rattle.image_reading.proofs.Widths.{file_after, file_before}
-use Rattle.stage1.specs.AppFiles.{LacksManifest}
 use Rattle.stage1.specs.Starts.{FindsStarts, ReadsStarts}
-use Rattle.stage1.specs.LoadRefusals.{IsLack, LacksStarts, LoadCause}
+use Rattle.stage1.specs.LoadRefusals.{IsManifestLack, LacksStarts, LoadCause}
 use Rattle.pod_files.proofs.Reading.{reads_more}
+use Rattle.pod_files.specs.Files.{ReadsNoPodManifest}
 use Rattle.stage1.proofs.Rooted.{finds_after}
 use Rattle.stage1.proofs.Lacking.{lack_why, manifest_cause, token_cause, starts_cause}
 use Rattle.stage1.proofs.launches.pod_launches.Goals as goal
@@ -17,8 +17,8 @@ returns-in_err-manifest-clause-lacks g c =
     let old = D.shown c.args.dir.now in
     let new = D.shown c.read_manifest.new.dir in
     err_same (λ e. D.observed ≡ true → LoadCause pod e old new) c.read_manifest.result c.from_residual.result (λ e h. search (rules, h, c.from_residual.ensures, c.in_err-manifest.is))
-    (if_err (IsLack (D.observed ≡ true → LacksManifest pod old new)) (λ e. D.observed ≡ true → LoadCause pod e old new) c.read_manifest.result
-    (λ e is t. manifest_cause pod old new e (lack_why (D.observed ≡ true → LacksManifest pod old new) (LacksManifest pod old new) e (λ f. f t) is)) c.read_manifest.ensures.lacks)
+    (if_err (IsManifestLack (D.observed ≡ true → ReadsNoPodManifest pod old new)) (λ e. D.observed ≡ true → LoadCause pod e old new) c.read_manifest.result
+    (λ e is t. manifest_cause pod old new e (lack_why (D.observed ≡ true → ReadsNoPodManifest pod old new) (ReadsNoPodManifest pod old new) e (λ f. f t) is)) c.read_manifest.ensures.lacks)
 
 pub returns-in-Ok-clause-only : goal.returns-in-Ok-clause-only
 returns-in-Ok-clause-only g c = reads_more c.args.pod (reads_more c.args.pod c.read_manifest.ensures.only c.read_token.ensures.only) c.starts_with.ensures.only

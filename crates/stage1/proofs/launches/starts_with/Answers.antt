@@ -1,10 +1,10 @@
 use Rattle.std.proofs.Common.{◌≡◌, true}
-use Rattle.image_reading.proofs.Results.{if_ok, if_err, never}
 use Rattle.stage1.specs.declared.load_error.LoadError.TheVariants.{DirFault}
 use Rattle.stage1.specs.Starts.{IsPlacedIn, AreStarts, FindsStarts}
 use Rattle.stage1.specs.LoadRefusals.{IsMissingAmong, LacksStarts}
 use Rattle.stage1.proofs.Lacking.{roots_cause, programs_cause}
 use Rattle.std.specs.List.{AllByRecursion}
+use Rattle.plain_laws.proofs.Results.{if_ok, if_err, never}
 use Rattle.stage1.proofs.Found.{all_placed}
 use Rattle.stage1.proofs.launches.starts_with.Goals as goal
 

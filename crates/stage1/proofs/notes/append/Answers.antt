@@ -1,8 +1,9 @@
 use Rattle.std.proofs.Common.{Ok, Err, refl, ap, sym, subst}
 use Rattle.dir_model.specs.declared.request.Request.TheVariants.{AppendIn}
 use Rattle.dir_model.specs.Replies.{append_reply}
+use Rattle.dir_model.proofs.Spots.{spot_self}
 use Rattle.folder_building.specs.Making.{inner_at}
-use Rattle.folder_building.proofs.Working.{append_call, worked_append, at_spot}
+use Rattle.folder_building.proofs.Working.{append_call, worked_append}
 use Rattle.folder_building.proofs.Strays.{stray_append}
 use Rattle.stage1.specs.declared.error.Fault.{Fault}
 use Rattle.stage1.specs.Refusals.{NoteCause}
@@ -11,10 +12,10 @@ use Rattle.stage1.proofs.Causes.{note_cause_at}
 use Rattle.stage1.proofs.notes.append.Goals as goal
 
 pub returns-in-Ok-clause-worked : goal.returns-in-Ok-clause-worked
-returns-in-Ok-clause-worked g c = worked_append (inner_at c.args.spot.now c.args.path.now) c.args.piece.now (Ok tt) (at_spot c.args.spot.now) c.in-Ok.ensures.called
+returns-in-Ok-clause-worked g c = worked_append (inner_at c.args.spot.now c.args.path.now) c.args.piece.now (Ok tt) (spot_self c.args.spot.now) c.in-Ok.ensures.called
 
 pub returns-in-Err-clause-worked : goal.returns-in-Err-clause-worked
-returns-in-Err-clause-worked g c = worked_append (inner_at c.args.spot.now c.args.path.now) c.args.piece.now (Err c.in-Err.error) (at_spot c.args.spot.now) c.in-Err.ensures.called
+returns-in-Err-clause-worked g c = worked_append (inner_at c.args.spot.now c.args.path.now) c.args.piece.now (Err c.in-Err.error) (spot_self c.args.spot.now) c.in-Err.ensures.called
 
 pub returns-in-Ok-clause-stays : goal.returns-in-Ok-clause-stays
 returns-in-Ok-clause-stays g c t = stays_call t refl refl (λ s. refl) refl (append_call (inner_at c.args.spot.now c.args.path.now) c.args.piece.now (Ok tt) t c.in-Ok.ensures.called).1

@@ -1,14 +1,14 @@
 use Rattle.std.proofs.Common.{rules, ◌≡◌, true, refl, sym, subst, ℕ, List, []}
+use Rattle.plain_laws.proofs.Results.{if_ok, if_err, err_same}
 use Rattle.dir_model.specs.Local.{IsActive, Local}
 use Rattle.folder_building.proofs.Working.{worked_more}
 use Rattle.stage1.specs.Notes.{MadeFile, Synced, IsMarked}
 use Rattle.stage1.specs.Refusals.{NoteCause}
-use Rattle.stage1.proofs.Results.{if_ok, if_err, err_same}
 use Rattle.stage1.proofs.Noted.{stays_more, marked, made_mark}
 use Rattle.stage1.proofs.Causes.{note_after}
 use Rattle.dir_model.specs.declared.request.Request.TheVariants.{MakeFileIn}
 use Rattle.folder_building.specs.Making.{inner_at}
-use Rattle.stage1.specs.Keeping.{Called}
+use Rattle.stage1.specs.Keeping.{CallsDirectory}
 use Rattle.stage1.proofs.Keeping.{keeps_mark, keeps_marked}
 use Rattle.stage1.proofs.notes.make_mark.Goals as goal
 
@@ -57,7 +57,7 @@ pub returns-in_err-make_file-clause-keeps : goal.returns-in_err-make_file-clause
 returns-in_err-make_file-clause-keeps g c t =
     let D = g.D.Dir in
     let root = c.args.root.now in
-    keeps_mark root c.requires.place t (subst (λ (p : List ℕ). Called D.observed (MakeFileIn (inner_at root.spot p)) (D.shown c.args.dir.now) (D.shown c.make_file.new.dir)) c.requires.path (c.make_file.ensures.called t))
+    keeps_mark root c.requires.place t (subst (λ (p : List ℕ). CallsDirectory D.observed (MakeFileIn (inner_at root.spot p)) (D.shown c.args.dir.now) (D.shown c.make_file.new.dir)) c.requires.path (c.make_file.ensures.called t))
 
 pub returns-clause-keeps : goal.returns-clause-keeps
 returns-clause-keeps g c t =

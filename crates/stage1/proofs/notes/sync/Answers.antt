@@ -1,8 +1,9 @@
 use Rattle.std.proofs.Common.{Err, refl, ap, sym, subst}
 use Rattle.dir_model.specs.declared.request.Request.TheVariants.{SyncIn}
 use Rattle.dir_model.specs.declared.request.Reply.TheVariants.{Done, Refused}
+use Rattle.dir_model.proofs.Spots.{spot_self}
 use Rattle.folder_building.specs.Making.{inner_at}
-use Rattle.folder_building.proofs.Working.{worked_call, at_spot}
+use Rattle.folder_building.proofs.Working.{worked_call}
 use Rattle.folder_building.proofs.Strays.{stray_sync}
 use Rattle.stage1.specs.declared.error.Fault.{Fault}
 use Rattle.stage1.specs.Refusals.{NoteCause}
@@ -11,10 +12,10 @@ use Rattle.stage1.proofs.Causes.{note_cause}
 use Rattle.stage1.proofs.notes.sync.Goals as goal
 
 pub returns-in-Ok-clause-worked : goal.returns-in-Ok-clause-worked
-returns-in-Ok-clause-worked g c = worked_call (at_spot c.args.spot.now) refl c.in-Ok.ensures.called
+returns-in-Ok-clause-worked g c = worked_call (spot_self c.args.spot.now) refl c.in-Ok.ensures.called
 
 pub returns-in-Err-clause-worked : goal.returns-in-Err-clause-worked
-returns-in-Err-clause-worked g c = worked_call (at_spot c.args.spot.now) refl c.in-Err.ensures.called
+returns-in-Err-clause-worked g c = worked_call (spot_self c.args.spot.now) refl c.in-Err.ensures.called
 
 pub returns-in-Ok-clause-stays : goal.returns-in-Ok-clause-stays
 returns-in-Ok-clause-stays g c t = stays_call t refl refl (λ s. refl) refl c.in-Ok.ensures.called

@@ -1,14 +1,14 @@
 use Rattle.std.proofs.Common.{rules, ◌≡◌, true, ℕ, List, sym, subst, ◌∙◌}
+use Rattle.plain_laws.proofs.Results.{if_ok, if_err, err_same}
 use Rattle.dir_model.specs.Local.{IsActive, Local}
 use Rattle.folder_building.proofs.Working.{worked_more}
 use Rattle.stage1.specs.Notes.{status_path, status_text, MadeFile, Appended, Synced, WroteStatus}
 use Rattle.stage1.specs.Refusals.{NoteCause}
-use Rattle.stage1.proofs.Results.{if_ok, if_err, err_same}
 use Rattle.stage1.proofs.Noted.{stays_more, wrote_status}
 use Rattle.stage1.proofs.Causes.{note_after}
 use Rattle.dir_model.specs.declared.request.Request.TheVariants.{MakeFileIn, AppendIn, SyncIn}
 use Rattle.folder_building.specs.Making.{inner_at}
-use Rattle.stage1.specs.Keeping.{Called}
+use Rattle.stage1.specs.Keeping.{CallsDirectory}
 use Rattle.stage1.proofs.Keeping.{keeps_status, keeps_part, keeps_whole}
 use Rattle.stage1.proofs.notes.write_status.Goals as goal
 
@@ -72,7 +72,7 @@ pub returns-in_err-make_file-clause-keeps : goal.returns-in_err-make_file-clause
 returns-in_err-make_file-clause-keeps g c t =
     let D = g.D.Dir in
     let root = c.args.root.now in
-    keeps_status root c.requires.place t (subst (λ (p : List ℕ). Called D.observed (MakeFileIn (inner_at root.spot p)) (D.shown c.args.dir.now) (D.shown c.make_file.new.dir)) c.requires.path (c.make_file.ensures.called t))
+    keeps_status root c.requires.place t (subst (λ (p : List ℕ). CallsDirectory D.observed (MakeFileIn (inner_at root.spot p)) (D.shown c.args.dir.now) (D.shown c.make_file.new.dir)) c.requires.path (c.make_file.ensures.called t))
 
 pub returns-in_err-append-clause-keeps : goal.returns-in_err-append-clause-keeps
 returns-in_err-append-clause-keeps g c t =
@@ -82,7 +82,7 @@ returns-in_err-append-clause-keeps g c t =
     let a = D.shown c.make_file.new.dir in
     let b = D.shown c.append.new.dir in
     keeps_part root c.requires.place c.as_bytes.result.now t (subst (λ (p : List ℕ). MadeFile D.observed root.spot p old a) c.requires.path c.in_ok-make_file.ensures.done)
-    (subst (λ (p : List ℕ). Called D.observed (AppendIn (inner_at root.spot p) c.as_bytes.result.now) a b) c.requires.path (c.append.ensures.called t))
+    (subst (λ (p : List ℕ). CallsDirectory D.observed (AppendIn (inner_at root.spot p) c.as_bytes.result.now) a b) c.requires.path (c.append.ensures.called t))
 
 pub returns-clause-keeps : goal.returns-clause-keeps
 returns-clause-keeps g c t =
@@ -93,5 +93,5 @@ returns-clause-keeps g c t =
     let b = D.shown c.append.new.dir in
     let new = D.shown c.sync.new.dir in
     keeps_whole root c.requires.place c.as_bytes.result.now t (subst (λ (p : List ℕ). MadeFile D.observed root.spot p old a) c.requires.path c.in_ok-make_file.ensures.done)
-    (subst (λ (p : List ℕ). Called D.observed (AppendIn (inner_at root.spot p) c.as_bytes.result.now) a b) c.requires.path (c.append.ensures.called t))
-    (subst (λ (p : List ℕ). Called D.observed (SyncIn (inner_at root.spot p)) b new) c.requires.path (c.sync.ensures.called t))
+    (subst (λ (p : List ℕ). CallsDirectory D.observed (AppendIn (inner_at root.spot p) c.as_bytes.result.now) a b) c.requires.path (c.append.ensures.called t))
+    (subst (λ (p : List ℕ). CallsDirectory D.observed (SyncIn (inner_at root.spot p)) b new) c.requires.path (c.sync.ensures.called t))

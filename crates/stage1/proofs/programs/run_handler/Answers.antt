@@ -1,6 +1,6 @@
 use Rattle.std.proofs.Common.{Option, ℕ, List, refl, sym, subst}
+use Rattle.plain_laws.proofs.Results.{if_ok, if_err}
 use Rattle.stage1.specs.Programs.{RanProgram, ProgramCut, RanHandler, HandlerCut}
-use Rattle.stage1.proofs.Results.{if_ok, if_err}
 use Rattle.stage1.proofs.Asked.{asks_none}
 use Rattle.stage1.proofs.OneApp.{no_run}
 use Rattle.stage1.proofs.programs.run_handler.Goals as goal

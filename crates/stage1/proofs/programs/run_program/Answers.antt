@@ -1,9 +1,9 @@
 use Rattle.std.proofs.Common.{[], ◌∷◌}
+use Rattle.plain_laws.proofs.Results.{if_ok, if_err}
 use Rattle.stage1.specs.Asking.{Asks}
 use Rattle.stage1.specs.Sequences.{start_call, wait_call}
-use Rattle.stage1.specs.Programs.{wait_request, WasRefused, RanProgram, ProgramCut}
+use Rattle.stage1.specs.Programs.{wait_request, SpawnWasRefused, RanProgram, ProgramCut}
 use Rattle.stage1.specs.Refusals.{SpawnCause}
-use Rattle.stage1.proofs.Results.{if_ok, if_err}
 use Rattle.stage1.proofs.Asked.{asks_more}
 use Rattle.stage1.proofs.Causes.{spawn_after}
 use Rattle.stage1.proofs.OneApp.{unstarted, unwaited}
@@ -33,7 +33,7 @@ returns-in-Ok-clause-cut g c =
     let old = S.shown c.args.spawner.now in
     let mid = S.shown c.start_program.new.spawner in
     let new = S.shown c.wait_for.new.spawner in
-    if_err (λ f. WasRefused S.observed (wait_request child) mid new) (λ f. ProgramCut S.observed app argv old new) c.wait_for.result (λ f w. unwaited app argv child mid c.in-Ok.ensures.asked w) c.wait_for.ensures.refused
+    if_err (λ f. SpawnWasRefused S.observed (wait_request child) mid new) (λ f. ProgramCut S.observed app argv old new) c.wait_for.result (λ f w. unwaited app argv child mid c.in-Ok.ensures.asked w) c.wait_for.ensures.refused
 
 pub returns-in-Ok-clause-cause : goal.returns-in-Ok-clause-cause
 returns-in-Ok-clause-cause g c =

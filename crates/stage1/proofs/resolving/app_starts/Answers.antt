@@ -1,6 +1,6 @@
 use Rattle.std.proofs.Common.{rules, arith, ◌≡◌, ◌<◌, ◌∷◌, length, drop}
 use Rattle.std.specs.Vec.Iter.{into_iter_items}
-use Rattle.image_reading.proofs.Results.{if_err, err_same}
+use Rattle.plain_laws.proofs.Results.{if_err, err_same}
 use Rattle.stage1.specs.LoadRefusals.{AreMissing, IsMissingAmong}
 use Rattle.stage1.proofs.Found.{start_next, missing_next, next_left}
 use Rattle.stage1.proofs.resolving.app_starts.Goals as goal

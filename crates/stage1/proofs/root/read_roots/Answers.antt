@@ -1,12 +1,13 @@
 use Rattle.std.proofs.Common.{rules, arith, ◌≡◌, ◌+◌, true, List, [], take, drop, refl, subst}
 use Rattle.std.proofs.lemmas.List.{take_all}
-use Rattle.image_reading.proofs.Results.{if_err, err_same}
+use Rattle.plain_laws.proofs.Results.{if_err, err_same}
 use Rattle.manifests.specs.declared.runtime_app.RuntimeApp.{RuntimeApp}
 use Rattle.stage1.specs.AppPlaces.{tree_path, told_path}
-use Rattle.stage1.specs.AppFiles.{LacksRoot, AreRoots}
+use Rattle.stage1.specs.AppFiles.{LacksRootListing, AreAppRoots}
 use Rattle.stage1.specs.LoadRefusals.{IsDamageFor, IsRootsLack}
 use Rattle.pod_files.proofs.Reading.{reads_none, reads_more}
-use Rattle.stage1.proofs.Rooted.{names, names_around, roots_none, roots_next}
+use Rattle.pod_files.proofs.AppNames.{names, names_around}
+use Rattle.stage1.proofs.Rooted.{roots_none, roots_next}
 use Rattle.stage1.proofs.Lacking.{lacks_one}
 use Rattle.stage1.proofs.root.read_roots.Goals as goal
 
@@ -35,10 +36,10 @@ returns-in_err-add_root-clause-lacks g c =
     let apps = c.args.apps.now in
     let app = c.app-item.result in
     err_same (λ e. D.observed ≡ true → IsRootsLack pod (names apps) e old new) c.add_root.result c.from_residual.result (λ e h. search (rules, h, c.from_residual.ensures, c.in_err-add_root.is))
-    (if_err (IsDamageFor (told_path pod (tree_path app.name)) (D.observed ≡ true → LacksRoot pod app.name mid new)) (λ e. D.observed ≡ true → IsRootsLack pod (names apps) e old new) c.add_root.result
+    (if_err (IsDamageFor (told_path pod (tree_path app.name)) (D.observed ≡ true → LacksRootListing pod app.name mid new)) (λ e. D.observed ≡ true → IsRootsLack pod (names apps) e old new) c.add_root.result
     (λ e is t. lacks_one t pod (names (take c.apps.app-index apps)) app.name (names (drop (c.apps.app-index + 1) apps)) c.apps.roots.items e new (names_around apps c.apps.app-index app c.apps-test.true c.app-item.is) c.apps.invariant.only (c.apps.invariant.read t) is) c.add_root.ensures.lacks)
 
 pub returns-clause-read : goal.returns-clause-read
 returns-clause-read g c t =
     let D = g.D.Dir in
-    subst (λ (l : List RuntimeApp). AreRoots c.args.pod (names l) c.apps.roots.items (D.shown c.args.dir.now) (D.shown c.apps.dir)) (take_all c.apps.app-index c.args.apps.now c.apps-test.false) (c.apps.invariant.read t)
+    subst (λ (l : List RuntimeApp). AreAppRoots c.args.pod (names l) c.apps.roots.items (D.shown c.args.dir.now) (D.shown c.apps.dir)) (take_all c.apps.app-index c.args.apps.now c.apps-test.false) (c.apps.invariant.read t)

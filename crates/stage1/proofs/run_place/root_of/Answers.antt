@@ -1,7 +1,7 @@
 use Rattle.std.proofs.Common.{rules, ◌≡◌, sym, subst}
 use Rattle.ac_types.specs.Names.{IsAcName}
 use Rattle.dir_model.specs.Names.{IsFileName}
-use Rattle.pod_files.proofs.Names.{app_name}
+use Rattle.dir_laws.proofs.Names.{app_name}
 use Rattle.stage1.proofs.run_place.root_of.Goals as goal
 
 pub unreachable-requires : goal.unreachable-requires

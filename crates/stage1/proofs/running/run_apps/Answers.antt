@@ -4,18 +4,18 @@ use Rattle.folder_building.proofs.Working.{worked_none, worked_more}
 use Rattle.stage1.specs.declared.start.AppStart.{AppStart}
 use Rattle.stage1.specs.declared.stand.Stand.{Stand}
 use Rattle.std.proofs.lemmas.List.{take_all}
-use Rattle.stage1.specs.Beginnings.{AreMarked, AreStartedIn, AreWritten, running}
+use Rattle.plain_laws.proofs.Results.{if_ok, if_err, any_ok, any_err}
+use Rattle.stage1.specs.Beginnings.{AreMarked, AreStartedIn, AreStatusesWritten, running}
 use Rattle.stage1.specs.Cutting.{IsCutShort}
 use Rattle.stage1.specs.Endings.{HaveEnded, AreEndsBroken, WereWaitedFor}
 use Rattle.stage1.specs.Refusals.{RunCause}
 use Rattle.stage1.specs.Runs.{HaveRun}
 use Rattle.stage1.proofs.Pairs.{may_still}
-use Rattle.stage1.proofs.Results.{if_ok, if_err, any_ok, any_err}
 use Rattle.stage1.proofs.Noted.{stays_none, stays_more}
 use Rattle.stage1.proofs.Causes.{run_after, run_before}
 use Rattle.stage1.proofs.Whole.{have_run, cut_nothing, cut_begun, cut_ended}
 use Rattle.stage1.proofs.Rests.{begun_each, broken_each}
-use Rattle.stage1.specs.Keeping.{Keeps, all_end_times}
+use Rattle.stage1.specs.Keeping.{NotesAtMost, all_end_times}
 use Rattle.stage1.proofs.Keeping.{keeps_none}
 use Rattle.stage1.proofs.Times.{keeps_both}
 use Rattle.stage1.proofs.running.run_apps.Goals as goal
@@ -52,7 +52,7 @@ end_all-requires g c =
       each = each ∙ ap length (sym same);
       may = λ t. subst (λ (l : List AppStart). AreMarked mid l) full (c.begin_apps.ensures.may t);
       started = λ t. subst (λ (x : List Stand). AreStartedIn s'.calls apps x) (sym same) (subst (λ (l : List AppStart). AreStartedIn s'.calls l stands) full (c.begin_apps.ensures.started t));
-      wrote = λ t. subst (λ (x : List Stand). AreWritten mid apps x) (sym same) (subst (λ (l : List AppStart). AreWritten mid l stands) full (c.begin_apps.ensures.wrote t));
+      wrote = λ t. subst (λ (x : List Stand). AreStatusesWritten mid apps x) (sym same) (subst (λ (l : List AppStart). AreStatusesWritten mid l stands) full (c.begin_apps.ensures.wrote t));
     }
 
 pub wait_rest-requires : goal.wait_rest-requires
@@ -156,11 +156,11 @@ returns-in-Ok-clause-keeps g c t =
     let D = g.D.Dir in
     let apps = c.args.apps.now in
     keeps_both apps c.begin_apps.new.stands.items (c.begin_apps.ensures.keeps t)
-    (subst (λ (x : List Stand). Keeps (all_end_times apps x) (D.shown c.begin_apps.new.dir) (D.shown c.end_all.new.dir)) c.deref.ensures.value (c.end_all.ensures.keeps t))
+    (subst (λ (x : List Stand). NotesAtMost (all_end_times apps x) (D.shown c.begin_apps.new.dir) (D.shown c.end_all.new.dir)) c.deref.ensures.value (c.end_all.ensures.keeps t))
 
 pub returns-clause-keeps : goal.returns-clause-keeps
 returns-clause-keeps g c t =
     let D = g.D.Dir in
     let apps = c.args.apps.now in
     keeps_both apps c.begin_apps.new.stands.items (c.begin_apps.ensures.keeps t)
-    (subst (λ (x : List Stand). Keeps (all_end_times apps x) (D.shown c.begin_apps.new.dir) (D.shown c.wait_rest.new.dir)) c.deref-in-Err.ensures.value (c.wait_rest.ensures.keeps t))
+    (subst (λ (x : List Stand). NotesAtMost (all_end_times apps x) (D.shown c.begin_apps.new.dir) (D.shown c.wait_rest.new.dir)) c.deref-in-Err.ensures.value (c.wait_rest.ensures.keeps t))

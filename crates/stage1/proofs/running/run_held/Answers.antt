@@ -1,18 +1,18 @@
 use Rattle.std.proofs.Common.{ap, Err, sym, subst, List}
 use Rattle.std.specs.List.{AllByRecursion}
+use Rattle.plain_laws.proofs.Results.{if_ok, err_both}
 use Rattle.dir_model.specs.Local.{IsActive, Local}
 use Rattle.stage1.specs.declared.start.AppStart.{AppStart}
-use Rattle.stage1.specs.AppPlaces.{run_spot}
 use Rattle.stage1.specs.Starts.{IsPlacedIn}
 use Rattle.stage1.specs.declared.error.RunError.{RunError}
 use Rattle.stage1.specs.Cutting.{IsCutShort}
 use Rattle.stage1.specs.Runs.{HasRunStarts, HasRunHeld, StopCause, IsRefusedRun}
-use Rattle.stage1.proofs.Results.{if_ok, if_errs}
 use Rattle.stage1.proofs.Starting.{loads}
 use Rattle.stage1.proofs.Held.{in_run, at_run, runs_each, still_runs, worked_reads, worked_runs, refused_run, refused_load}
-use Rattle.stage1.specs.Keeping.{Keeps, all_times}
+use Rattle.stage1.specs.Keeping.{NotesAtMost, all_times}
 use Rattle.stage1.proofs.Fresh.{keeps_reads, keeps_run, once_run}
 use Rattle.stage1.proofs.running.run_held.Goals as goal
+use Rattle.pod_files.specs.Places.{run_spot}
 
 pub run_starts-requires : goal.run_starts-requires
 run_starts-requires g c =
@@ -46,7 +46,7 @@ returns-in-Ok-clause-ran g c =
       loads = λ t. loads c.args.pod c.args.address.now c.in-Ok.apps.items old (D.shown c.pod_launches.new.dir) new t c.pod_launches.ensures.only (c.in-Ok.ensures.read t) (c.run_starts.ensures.went.extends t);
       ran = subst (λ (l : List AppStart). HasRunStarts D.observed S.observed l ends.items new s s') c.deref.ensures.value ran;
       once = λ t. once_run c.args.pod c.args.address.now c.in-Ok.apps.items t c.in-Ok.ensures.placed c.pod_launches.ensures.only (c.in-Ok.ensures.read t)
-          (subst (λ (l : List AppStart). Keeps (all_times l) (D.shown c.pod_launches.new.dir) new) c.deref.ensures.value (c.run_starts.ensures.keeps t));
+          (subst (λ (l : List AppStart). NotesAtMost (all_times l) (D.shown c.pod_launches.new.dir) new) c.deref.ensures.value (c.run_starts.ensures.keeps t));
     }) c.run_starts.ensures.ran
 
 pub returns-in-Ok-clause-refused : goal.returns-in-Ok-clause-refused
@@ -58,7 +58,7 @@ returns-in-Ok-clause-refused g c =
     let new = D.shown c.run_starts.new.dir in
     let s = S.shown c.args.spawner.now in
     let s' = S.shown c.run_starts.new.spawner in
-    if_errs (λ e. IsCutShort S.observed c.deref.result.now s s') (λ e. StopCause D.observed e mid new s s') (λ e. IsRefusedRun D.observed S.observed c.args.pod c.args.address.now e old new s s') c.run_starts.result
+    err_both (λ e. IsCutShort S.observed c.deref.result.now s s') (λ e. StopCause D.observed e mid new s s') (λ e. IsRefusedRun D.observed S.observed c.args.pod c.args.address.now e old new s s') c.run_starts.result
     (λ e cut is. refused_run c.args.pod c.args.address.now c.in-Ok.apps.items e old mid new s s' c.pod_launches.ensures.only c.run_starts.ensures.went.extends c.in-Ok.ensures.read is (subst (λ (l : List AppStart). IsCutShort S.observed l s s') c.deref.ensures.value cut)) c.run_starts.ensures.cut c.run_starts.ensures.cause
 
 pub returns-in-Err-clause-worked : goal.returns-in-Err-clause-worked
@@ -79,7 +79,7 @@ returns-in-Ok-clause-keeps g c t =
     let mid = D.shown c.pod_launches.new.dir in
     let new = D.shown c.run_starts.new.dir in
     keeps_run c.args.pod c.args.address.now c.in-Ok.apps.items t c.in-Ok.ensures.placed c.pod_launches.ensures.only (c.in-Ok.ensures.read t)
-    (subst (λ (l : List AppStart). Keeps (all_times l) mid new) c.deref.ensures.value (c.run_starts.ensures.keeps t))
+    (subst (λ (l : List AppStart). NotesAtMost (all_times l) mid new) c.deref.ensures.value (c.run_starts.ensures.keeps t))
 
 pub returns-in-Err-clause-keeps : goal.returns-in-Err-clause-keeps
 returns-in-Err-clause-keeps g c t = keeps_reads c.args.pod t c.pod_launches.ensures.only

@@ -1,4 +1,5 @@
 use Rattle.std.proofs.Common.{arith, IfErr, sym, ap, subst, ◌∙◌}
+use Rattle.plain_laws.proofs.Results.{if_ok, if_err}
 use Rattle.dir_model.specs.Local.{IsActive, IsOpen, Local, without}
 use Rattle.dir_model.specs.declared.request.Request.TheVariants.{Close}
 use Rattle.dir_model.specs.declared.request.Reply.TheVariants.{Done}
@@ -10,7 +11,6 @@ use Rattle.stage1.specs.declared.error.RunError.TheVariants.{Stray}
 use Rattle.stage1.proofs.Lawful.{never_stray}
 use Rattle.stage1.proofs.Closed.{refused_closed}
 use Rattle.stage1.proofs.Starting.{a_close}
-use Rattle.stage1.proofs.Results.{if_ok, if_err}
 use Rattle.stage1.proofs.Closed.{keeps_closed}
 use Rattle.stage1.proofs.running.run_pod.Goals as goal
 

@@ -1,9 +1,9 @@
 use Rattle.std.proofs.Common.{◌≡◌, ℕ, List, length, ap, sym, subst, ◌∙◌}
+use Rattle.plain_laws.proofs.Results.{if_ok, if_err, any_err}
 use Rattle.stage1.specs.declared.error.RunError.{RunError}
 use Rattle.stage1.specs.declared.error.RunError.TheVariants.{NoMemory}
 use Rattle.stage1.specs.Cutting.{IsCutShort}
 use Rattle.stage1.specs.Runs.{AreEnds, HasRunStarts, StopCause}
-use Rattle.stage1.proofs.Results.{if_ok, if_err, any_err}
 use Rattle.stage1.proofs.Whole.{cut_all}
 use Rattle.stage1.proofs.Stops.{run_each, stop_cause, stop_memory}
 use Rattle.stage1.proofs.running.run_starts.Goals as goal

@@ -4,7 +4,7 @@ use Rattle.dir_model.specs.declared.event.Event.{Event}
 use Rattle.dir_model.specs.declared.request.Reply.TheVariants.{Begun}
 use Rattle.dir_memory.specs.Interludes.{Interlude}
 use Rattle.dir_memory.specs.Schedules.{with_steps, due}
-use Rattle.dir_memory.specs.Memories.{Memory, Listed, CutOff, RanOut, local_of, is_stopped, may_ask}
+use Rattle.dir_memory.specs.Memories.{Memory, Listed, CutOff, RanOut, local_of, is_stopped, may_be_called}
 use Rattle.dir_memory.proofs.Meanwhile.{steps_come}
 use Rattle.dir_memory.proofs.Facts.{Facts, facts_of, facts_come, facts_own, memory_now, not_killed, listing_local, listing_alive, asks_may, none_ended}
 use Rattle.dir_memory.proofs.Follow.{listing_by}
@@ -14,7 +14,7 @@ pub end_step-ended-requires-clause-may : goal.end_step-ended-requires-clause-may
 end_step-ended-requires-clause-may c =
     let me = c.self.inside.process in
     let m : Memory = record { trace = c.self.inside.past.items; process = c.self.inside.process; faults = c.self.inside.faults; calls = c.self.inside.calls; numbered = c.self.inside.numbered; local = local_of c.self.inside.own; pending = c.self.inside.pending.items; failing = c.self.inside.failing.items; stop = c.self.inside.stop; killed = c.self.inside.killed } in
-    let may : may_ask m.local c.args.request ≡ true = subst (λ (x : Memory). may_ask x.local c.args.request ≡ true) (sym c.self.view_is) c.requires.may in
+    let may : may_be_called m.local c.args.request ≡ true = subst (λ (x : Memory). may_be_called x.local c.args.request ≡ true) (sym c.self.view_is) c.requires.may in
     let alive : c.self.inside.killed ≡ false = not_killed m c.args.request (subst (λ (x : Memory). is_stopped x c.args.request ≡ false) (sym c.self.view_is) c.requires.lives) may c.self.invariant.was in
     let facts : Facts c.self.inside.past.items me (local_of c.self.inside.own) = facts_of c.self.inside.past me (local_of c.self.inside.own) _ c.self.inside.killed c.self.invariant alive in
     let before : List Event = with_steps me c.self.inside.past.items (due (c.self.inside.numbered + 1) true c.self.inside.pending.items) in
@@ -26,7 +26,7 @@ pub invariant_of-self-2 : goal.invariant_of-self-2
 invariant_of-self-2 c =
     let me = c.self.inside.process in
     let m : Memory = record { trace = c.self.inside.past.items; process = c.self.inside.process; faults = c.self.inside.faults; calls = c.self.inside.calls; numbered = c.self.inside.numbered; local = local_of c.self.inside.own; pending = c.self.inside.pending.items; failing = c.self.inside.failing.items; stop = c.self.inside.stop; killed = c.self.inside.killed } in
-    let may : may_ask m.local c.args.request ≡ true = subst (λ (x : Memory). may_ask x.local c.args.request ≡ true) (sym c.self.view_is) c.requires.may in
+    let may : may_be_called m.local c.args.request ≡ true = subst (λ (x : Memory). may_be_called x.local c.args.request ≡ true) (sym c.self.view_is) c.requires.may in
     let alive : c.self.inside.killed ≡ false = not_killed m c.args.request (subst (λ (x : Memory). is_stopped x c.args.request ≡ false) (sym c.self.view_is) c.requires.lives) may c.self.invariant.was in
     let facts : Facts c.self.inside.past.items me (local_of c.self.inside.own) = facts_of c.self.inside.past me (local_of c.self.inside.own) _ c.self.inside.killed c.self.invariant alive in
     let before : List Event = with_steps me c.self.inside.past.items (due (c.self.inside.numbered + 1) true c.self.inside.pending.items) in

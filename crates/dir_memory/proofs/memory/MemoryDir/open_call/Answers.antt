@@ -1,7 +1,7 @@
 use Rattle.std.proofs.Common.{true, sym, subst}
 use Rattle.dir_model.specs.declared.request.Reply.{Reply}
 use Rattle.dir_trait.specs.DirCalls.{DirCall}
-use Rattle.dir_memory.specs.Memories.{Follows, shown_of}
+use Rattle.dir_memory.specs.Memories.{MemoryFollows, dir_of_memory}
 use Rattle.dir_memory.proofs.Calling.{shape_opening, follows_says, follows_called, opened_failed, opened_refused, opened_unopened}
 use Rattle.dir_memory.proofs.memory.MemoryDir.open_call.Goals as goal
 
@@ -15,10 +15,10 @@ pub returns-clause-refusals : goal.returns-clause-refusals
 returns-clause-refusals c = opened_refused c.args.self.now c.args.request c.call.result c.call.new.self (follows_says c.args.self.now c.args.request c.call.result c.call.new.self c.requires.numbered c.requires.plain c.call.ensures.follows) c.opened_of.result c.opened_of.ensures
 
 pub returns-clause-called : goal.returns-clause-called
-returns-clause-called c = subst (λ (r : Reply). DirCall true (shown_of c.args.self.now) c.args.request r (shown_of c.call.new.self)) (sym c.opened_of.ensures) (follows_called c.args.self.now c.args.request c.call.result c.call.new.self c.requires.numbered c.requires.plain c.call.ensures.run c.call.ensures.faults c.call.ensures.follows)
+returns-clause-called c = subst (λ (r : Reply). DirCall true (dir_of_memory c.args.self.now) c.args.request r (dir_of_memory c.call.new.self)) (sym c.opened_of.ensures) (follows_called c.args.self.now c.args.request c.call.result c.call.new.self c.requires.numbered c.requires.plain c.call.ensures.run c.call.ensures.faults c.call.ensures.follows)
 
 pub returns-clause-follows : goal.returns-clause-follows
-returns-clause-follows c = subst (λ (r : Reply). Follows c.args.self.now c.args.request r c.call.new.self) (sym c.opened_of.ensures) c.call.ensures.follows
+returns-clause-follows c = subst (λ (r : Reply). MemoryFollows c.args.self.now c.args.request r c.call.new.self) (sym c.opened_of.ensures) c.call.ensures.follows
 
 pub returns-clause-unopened : goal.returns-clause-unopened
 returns-clause-unopened c = opened_unopened c.args.self.now.local c.call.result c.call.ensures.unopened c.opened_of.result c.opened_of.ensures

@@ -1,6 +1,0 @@
-use Rattle.std.proofs.Common.{arith}
-use Rattle.rule_marks.proofs.Texts.{scan_first}
-use Rattle.rule_marks.proofs.path.parent.Goals as goal
-
-pub bytes-init : goal.bytes-init
-bytes-init c = (omega arith, scan_first c.args.path.now)
