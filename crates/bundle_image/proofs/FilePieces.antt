@@ -1,5 +1,5 @@
 -- One more piece of a file.
-use Rattle.std.proofs.Common.{arith, ◌≡◌, ◌⊎◌, inl, inr, ◌≤◌, ◌<◌, ◌+◌, ◌-◌, ℕ, Bool, true, nat_lt, min, List, [], ◌++◌, length, take, drop, refl, sym, ap, subst, ◌∙◌, Option, Some, None, IsSomeAnd, take_all}
+use Rattle.std.proofs.Common.{arith, ◌≡◌, ◌⊎◌, inl, inr, ◌≤◌, ◌<◌, ◌+◌, ◌-◌, ℕ, Bool, true, nat_lt, min, List, [], ◌++◌, length, take, drop, refl, sym, ap, subst, ◌∙◌, Option, Some, None, IsSomeAnd}
 use Rattle.std.proofs.Math.Seq.{take-add}
 use Rattle.std.proofs.lemmas.Grind.{common_steps}
 use Rattle.plain_laws.proofs.Fronts.{take_past, taken_past}
@@ -37,7 +37,7 @@ module _ (file old room filled new : List ℕ) (n : ℕ) (first : old ≡ take (
   pub front : IsFront (nat_lt n (length filled)) new file
   front = record {
     first = new_is ∙ take_past (length old + n) (length new) file (let e = new_length in grind (arith, common_steps));
-    whole = λ short. new_is ∙ (take_past (length old + n) (length file) file (past short) ∙ take_all file);
+    whole = λ short. new_is ∙ (take_past (length old + n) (length file) file (past short) ∙ taken_past (length file) file (omega arith));
   }
 
 pub next_front : (file : Option (List ℕ)) (old room filled new : List ℕ) (n : ℕ) → IsFrontOrNothing file old → IsSomeAnd file (λ f. Fills f (length old) room n filled) → new ≡ old ++ take n filled → IsSomeAnd file (IsFront (nat_lt n (length filled)) new)

@@ -1,8 +1,9 @@
 -- What the choice among the pods that listings showed tells of the pods.
-use Rattle.std.proofs.Common.{◌≡◌, ℕ, Bool, true, false, cond, bytes_eq, take, length, Option, Some, None, option_map, is_some, List, filter, Result, Ok, Err, IfOk, IsOkAnd, refl, sym, ap, subst, ◌∙◌, take_all}
+use Rattle.std.proofs.Common.{arith, ◌≡◌, ℕ, Bool, true, false, cond, bytes_eq, take, length, Option, Some, None, option_map, is_some, List, filter, Result, Ok, Err, IfOk, IsOkAnd, refl, sym, ap, subst, ◌∙◌}
 use Rattle.std.specs.List.Sorted.{IsStrictlySortedBy}
 use Rattle.std.specs.Ordering.{nat_cmp}
 use Rattle.std.specs.Cmp.Lexicographic.{slice_cmp}
+use Rattle.plain_laws.proofs.Fronts.{taken_past}
 use Rattle.plain_laws.proofs.Texts.{same_bytes, same_text}
 use Rattle.dir_model.specs.declared.pod.PodId.{PodId}
 use Rattle.dir_model.specs.Pods.{pod_text, pod_of_text, is_pod_text, bytes_read}
@@ -104,14 +105,14 @@ least_two observed word old new pods (Ok pod) f chosen = tt
 pub whole_begins : (word name : List ℕ) → length word ≡ 36 → is_pod_name name ≡ true → begins word name ≡ true → name ≡ word
 whole_begins word name long pod so =
     let same : length word ≡ length name = long ∙ sym (text_long (is_pod_text name) refl pod) in
-    sym (take_all name) ∙ (ap (λ n. take n name) (sym same) ∙ sym (same_text word (take (length word) name) so))
+    sym (taken_past (length name) name (omega arith)) ∙ (ap (λ n. take n name) (sym same) ∙ sym (same_text word (take (length word) name) so))
   where
     text_long : (b : Bool) → is_pod_text name ≡ b → is_some (cond b (option_map (λ bytes. let p : PodId = record { bytes = bytes } in p) (bytes_read name)) None) ≡ true → length name ≡ 36
     text_long true text is = (passes_text name text).0
     text_long false text is = cc
 
 pub whole_meant : (word : List ℕ) (pod : PodId) → pod_text pod.bytes ≡ word → NamesMeant word (Ok pod)
-whole_meant word pod text = ap (begins word) text ∙ (ap (λ l. bytes_eq word l) (take_all word) ∙ same_bytes word)
+whole_meant word pod text = ap (begins word) text ∙ (ap (λ l. bytes_eq word l) (taken_past (length word) word (omega arith)) ∙ same_bytes word)
 
 pub whole_found : (word : List ℕ) (old new : DirAt) (pod : PodId) → length word ≡ 36 → pod_text pod.bytes ≡ word → FindsTheOne word (Ok pod) old new
 whole_found word old new pod long text conforming name is so each = text ∙ sym (whole_begins word name long is so)

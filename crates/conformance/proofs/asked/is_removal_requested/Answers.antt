@@ -10,4 +10,4 @@ returns-in-None c =
 pub returns-in-Some : goal.returns-in-Some
 returns-in-Some c =
     let found = rw c.as_slice.ensures at c.in-Some.ensures in
-    (rw c.from.ensures at c.asks_at-in-Some.ensures) ∙ asked c.args.seen.now.standing.intent c.args.name.now c.args.seen.now.created (Some c.in-Some.mark.now) (sym found)
+    c.asks_at-in-Some.ensures ∙ asked c.args.seen.now.standing.intent c.args.name.now c.args.seen.now.created (Some c.in-Some.mark.now) (sym found)
