@@ -39,6 +39,7 @@ no_tree_below images app (l ∷ lines) = by l.entry (no_tree_below images app li
   where
     at_entry : TreeEntry → ListingLine
     at_entry entry = record { path = l.path; entry = entry }
+
     by : (entry : TreeEntry) → copies_no_tree (root_entries images app lines) ≡ true → copies_no_tree (root_entries images app (at_entry entry ∷ lines)) ≡ true
     by (Dir meta) others = others
     by (File meta size sha) others = others
@@ -75,6 +76,7 @@ content_reads (Copied origin size sha) no r h = by origin.folder h
         off : (b : Bool) → not b ≡ true → b ≡ false
         off true h = cc
         off false h = refl
+
     by : (folder : Option (List ℕ)) → reads_stored (in_image origin.path folder) r ≡ true → reads_trees_of [] r ≡ true
     by None h = cc
     by (Some name) h = other_file (record { area = Images; name = name }) origin.path apart r h

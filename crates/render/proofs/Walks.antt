@@ -55,6 +55,7 @@ fewer after p first (e ∷ es) some = by (is_after (Some p) e.0) refl (is_after 
         at true false f h = let no : false ≡ true = f refl in absurd cc
         at false true f h = omega (arith, h)
         at false false f h = h
+
     by : (b : Bool) → is_after (Some p) e.0 ≡ b → (c : Bool) → is_after after e.0 ≡ c → ((e.0 ≢ p) → length (entries_after (Some p) es) < length (entries_after after es)) → length (entries_after (Some p) es) ≤ length (entries_after after es)
         → length (cond b (e ∷ entries_after (Some p) es) (entries_after (Some p) es)) < length (cond c (e ∷ entries_after after es) (entries_after after es))
     by true k true m strict weak = let h = strict (λ same. not_after_itself p (subst (λ (q : List ℕ). is_after (Some p) q ≡ true) same k)) in omega (arith, h)
@@ -89,6 +90,7 @@ module _ (r : Rendering) where
           let others : fs ≡ files_among r rest = more (Some e.0) fs (one_copied r after e rest left) (subst (λ (p : List ℕ). IsWalk r (Some p) fs) same walk.1) in
           let first : f ≡ (e.0, i) = ap (λ (p : List ℕ). (p, f.1)) same ∙ ap (λ (n : ℕ). (e.0, n)) image in
           ap (λ x. x ∷ fs) first ∙ ap (λ xs. (e.0, i) ∷ xs) others
+
       by : (fs : List (List ℕ × ℕ)) → IsWalk r after fs → ((a : Option (List ℕ)) (gs : List (List ℕ × ℕ)) → AreLeft r a rest → IsWalk r a gs → gs ≡ files_among r rest) → (o : Option ℕ) → source_at r e.0 ≡ o → fs ≡ cons_option (option_map (λ image. (e.0, image)) o) (files_among r rest)
       by fs walk more None none = more after fs (one_passed r after e rest none left) walk
       by fs walk more (Some i) is = met fs walk more i is (next_file r after e rest i is left)
