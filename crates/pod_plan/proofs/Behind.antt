@@ -1,9 +1,10 @@
 -- Each line of a listing comes behind the one before it.
-use Rattle.std.proofs.Common.{◌≡◌, ◌<◌, ℕ, zero, suc, true, List, [], ◌∷◌, length, get_or, refl, ap, arith}
+use Rattle.std.proofs.Common.{◌≡◌, ◌<◌, ℕ, zero, suc, true, List, [], ◌∷◌, length, get_or, Equal, refl, ap, ◌∙◌, arith}
 use Rattle.std.specs.List.Sorted.{IsStrictlySortedBy}
 use Rattle.std.specs.Map.{keys_of}
-use Rattle.std.specs.Ordering.{nat_cmp, is_lt}
-use Rattle.std.specs.Cmp.Lexicographic.{slice_cmp}
+use Rattle.std.specs.Ordering.{nat_cmp, is_lt, is_eq}
+use Rattle.std.specs.Cmp.Lexicographic.{slice_cmp, texts_ties}
+use Rattle.std.proofs.lemmas.Slice.Eq.{bytes_eq-Decides}
 use Rattle.std.proofs.lemmas.Map.Keys.{sorted_head, sorted_tail}
 use Rattle.path_map.specs.After.{is_after}
 use Rattle.tree_digest.specs.declared.line.ListingLine.{ListingLine}
@@ -20,3 +21,7 @@ rises (l ∷ m ∷ ls) rising (suc (suc i)) d within = rises (m ∷ ls) (sorted_
 
 pub comes_behind : (lines : List ListingLine) → IsListing lines → (i : ℕ) (d : ListingLine) → i < length lines → is_after (path_before lines i) (get_or lines i d).path ≡ true
 comes_behind lines kind i d within = rises lines (rising_lines [] lines kind.follow) i d within
+
+-- two paths that neither comes before the other are one
+pub same_path : (p q : List ℕ) → slice_cmp nat_cmp p q ≡ Equal → p ≡ q
+same_path p q tie = (bytes_eq-Decides p q).0 (texts_ties p q ∙ ap is_eq tie)

@@ -66,12 +66,12 @@ choice_copies {observed} {images} {manifests} {refs} {options} {now} {token} {pl
 
 -- then none is read while it is carried out
 content_reads : (content : Content) → is_no_tree content ≡ true → (r : Request) → reads_content in_images content r ≡ true → reads_trees_of [] r ≡ true
-content_reads Directory no r h = cc
-content_reads (Given bytes) no r h = cc
-content_reads (Copied origin size sha) no r h = by origin.folder h
+content_reads Directory free r h = cc
+content_reads (Given bytes) free r h = cc
+content_reads (Copied origin size sha) free r h = by origin.folder h
   where
     apart : bytes_eq origin.path tree_name ≡ false
-    apart = off (bytes_eq origin.path tree_name) no
+    apart = off (bytes_eq origin.path tree_name) free
       where
         off : (b : Bool) → not b ≡ true → b ≡ false
         off true h = cc
@@ -82,10 +82,10 @@ content_reads (Copied origin size sha) no r h = by origin.folder h
     by (Some name) h = other_file (record { area = Images; name = name }) origin.path apart r h
 
 pub contents_read : (plan : List PlanEntry) → copies_no_tree plan ≡ true → (r : Request) → reads_contents in_images plan r ≡ true → reads_trees_of [] r ≡ true
-contents_read [] no r h = cc
-contents_read (e ∷ plan) no r h =
-    by (reads_content in_images e.content r) refl (contents_read plan (and_right (is_no_tree e.content) (copies_no_tree plan) no) r) h
+contents_read [] free r h = cc
+contents_read (e ∷ plan) free r h =
+    by (reads_content in_images e.content r) refl (contents_read plan (and_right (is_no_tree e.content) (copies_no_tree plan) free) r) h
   where
     by : (b : Bool) → reads_content in_images e.content r ≡ b → (reads_contents in_images plan r ≡ true → reads_trees_of [] r ≡ true) → (b || reads_contents in_images plan r) ≡ true → reads_trees_of [] r ≡ true
-    by true is others h = content_reads e.content (and_left (is_no_tree e.content) (copies_no_tree plan) no) r is
+    by true is others h = content_reads e.content (and_left (is_no_tree e.content) (copies_no_tree plan) free) r is
     by false is others h = others h

@@ -22,7 +22,7 @@ use tree_digest::ListingLine;
 
 // The place of the image whose file stands at a path. The files are gone through from behind another path on.
 fn copy_at(rendering: &Rendering, behind: Option<&AbsPath>, path: &AbsPath) -> Option<usize>
-    requires { is_after (option_copied behind.entry) path.now ≡ true }
+    requires { is_after (option_copied behind) path.now ≡ true }
     ensures { result ≡ source_at rendering.now path.now }
 {
     let mut behind = behind;
@@ -43,7 +43,7 @@ fn image_of(
     behind: Option<&AbsPath>,
     line: &ListingLine,
 ) -> Option<Name>
-    requires { is_after (option_copied behind.entry) line.now.path ≡ true }
+    requires { is_after (option_copied behind) line.now.path ≡ true }
     ensures { result ≡ for_file line.now.entry (image_of images.now app.now line.now.path) }
 {
     match &line.entry {

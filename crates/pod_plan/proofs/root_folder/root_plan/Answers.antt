@@ -14,12 +14,12 @@ lines-preserved c = record {
   place = rw c.lines.invariant.place refl;
   at =
       goes_on c.args.images.now c.args.app.now c.as_slice-lines.result.now c.lines.line-index c.line-item.result c.args.plan.items (into_iter_items c.lines.made) (into_iter_items c.take_next-entry.new.made) c.lines.plan.items c.add.new.plan.items
-      c.take_next-entry.result c.image_of.result (search (rules, c.lines-test.true)) c.lines.invariant.at (search (rules, c.line-item.is, c.take_next-entry.ensures.taken)) (search (rules, c.line-item.is, c.take_next-entry.ensures.left))
-      (search (rules, c.line-item.is, c.image_of.ensures)) (search (rules, c.in_ok-add.ensures));
+      c.take_next-entry.result c.image_of-image.result (search (rules, c.lines-test.true)) c.lines.invariant.at (search (rules, c.line-item.is, c.take_next-entry.ensures.taken)) (search (rules, c.line-item.is, c.take_next-entry.ensures.left))
+      (search (rules, c.line-item.is, c.image_of-image.ensures)) (search (rules, c.in_ok-add.ensures));
 }
 
-pub image_of-requires : goal.image_of-requires
-image_of-requires c =
+pub image_of-image-requires : goal.image_of-image-requires
+image_of-image-requires c =
     let lines = c.as_slice-lines.result.now in
     subst (λ (behind : Option (List ℕ)). is_after behind c.line-item.result.path ≡ true) (sym (c.path_before.ensures ∙ ap (path_before lines) c.lines.invariant.place))
     (subst (λ (line : ListingLine). is_after (path_before lines c.lines.line-index) line.path ≡ true) (sym c.line-item.is)
