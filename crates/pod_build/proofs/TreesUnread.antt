@@ -54,18 +54,18 @@ closes_none handle (ReadIn inner at room) is = cc
 closes_none handle request is = refl
 
 fills_none : (spot : Spot) (plan : List PlanEntry) → copies_no_tree plan ≡ true → ReadNoTree (either (builds_at spot) (reads_contents in_images plan))
-fills_none spot plan unread r is = by (builds_at spot r) refl is
+fills_none spot plan free r is = by (builds_at spot r) refl is
   where
     by : (b : Bool) → builds_at spot r ≡ b → (b || reads_contents in_images plan r) ≡ true → reads_trees_of [] r ≡ true
     by true built h = builds_none spot r built
-    by false built h = contents_read plan unread r h
+    by false built h = contents_read plan free r h
 
 -- in embryo, while the pod is filled, and as it is handed over
 pub begun_unread : {observed : Bool} {local : Local} {a b : DirAt} (draw : PodId) → LeavesOpen observed (begins_pod draw) local a b → ReadsNoTrees observed a b
 begun_unread draw w = unread (begins_none draw) w.same w.extends
 
 pub filled_unread : {observed : Bool} {a b : DirAt} (spot : Spot) (plan : List PlanEntry) → copies_no_tree plan ≡ true → OnlyAsks observed (either (builds_at spot) (reads_contents in_images plan)) a b → ReadsNoTrees observed a b
-filled_unread spot plan unread w = unread (fills_none spot plan unread) w.same w.extends
+filled_unread spot plan free w = unread (fills_none spot plan free) w.same w.extends
 
 pub handed_unread : {observed : Bool} {a b : DirAt} (draw : PodId) (to : Area) → OnlyAsks observed (hands_pod draw to) a b → ReadsNoTrees observed a b
 handed_unread draw to w = unread (hands_none draw to) w.same w.extends

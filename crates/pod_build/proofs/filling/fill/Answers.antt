@@ -44,7 +44,7 @@ pub returns-in-Ok-clause-had : goal.returns-in-Ok-clause-had
 returns-in-Ok-clause-had g c = c.in-Ok.ensures.had
 
 pub returns-in-Ok-clause-trees : goal.returns-in-Ok-clause-trees
-returns-in-Ok-clause-trees g c unread = filled_unread c.pod_at-spot.result c.args.plan.now unread c.carry_out.ensures.copies
+returns-in-Ok-clause-trees g c free = filled_unread c.pod_at-spot.result c.args.plan.now free c.carry_out.ensures.copies
 
 pub returns-in-Err-clause-trees : goal.returns-in-Err-clause-trees
-returns-in-Err-clause-trees g c unread = filled_unread c.pod_at-spot.result c.args.plan.now unread c.carry_out.ensures.copies
+returns-in-Err-clause-trees g c free = filled_unread c.pod_at-spot.result c.args.plan.now free c.carry_out.ensures.copies

@@ -102,4 +102,4 @@ returns-clause-had g c =
     ok_any c.hand_over.result (λ t. all_had_before (D.shown c.fill.new.dir) (D.shown c.hand_over.new.dir) (c.hand_over.ensures.worked.extends t) in_images c.args.plan.now (D.shown c.args.dir.now) c.fill.ensures.worked.same (c.in_ok-fill.ensures.had t))
 
 pub returns-clause-trees : goal.returns-clause-trees
-returns-clause-trees g c unread = trees_more (c.fill.ensures.trees unread) (handed_unread c.args.draw c.args.to c.hand_over.ensures.worked)
+returns-clause-trees g c free = trees_more (c.fill.ensures.trees free) (handed_unread c.args.draw c.args.to c.hand_over.ensures.worked)

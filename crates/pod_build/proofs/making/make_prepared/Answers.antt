@@ -133,7 +133,7 @@ returns-clause-had g c =
     c.finish_pod-result.ensures.had
 
 pub returns-in_err-own-clause-trees : goal.returns-in_err-own-clause-trees
-returns-in_err-own-clause-trees g c unread = begun_unread c.args.draw c.begin_pod.ensures.went
+returns-in_err-own-clause-trees g c free = begun_unread c.args.draw c.begin_pod.ensures.went
 
 pub returns-clause-trees : goal.returns-clause-trees
-returns-clause-trees g c unread = trees_more (trees_more (begun_unread c.args.draw c.begin_pod.ensures.went) (c.finish_pod-result.ensures.trees unread)) (closed_unread c.close.ensures.called)
+returns-clause-trees g c free = trees_more (trees_more (begun_unread c.args.draw c.begin_pod.ensures.went) (c.finish_pod-result.ensures.trees free)) (closed_unread c.close.ensures.called)

@@ -121,10 +121,10 @@ returns-in-Ok-clause-had g c t =
     all_had_after (D.shown c.args.dir.now) (D.shown c.begin_pod.new.dir) (c.begin_pod.ensures.went.extends t) c.begin_pod.ensures.went.same in_images c.args.plan.now (D.shown c.finish_pod.new.dir) (c.in-Ok.ensures.had t)
 
 pub returns-in_err-own-clause-trees : goal.returns-in_err-own-clause-trees
-returns-in_err-own-clause-trees g c unread = begun_unread c.args.draw c.begin_pod.ensures.went
+returns-in_err-own-clause-trees g c free = begun_unread c.args.draw c.begin_pod.ensures.went
 
 pub returns-in-Ok-clause-trees : goal.returns-in-Ok-clause-trees
-returns-in-Ok-clause-trees g c unread = trees_more (begun_unread c.args.draw c.begin_pod.ensures.went) (c.finish_pod.ensures.trees unread)
+returns-in-Ok-clause-trees g c free = trees_more (begun_unread c.args.draw c.begin_pod.ensures.went) (c.finish_pod.ensures.trees free)
 
 pub returns-in-Err-clause-trees : goal.returns-in-Err-clause-trees
-returns-in-Err-clause-trees g c unread = trees_more (trees_more (begun_unread c.args.draw c.begin_pod.ensures.went) (c.finish_pod.ensures.trees unread)) (closed_unread c.close.ensures.called)
+returns-in-Err-clause-trees g c free = trees_more (trees_more (begun_unread c.args.draw c.begin_pod.ensures.went) (c.finish_pod.ensures.trees free)) (closed_unread c.close.ensures.called)
