@@ -28,7 +28,6 @@ use Rattle.pod_locks.specs.Running.{IsOwned, RunsPod}
 use Rattle.pod_locks.specs.Work.{Grew}
 use Rattle.pod_build.specs.Progress.{seen_making, nothing_made, handed, own_held, and_own}
 use Rattle.pod_build.specs.Work.{WhereMakingPod, HasMakerFolder}
-use Rattle.pod_build.specs.Work as making
 use Rattle.pod_build.proofs.Handing.{HandsNothingOver}
 use Rattle.pod_build.specs.declared.error.BuildError.{BuildError}
 use Rattle.pod_build.specs.declared.built.Built.{Built}
@@ -62,12 +61,12 @@ pub kept_owned : (draw : PodId) (m : Local) (made : Built) (owned : Owned) → m
 kept_owned draw m made owned is answer = subst (λ (b : Built). IsBuildAnswer true draw m b) is answer
 
 -- what is open then
-pub made_went : {observed : Bool} {asks : Request → Bool} {a b : DirAt} (m : Local) (draw : PodId) (r : Result Built BuildError) (made : Built) (owned : Owned) → r ≡ Ok made → made ≡ built.Running owned → making.LeavesOpen observed asks (with_built m draw r) a b → making.LeavesOpen observed asks (and_own m draw owned.own) a b
+pub made_went : {observed : Bool} {asks : Request → Bool} {a b : DirAt} (m : Local) (draw : PodId) (r : Result Built BuildError) (made : Built) (owned : Owned) → r ≡ Ok made → made ≡ built.Running owned → LeavesOpen observed asks (with_built m draw r) a b → LeavesOpen observed asks (and_own m draw owned.own) a b
 made_went {observed} {asks} {a} {b} m draw r made owned is kept w =
-    subst (λ (x : Built). making.LeavesOpen observed asks (with_built m draw (Ok x)) a b) kept (subst (λ (x : Result Built BuildError). making.LeavesOpen observed asks (with_built m draw x) a b) is w)
+    subst (λ (x : Built). LeavesOpen observed asks (with_built m draw (Ok x)) a b) kept (subst (λ (x : Result Built BuildError). LeavesOpen observed asks (with_built m draw x) a b) is w)
 
-pub unmade_went : {observed : Bool} {asks : Request → Bool} {a b : DirAt} (m : Local) (draw : PodId) (r : Result Built BuildError) (e : BuildError) → r ≡ Err e → making.LeavesOpen observed asks (with_built m draw r) a b → making.LeavesOpen observed asks m a b
-unmade_went {observed} {asks} {a} {b} m draw r e is w = subst (λ (x : Result Built BuildError). making.LeavesOpen observed asks (with_built m draw x) a b) is w
+pub unmade_went : {observed : Bool} {asks : Request → Bool} {a b : DirAt} (m : Local) (draw : PodId) (r : Result Built BuildError) (e : BuildError) → r ≡ Err e → LeavesOpen observed asks (with_built m draw r) a b → LeavesOpen observed asks m a b
+unmade_went {observed} {asks} {a} {b} m draw r e is w = subst (λ (x : Result Built BuildError). LeavesOpen observed asks (with_built m draw x) a b) is w
 
 -- a run hands nothing over
 pub runs_hand_none : (pod : PodId) (own : Handle) → HandsNothingOver (runs_and_closes pod own)
@@ -90,7 +89,7 @@ runs_in draw own r is = by (closes own r) (prepares draw area.Run r) (closes_pre
     by false true so h = refl
     by false false so h = h
 
-pub made_worked : {observed : Bool} {a b c : DirAt} {m : Local} (draw : PodId) (owned : Owned) (h : Holding) → IsOwned draw m owned → h.handle ≡ owned.own → a.local.holdings ≡ [] → making.LeavesOpen observed (prepares draw area.Run) (and_holding a.local h) a b →
+pub made_worked : {observed : Bool} {a b c : DirAt} {m : Local} (draw : PodId) (owned : Owned) (h : Holding) → IsOwned draw m owned → h.handle ≡ owned.own → a.local.holdings ≡ [] → LeavesOpen observed (prepares draw area.Run) (and_holding a.local h) a b →
     LeavesOpen observed (runs_and_closes owned.pod owned.own) (without b.local owned.own) b c → OnlyAsks observed (makes_and_runs draw) a c
 made_worked {observed} {a} {b} {c} draw owned h own is none w v = record {
   same = v.same ∙ w.same;
@@ -99,7 +98,7 @@ made_worked {observed} {a} {b} {c} draw owned h own is none w v = record {
   extends = λ t. and_more (extends_wider (prepares_in draw) (w.extends t)) w.same (extends_wider (runs_in draw owned.own) (subst (λ (p : PodId). ExtendsBy (runs_and_closes p owned.own) b c) own.is (v.extends t)));
 }
 
-pub unmade_worked : {observed : Bool} {a b : DirAt} (draw : PodId) → making.LeavesOpen observed (prepares draw area.Run) a.local a b → OnlyAsks observed (makes_and_runs draw) a b
+pub unmade_worked : {observed : Bool} {a b : DirAt} (draw : PodId) → LeavesOpen observed (prepares draw area.Run) a.local a b → OnlyAsks observed (makes_and_runs draw) a b
 unmade_worked draw w = record { same = w.same; faults = w.faults; local = w.local_is; extends = λ t. extends_wider (prepares_in draw) (w.extends t) }
 
 -- it runs the pod that it made
