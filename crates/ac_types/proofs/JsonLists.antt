@@ -7,7 +7,7 @@ use Rattle.serde_json.specs.View.{view, items_view, items_of}
 use Rattle.serde_json.specs.declared.value.Value.{Value}
 use Rattle.ac_types.specs.FieldForms.{elements}
 
-elements_of : (ds : List Data) → elements (items_of ds) ≡ ds
+pub elements_of : (ds : List Data) → elements (items_of ds) ≡ ds
 elements_of [] = refl
 elements_of (d ∷ ds) = ap (λ (es : List Data). d ∷ es) (elements_of ds)
 

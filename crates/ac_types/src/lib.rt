@@ -42,7 +42,7 @@ pub use label::{Label, LabelFault};
 pub use labels::Labels;
 pub use memory::NoMemory;
 pub use name_error::NameError;
-pub use refusals::{BAD_ID, BAD_REF, ID_DIGITS, MAX_IDENTIFIER, MAX_NAME, MIN_DIGITS};
+pub use refusals::{BAD_ID, BAD_REF, ID_DIGITS, MAX_IDENTIFIER, MAX_NAME, MIN_DIGITS, MOST_OF_ID};
 pub use required_readers::{
     filled_text, name_fault, required_field, required_identifier, required_name, required_port,
     required_text, required_whole,

@@ -17,3 +17,6 @@ pub const MIN_DIGITS: usize = 2;
 
 /// The hex digits of an image ID.
 pub const ID_DIGITS: usize = 128;
+
+/// The most bytes that are read of a file with an image ID: one more than an ID and a line end.
+pub const MOST_OF_ID: usize = 137;

@@ -13,6 +13,7 @@ use Rattle.ac_types.specs.FieldForms.{present, unless_null, flag, list, elements
 use Rattle.ac_types.specs.JsonPaths.{field_path}
 use Rattle.ac_types.specs.Outcomes.{Outcome, reads, ◌>>=◌}
 use Rattle.ac_types.specs.declared.fault.FaultKind.{FaultKind}
+use Rattle.ac_types.proofs.JsonLists.{elements_of}
 use Rattle.app_section.specs.ListForms.{list_of, named_list_of}
 use Rattle.app_section.specs.Objects.{Field, written, if_true, if_filled, list_data}
 use Rattle.app_section.proofs.Readings.{GivesOnly, Gives, Rereads, AreNamed, gives, gives_then, then_reads, no_fault, all_given, all_again, named_given, named_again, no_names, once_given, once_again}
@@ -111,10 +112,6 @@ flag_again at name fields true there = ap (default_at false flag (field_path at 
 flag_again at name fields false there = ap (default_at false flag (field_path at name)) (present_in name fields _ there)
 
 -- ---- lists
-
-elements_of : (ds : List Data) → elements (items_of ds) ≡ ds
-elements_of [] = refl
-elements_of (d ∷ ds) = ap (λ (es : List Data). d ∷ es) (elements_of ds)
 
 abbrev pub list_then : {A : Type 0} → (List ℕ → List Data → Outcome (List A)) → List ℕ → Data → Outcome (List A)
 list_then next at d = list at d >>= next at

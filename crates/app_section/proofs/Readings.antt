@@ -3,6 +3,7 @@ use Rattle.std.proofs.Common.{◌≡◌, ℕ, Bool, true, false, List, [], ◌�
 use Rattle.std.specs.Prelude.{◌||◌}
 use Rattle.std.specs.List.{All, AllByRecursion}
 use Rattle.std.specs.Str.{bytes_eq}
+use Rattle.std.proofs.Math.Bool.{or_assoc, or-false}
 use Rattle.std.proofs.lemmas.Bool.{or_from, or_parts}
 use Rattle.std.proofs.lemmas.List.Elements.{All-nil, All-cons, All-head, All-tail}
 use Rattle.std.proofs.lemmas.Map.Keys.{IsDistinct-cons, IsDistinct-head, IsDistinct-tail, IsDistinct-from_apart}
@@ -141,20 +142,12 @@ all_again {P = P} {form = form} {write = write} again at xs are =
 abbrev pub IsNew : {A : Type 0} → (A → List ℕ) → (A → Type 0) → List A → A → Type 0
 IsNew name_of P before x = P x × (is_among (name_of x) (map name_of before) ≡ false)
 
-or_assoc : (a b c : Bool) → (a || (b || c)) ≡ ((a || b) || c)
-or_assoc true b c = refl
-or_assoc false b c = refl
-
-or_none : (a : Bool) → (a || false) ≡ a
-or_none true = refl
-or_none false = refl
-
 among_push : {A : Type 0} (name_of : A → List ℕ) (before : List A) (x : A) (t : List ℕ)
     → is_among t (map name_of (before ++ x ∷ [])) ≡ (is_among t (map name_of before) || bytes_eq (name_of x) t)
-among_push name_of [] x t = or_none (bytes_eq (name_of x) t)
+among_push name_of [] x t = or-false (bytes_eq (name_of x) t)
 among_push name_of (b ∷ before) x t =
     ap (λ r. bytes_eq (name_of b) t || r) (among_push name_of before x t)
-    ∙ or_assoc (bytes_eq (name_of b) t) (is_among t (map name_of before)) (bytes_eq (name_of x) t)
+    ∙ sym (or_assoc (bytes_eq (name_of b) t) (is_among t (map name_of before)) (bytes_eq (name_of x) t))
 
 -- none of the elements has a name of those before
 abbrev AreApart : {A : Type 0} → (A → List ℕ) → List A → List A → Type 0

@@ -10,7 +10,8 @@ use Rattle.tree_digest.specs.declared.line.ListingLine.{ListingLine}
 use Rattle.tree_digest.specs.Listings.{entries_of, IsListable}
 use Rattle.bundle_image.specs.Walks.{ComesBefore, AreInWalkOrder}
 use Rattle.bundle_image.specs.Work.{HasDirectories, HaveDirectories}
-use Rattle.bundle_image.proofs.Look.{at_more, at_end, none_yet}
+use Rattle.tree_digest.proofs.MapLines.{at_more}
+use Rattle.bundle_image.proofs.Look.{at_end, none_yet}
 
 each_at : (P : ListingLine → Type 0) (lines : List ListingLine) (i : ℕ) (d : ListingLine) → AllByRecursion P lines → i < length lines → P (get_or lines i d)
 each_at P [] i d all inside = absurd (omega arith)

@@ -3,6 +3,7 @@ use Rattle.std.proofs.Common.{◌≡◌, ◌≢◌, ℕ, true, false, cond, List
 use Rattle.std.specs.Cmp.Lexicographic.{slice_cmp}
 use Rattle.std.specs.List.{AllByRecursion}
 use Rattle.std.specs.BTreeMap.{is_at}
+use Rattle.std.specs.Cmp.{Equal-is}
 use Rattle.std.specs.Ordering.{is_eq}
 use Rattle.std.proofs.lemmas.Bool.{cases_Bool, cond-true, cond-false, false_from_ne_true}
 use Rattle.std.proofs.lemmas.Cmp.{nat_list_cmp_total, tied_itself}
@@ -12,13 +13,13 @@ use Rattle.path_map.specs.declared.entry.Entry.{Entry}
 use Rattle.path_map.specs.Entries.{entry_at, is_directory_at}
 use Rattle.tree_digest.specs.declared.line.ListingLine.{ListingLine}
 use Rattle.tree_digest.specs.Listings.{entries_of}
-use Rattle.tree_digest.proofs.MapLines.{is_equal}
+use Rattle.tree_digest.proofs.MapLines.{at_more}
 use Rattle.bundle_image.specs.Entries.{IsEntryOf}
 use Rattle.bundle_image.specs.Walks.{Stands, IsAtOrBelow, ComesBefore, IsLinePath, IsLineOfBundle, IsWalked}
 use Rattle.bundle_image.proofs.Paths.{before_apart}
 
 is_here : (q path : List ℕ) → is_at (slice_cmp nat_cmp q) path ≡ true → q ≡ path
-is_here q path at = exact_bytes q path (is_equal _ at)
+is_here q path at = exact_bytes q path ((Equal-is _).0 at)
 
 here_is : (path : List ℕ) → is_at (slice_cmp nat_cmp path) path ≡ true
 here_is path = ap is_eq (tied_itself nat_list_cmp_total path)
@@ -32,11 +33,6 @@ module _ (line : ListingLine) (lines : List ListingLine) (q : List ℕ) where
 
   pub head_off : is_at (slice_cmp nat_cmp q) line.path ≡ false → entry_at (entries_of (line ∷ lines)) q ≡ entry_at (entries_of lines) q
   head_off off = cond-false (is_at (slice_cmp nat_cmp q) line.path) (Some line.entry) (entry_at (entries_of lines) q) off
-
--- a line more stands at its path alone
-pub at_more : (lines : List ListingLine) (line : ListingLine) (q : List ℕ) → line.path ≢ q → entry_at (entries_of (lines ++ line ∷ [])) q ≡ entry_at (entries_of lines) q
-at_more [] line q other = head_off line [] q (elsewhere q line.path other)
-at_more (l ∷ lines) line q other = ap (λ o. cond (is_at (slice_cmp nat_cmp q) l.path) (Some l.entry) o) (at_more lines line q other)
 
 -- nothing stands at or below what all lines come before
 pub none_yet : (lines : List ListingLine) (path q : List ℕ) → AllByRecursion (λ l. ComesBefore l.path path) lines → IsAtOrBelow q path → entry_at (entries_of lines) q ≡ None

@@ -1,6 +1,7 @@
 -- A map has as many entries, of as long a text, as the lines that it was made of.
 use Rattle.std.proofs.Common.{◌≡◌, ℕ, ◌+◌, Bool, true, false, cond, List, [], ◌∷◌, ◌++◌, length, Option, Some, None, nat_cmp, Less, sym, refl, ap, subst, ◌∙◌, inl, ⊎_elim, arith, length-append}
 use Rattle.std.proofs.Math.Path.{ap₂}
+use Rattle.std.specs.Cmp.{Equal-is}
 use Rattle.std.specs.Cmp.Lexicographic.{slice_cmp}
 use Rattle.std.specs.List.{AllByRecursion}
 use Rattle.std.specs.List.Sorted.{IsStrictlySortedBy}
@@ -17,7 +18,7 @@ use Rattle.path_map.proofs.Rising.{at_head}
 use Rattle.tree_digest.specs.declared.line.ListingLine.{ListingLine}
 use Rattle.tree_digest.specs.Lines.{line_text}
 use Rattle.tree_digest.specs.Listings.{listing_text, entries_of, lines_of}
-use Rattle.tree_digest.proofs.MapLines.{is_equal, differ_if_less}
+use Rattle.tree_digest.proofs.MapLines.{differ_if_less}
 use Rattle.bundle_image.specs.Lines.{AreFewLines}
 use Rattle.bundle_image.specs.Walks.{ComesBefore, AreInWalkOrder}
 use Rattle.bundle_image.proofs.Look.{elsewhere, head_here, head_off}
@@ -27,7 +28,7 @@ abbrev is_key : List ℕ → List ℕ → Bool
 is_key q key = is_at (slice_cmp nat_cmp q) key
 
 key_is : (q key : List ℕ) → is_key q key ≡ true → q ≡ key
-key_is q key at = exact_bytes q key (is_equal _ at)
+key_is q key at = exact_bytes q key ((Equal-is _).0 at)
 
 some_same : {x y : Entry} → Some x ≡ Some y → x ≡ y
 some_same is = cc

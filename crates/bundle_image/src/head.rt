@@ -10,24 +10,16 @@ ghost use Rattle.bundle_image.specs.Heads.{bundle_file_at, IsBundleManifestOf, I
 use crate::place::child;
 use crate::read_file;
 use crate::refusal::{BundleRefusal, bundle_refusal, listing_refusal, short_of_memory};
-use ac_types::{BadId, ImageId, ReadError, Text};
+use ac_types::{BadId, ImageId, MOST_OF_ID, ReadError, Text};
 use dir_trait::{Bundle, BundleError};
-use manifests::{ImageManifest, read_image};
+use manifests::{ImageManifest, MOST_OF_MANIFEST, read_image};
 use std::alloc::Global;
 use std::str;
 use tree_digest::Listing;
-
-// One byte more than a manifest may have, so that a longer one is told from the longest.
-const MOST_OF_MANIFEST: usize = 1_048_577;
+use tree_digest::refusals::MOST_OF_LISTING;
 
 // How long an ID's text is.
 const ID_LENGTH: usize = 135;
-
-// One byte more than an ID and a line end.
-const MOST_OF_ID: usize = 137;
-
-// One byte more than a listing may have.
-const MOST_OF_TREE: usize = 33_554_433;
 
 /// A manifest, and the bytes that it was read from.
 #[derive(Drop)]
@@ -153,7 +145,7 @@ pub(crate) fn read_tree<B: Bundle>(
     ensures ok { IfOk result (λ found. B.observed ≡ true → BundleGivesTree (B.shown bundle.old).tree path.now found) }
     ensures fault { IfErr result (λ r. B.observed ≡ true → IsBundleFailure r ⊎ FailsTree (B.shown bundle.old).tree path.now r) }
 {
-    match read_part(alloc, bundle, path, "tree", MOST_OF_TREE) {
+    match read_part(alloc, bundle, path, "tree", MOST_OF_LISTING) {
         Ok(bytes) => match Listing::read(alloc, &bytes) {
             Ok(listing) => Ok(Some(listing)),
             Err(error) => Err(listing_refusal(error)),

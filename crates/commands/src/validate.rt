@@ -11,11 +11,8 @@ use ac_types::{ReadError, Text};
 use bundle_image::read_file;
 use command_outcomes::{Output, Refusal};
 use dir_trait::{Bundle, BundleError};
-use manifests::{Document, read_document};
+use manifests::{Document, MOST_OF_MANIFEST, read_document};
 use std::alloc::{AllocError, Global};
-
-// One byte more than a manifest may have, so that a longer one is told from the longest.
-const MOST_READ: usize = 1_048_577;
 
 fn valid_line(alloc: Global, document: &Document) -> Result<Output, AllocError>
     ensures { IfOk result (λ line. line ≡ valid_text (document_data document.now)) }
@@ -82,7 +79,7 @@ pub fn validate<B: Bundle>(alloc: Global, path: &Text, bundle: &mut B) -> Result
     ensures reads { ReadsFileAlone path.now (bundle_at B.Bundle bundle.old) (bundle_at B.Bundle bundle.new) }
     ensures says { is_own_end result ≡ true → ValidateSays path.now (bundle_at B.Bundle bundle.old) result }
 {
-    match read_file(alloc, bundle, path.as_str(), MOST_READ) {
+    match read_file(alloc, bundle, path.as_str(), MOST_OF_MANIFEST) {
         Ok(bytes) => judge(alloc, bytes.as_slice()),
         Err(error) => Err(bundle_refusal(path, error)),
     }

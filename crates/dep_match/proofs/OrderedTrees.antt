@@ -5,7 +5,7 @@ use Rattle.std.specs.List.{All, list_any, position}
 use Rattle.std.proofs.lemmas.Bool.{cases_lt}
 use Rattle.std.proofs.lemmas.List.{get_or_append_left, get_or-append_right, length-append}
 use Rattle.std.proofs.lemmas.List.Elements.{All-append}
-use Rattle.std.proofs.lemmas.List.Quantifiers.{position-Some}
+use Rattle.plain_laws.proofs.Lists.{position_within}
 use Rattle.manifest_parts.specs.declared.dependency.Dependency.{Dependency}
 use Rattle.dep_match.specs.Dependencies.{and_then, branches, with_root, subtree, dependency_tree, next_image, unless_faulty, dependencies_at, key_at}
 use Rattle.dep_match.specs.Selection.{best_match, matches_dependency}
@@ -54,17 +54,16 @@ no_branches images first = record {
   roots = refl;
 }
 
-nil : DepNode
+-- a node that isn't in the tree
+abbrev pub nil : DepNode
 nil = record { image = 0; children = [] }
 
 module _ (images : List Stored) (first image : ℕ) (d : Dependency) (ds : List Dependency) (one : List DepNode) (numbers : List ℕ) (more : List DepNode)
     (found : best_of images d ≡ Some image) (here : IsBranch images first image one) (rest : AreBranches images (first + length one) ds numbers more) where
   low_at : (n : ℕ) → n < length one → node_at (one ++ more) n ≡ node_at one n
-  unfolding nil
   low_at n low = get_or_append_left one more nil n low
 
   high_at : (n : ℕ) → length one ≤ n → node_at (one ++ more) n ≡ node_at more (n - length one)
-  unfolding nil
   high_at n high = get_or-append_right one more (length one) n nil refl high
 
   later : (k : ℕ) → first + length one ≤ k → node_at (one ++ more) (k - first) ≡ node_at more (k - (first + length one))
@@ -227,10 +226,6 @@ was_found : (images : List Stored) (way : List ℕ) (levels made : ℕ) (name : 
 was_found images way levels made name None i h = absurd (cc)
 was_found images way levels made name (Some k) i h =
     ap (λ (n : ℕ). Some n) (chosen (list_any (λ j. j == k) way) (levels == 0) (nat_le 256 made) (Cycle (key_at images k)) TooDeep TooMany k i h)
-
-position_within : {X : Type 0} (p : X → Bool) (xs : List X) (i : ℕ) → position p xs ≡ Some i → i < length xs
-position_within p [] i h = absurd (cc)
-position_within p (x ∷ xs) i h = (position-Some p (x ∷ xs) i x h).0
 
 -- the image of a dependency is in the list
 next_within : (images : List Stored) (way : List ℕ) (levels made : ℕ) (d : Dependency) (i : ℕ) → next_image images way levels made d ≡ Ok i → i < length images

@@ -13,21 +13,13 @@ ghost use Rattle.image_reading.specs.Files.{IsKeptOf, IsNoImageManifest, IsIdOf,
 use crate::error::{StoreError, read_error};
 use crate::place::{damaged, spot_of};
 use crate::value::{id_of, listing_of, manifest_of};
-use ac_types::{ImageId, StoreKey};
+use ac_types::{ImageId, MOST_OF_ID, StoreKey};
 use dir_files::read_file;
 use dir_trait::Dir;
-use manifests::ImageManifest;
+use manifests::{ImageManifest, MOST_OF_MANIFEST};
 use std::alloc::Global;
 use tree_digest::Listing;
-
-// One byte more than a manifest may have, so that a longer one is told from the longest.
-const MOST_OF_MANIFEST: usize = 1_048_577;
-
-// One byte more than an ID and a line end.
-const MOST_OF_ID: usize = 137;
-
-// One byte more than a listing may have.
-const MOST_OF_TREE: usize = 33_554_433;
+use tree_digest::refusals::MOST_OF_LISTING;
 
 /// A manifest, and the bytes that it was read from.
 #[derive(Drop)]
@@ -126,7 +118,7 @@ pub fn read_listing<D: Dir>(
     ensures whole { D.observed ≡ true → (file : List ℕ) → FileStaysBetween (image_inner key tree_name) file (D.shown dir.old) (D.shown dir.new)
         → MatchResult result (λ lines. IsListingOf lines file) (λ e. IsDamaged e → IsNoListing file) }
 {
-    match read_part(alloc, dir, key, "tree", MOST_OF_TREE) {
+    match read_part(alloc, dir, key, "tree", MOST_OF_LISTING) {
         Ok(Some(bytes)) => listing_of(alloc, key, &bytes),
         Ok(None) => Err(damaged(alloc, key, "tree")),
         Err(error) => Err(error),

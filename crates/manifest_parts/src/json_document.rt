@@ -10,6 +10,10 @@ use std::alloc::Global;
 /// The most bytes of a document.
 const MAX_BYTES: usize = 1_048_576;
 
+/// The most bytes that are read of a manifest: one more than it may have, so that a longer one is
+/// told from the longest.
+pub const MOST_OF_MANIFEST: usize = 1_048_577;
+
 /// The object that some bytes are as JSON. At `$`: `TooLong` for more than 1,048,576 bytes, then
 /// `NotJson` for what is not JSON in UTF-8 or nests deeper than 127, then `WrongKind` for another
 /// kind of value. A number beyond all floats counts as no JSON.

@@ -16,6 +16,6 @@ pub use dependency::{Dependencies, Dependency};
 pub use distinct::{DistinctElement, distinct_list, required_distinct_list};
 pub use heads::{required_kind, required_version};
 pub use ids::{optional_id, optional_identifier, required_id};
-pub use json_document::read_object;
+pub use json_document::{MOST_OF_MANIFEST, read_object};
 pub use labels_reader::labels_field;
 pub use runtime_image::{RuntimeImage, read_runtime_image};

@@ -18,7 +18,9 @@ mod whitelist;
 pub use document::{Document, read_document};
 pub use image_manifest::ImageManifest;
 pub use image_reader::read_image;
-pub use manifest_parts::{Annotation, Annotations, Dependencies, Dependency, RuntimeImage};
+pub use manifest_parts::{
+    Annotation, Annotations, Dependencies, Dependency, MOST_OF_MANIFEST, RuntimeImage,
+};
 pub use mount::{Mount, Mounts};
 pub use pod_manifest::PodManifest;
 pub use pod_port::{PodPort, PodPorts};

@@ -11,13 +11,10 @@ use crate::error::{MetaError, read_fault};
 use ac_types::{AcName, NoMemory, ReadError};
 use dir_model::Bytes;
 use dir_trait::{Dir, PodId};
-use manifests::{RuntimeApp, read_image};
+use manifests::{MOST_OF_MANIFEST, RuntimeApp, read_image};
 use metadata_reply::ImageBytes;
 use pod_files::read_part;
 use std::alloc::Global;
-
-// One byte more than a manifest may have, so that a longer one is told from the longest.
-const MOST_OF_MANIFEST: usize = 1_048_577;
 
 // Where the manifest of an app's image stands in the pod's folder.
 fn image_path(alloc: Global, app: &str) -> Result<String, NoMemory>

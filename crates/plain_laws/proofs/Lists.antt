@@ -1,6 +1,7 @@
 -- Laws of lists, of any items.
-use Rattle.std.proofs.Common.{◌≡◌, ◌⊎◌, inl, inr, ◌+◌, ◌<◌, ℕ, zero, suc, Bool, true, false, not, ◌||◌, cond, Some, is_some, List, [], ◌∷◌, ◌++◌, length, map, filter, take, drop, get_or, slice_get, refl, sym, ap, ◌∙◌}
+use Rattle.std.proofs.Common.{arith, ◌≡◌, ◌⊎◌, inl, inr, ◌+◌, ◌-◌, ◌<◌, ◌≤◌, min, ℕ, zero, suc, Bool, true, false, not, ◌||◌, cond, Some, is_some, List, [], ◌∷◌, ◌++◌, length, map, filter, take, drop, get_or, slice_get, refl, sym, ap, ◌∙◌}
 use Rattle.std.specs.List.{list_any, AllByRecursion, position, position_from}
+use Rattle.std.proofs.lemmas.Grind.{common_steps}
 use Rattle.std.proofs.lemmas.List.{take_more, drop_more}
 use Rattle.std.proofs.lemmas.List.Quantifiers.{position-Some}
 use Rattle.plain_laws.proofs.Booleans.{or_none, or_assoc}
@@ -162,3 +163,11 @@ map_both f (x ∷ xs) ys = ap (λ l. f x ∷ l) (map_both f xs ys)
 pub all_mapped : {X Y : Type 0} (P : Y → Type 0) (f : X → Y) (xs : List X) → AllByRecursion (λ x. P (f x)) xs → AllByRecursion P (map f xs)
 all_mapped P f [] all = tt
 all_mapped P f (x ∷ xs) all = (all.0, all_mapped P f xs all.1)
+
+-- what is taken of a list
+
+pub all_taken : {X : Type 0} (k : ℕ) (xs : List X) → take (length xs - k) (drop k xs) ≡ drop k xs
+all_taken k xs = grind (arith, common_steps)
+
+pub within_most : {X : Type 0} (new l w r n most : ℕ) (room : List X) → new ≤ l + length (take w room) → w ≡ min r (most - n) → n ≡ l → l ≤ most → new ≤ most
+within_most new l w r n most room more wanted same within = grind (arith, common_steps)

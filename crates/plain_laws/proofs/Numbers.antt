@@ -1,5 +1,5 @@
 -- Laws of numbers, and of a number that may be there.
-use Rattle.std.proofs.Common.{arith, ◌≡◌, ◌≤◌, ◌<◌, ◌==◌, nat_le, nat_lt, ℕ, true, false, Option, Some, None, is_some, unwrap_or, refl, sym, ap, ◌∙◌}
+use Rattle.std.proofs.Common.{arith, ◌≡◌, ◌≤◌, ◌<◌, ◌==◌, nat_le, nat_lt, ◌+◌, ℕ, suc, true, false, Option, Some, None, is_some, unwrap_or, refl, sym, ap, ◌∙◌}
 use Rattle.std.proofs.lemmas.Bool.Decides.{nat_tests}
 
 -- a test of numbers and what it says
@@ -39,3 +39,8 @@ one_number f g e = ap (λ o. unwrap_or o f) e
 
 pub one_of_two : (o : Option ℕ) (p q : ℕ) → o ≡ Some p → o ≡ Some q → p ≡ q
 one_of_two o p q first second = ap (λ x. unwrap_or x p) (sym first ∙ second)
+
+-- a number further
+
+pub one_further : (n : ℕ) → suc n ≡ n + 1
+one_further n = omega arith

@@ -12,11 +12,8 @@ use crate::error::{FileError, file_error};
 use crate::part::read_part;
 use ac_types::ReadError;
 use dir_trait::{Dir, PodId};
-use manifests::{PodManifest, read_pod};
+use manifests::{MOST_OF_MANIFEST, PodManifest, read_pod};
 use std::alloc::Global;
-
-// One byte more than a manifest may have, so that a longer one is told from the longest.
-const MOST_OF_MANIFEST: usize = 1_048_577;
 
 // The manifest that the bytes are.
 fn manifest_of(alloc: Global, bytes: &[u8]) -> Result<PodManifest, FileError>

@@ -9,9 +9,6 @@ use Rattle.std.proofs.lemmas.List.Folds.{list_any-append}
 use Rattle.ac_types.specs.SeenTexts.{is_among}
 use Rattle.pod_manifest.specs.FirstOfEach.{first_of_each, new_of_each}
 
-same_text : (a b : List ℕ) → bytes_eq a b ≡ true → a ≡ b
-same_text a b h = (bytes_decides a b).0 h
-
 -- a filter that lets pass each element of a key
 filter_keeps : {A : Type 0} (key : A → List ℕ) (k : List ℕ) (test : A → Bool) (ys : List A)
     → ((y : A) → bytes_eq (key y) k ≡ true → test y ≡ true) → is_among k (map key ys) ≡ true → is_among k (map key (filter test ys)) ≡ true
@@ -42,14 +39,14 @@ first_keeps {A} key k (x ∷ xs) h = by (bytes_eq (key x) k) refl (first_keeps k
     by false is rest g =
         or_right (bytes_eq (key x) k) _
         (filter_keeps key k (λ (y : A). not (bytes_eq (key x) (key y))) (first_of_each key xs)
-        (λ y same. ap (λ (t : List ℕ). not (bytes_eq (key x) t)) (same_text (key y) k same) ∙ ap not is) (rest g))
+        (λ y same. ap (λ (t : List ℕ). not (bytes_eq (key x) t)) ((bytes_decides (key y) k).0 same) ∙ ap not is) (rest g))
 
 -- a key that isn't known is that of a new element
 new_keeps : {A : Type 0} (key : A → List ℕ) (known : List (List ℕ)) (k : List ℕ) (xs : List A) → is_among k known ≡ false
     → is_among k (map key xs) ≡ true → is_among k (map key (new_of_each key known xs)) ≡ true
 new_keeps {A} key known k xs unknown h =
     filter_keeps key k (λ (x : A). not (is_among (key x) known)) (first_of_each key xs)
-    (λ y same. ap (λ (t : List ℕ). not (is_among t known)) (same_text (key y) k same) ∙ ap not unknown) (first_keeps key k xs h)
+    (λ y same. ap (λ (t : List ℕ). not (is_among t known)) ((bytes_decides (key y) k).0 same) ∙ ap not unknown) (first_keeps key k xs h)
 
 pub all_present : {A : Type 0} (key : A → List ℕ) (known : List (List ℕ)) (k : List ℕ) (xs : List A) → is_among k (map key xs) ≡ true
     → is_among k (known ++ map key (new_of_each key known xs)) ≡ true

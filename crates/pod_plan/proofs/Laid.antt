@@ -20,7 +20,7 @@ use Rattle.render.specs.Orders.{all_down, nodes_left, from_last, after_layers}
 use Rattle.render.specs.Plans.{IsPut, HasNodeSources}
 use Rattle.render.specs.PlanStates.{IsPlan, PlanStands, wanted_image}
 use Rattle.render.proofs.LayingOrder.{node_left}
-use Rattle.render.proofs.Stacks.{next_within}
+use Rattle.render.proofs.Stacks.{next_within, wanted_is}
 use Rattle.dir_trait.specs.DirCalls.{DirAt}
 use Rattle.dir_trait.specs.Effects.{OnlyAsksAndKeeps}
 use Rattle.dir_model.specs.declared.request.Request.{Request}
@@ -38,13 +38,6 @@ use Rattle.pod_plan.proofs.Keys.{key_read}
 use Rattle.pod_plan.proofs.Lacks.{tree_since, tree_later, tree_lack_since}
 
 -- the image that is wanted is that of the next node, and then the plan isn't done
-pub wanted_is : (plan : Plan) (image : ℕ) → Some image ≡ wanted_image plan → image ≡ (node_at plan.nodes plan.next).image
-wanted_is plan image is = by plan.whole (node_at plan.nodes plan.next).image is
-  where
-    by : (o : Option Rendering) (n : ℕ) → Some image ≡ cond (is_some o) None (Some n) → image ≡ n
-    by None n h = cc
-    by (Some r) n h = absurd (cc)
-
 pub still_open : (plan : Plan) (image : ℕ) → Some image ≡ wanted_image plan → plan.whole ≡ None
 still_open plan image is = by plan.whole (node_at plan.nodes plan.next).image is
   where

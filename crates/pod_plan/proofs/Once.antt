@@ -12,6 +12,7 @@ use Rattle.dep_match.specs.declared.refusals.TheConstants.{MAX_DEPTH}
 use Rattle.dep_match.specs.declared.stored.Stored.{Stored}
 use Rattle.dep_match.specs.Dependencies.{and_then, branches, with_root, subtree, dependency_tree, next_image, dependencies_at}
 use Rattle.dep_match.specs.TreeOrder.{node_at, IsOrderedTree}
+use Rattle.dep_match.proofs.OrderedTrees.{nil}
 use Rattle.render.specs.Orders.{from_last, all_down}
 use Rattle.render.proofs.LayingOrder.{down_steps}
 use Rattle.pod_plan.specs.Choices.{AreTrees}
@@ -49,23 +50,18 @@ fills_both first few more xs ys low high = record {
 }
 
 -- ---- the blocks of trees
-nil : DepNode
-nil = record { image = 0; children = [] }
-
 -- some nodes stand among others from a number on
 record StandAt (nodes : List DepNode) (first : ℕ) (some : List DepNode) : Type 0 where
   few : first + length some ≤ length nodes
   there : (k : ℕ) → k < length some → node_at nodes (first + k) ≡ node_at some k
 
 first_stand : (nodes : List DepNode) (first : ℕ) (one more : List DepNode) → StandAt nodes first (one ++ more) → StandAt nodes first one
-unfolding nil
 first_stand nodes first one more all = record {
   few = omega (arith, all.few, length-append one more);
   there = λ k h. all.there k (omega (arith, h, length-append one more)) ∙ get_or_append_left one more nil k h;
 }
 
 rest_stand : (nodes : List DepNode) (first : ℕ) (one more : List DepNode) → StandAt nodes first (one ++ more) → StandAt nodes (first + length one) more
-unfolding nil
 rest_stand nodes first one more all = record {
   few = omega (arith, all.few, length-append one more);
   there = λ k h.

@@ -15,12 +15,9 @@ use crate::place::pod_spot;
 use crate::whole::read_whole;
 use ac_types::ReadError;
 use dir_trait::{Area, Dir, PodId};
-use manifests::{PodManifest, read_pod};
+use manifests::{MOST_OF_MANIFEST, PodManifest, read_pod};
 use phase_read::look;
 use std::alloc::Global;
-
-// One byte more than a manifest may have, so that a longer one is told from the longest.
-const MOST: usize = 1_048_577;
 
 /// What is seen of a pod's manifest at one place.
 #[derive(Drop)]
@@ -105,7 +102,7 @@ pub(crate) fn see_manifest<D: Dir>(
     ensures seen { IfOk result (λ sight. D.observed ≡ true → Sees pod area sight (D.shown dir.old) (D.shown dir.new)) }
     ensures manifest { IfOk result IsKnownSight }
 {
-    match read_whole(alloc, dir, pod_spot(pod, area), "pod", MOST) {
+    match read_whole(alloc, dir, pod_spot(pod, area), "pod", MOST_OF_MANIFEST) {
         Ok(Some(bytes)) => sight_of(alloc, &bytes),
         Ok(None) => sight_missing(alloc, dir, pod, area),
         Err(error) => Err(error),

@@ -1,5 +1,6 @@
 -- One play after another.
 use Rattle.std.proofs.Common.{◌≡◌, ℕ, suc, ◌+◌, List, [], ◌∷◌, ◌++◌, Result, Ok, Err, IfOk, refl, sym, ap, subst, arith}
+use Rattle.plain_laws.proofs.Numbers.{one_further}
 use Rattle.dir_model.specs.Local.{nothing_local}
 use Rattle.command_outcomes.specs.declared.told.Told.{Told}
 use Rattle.dir_memory.specs.Memories.{Memory}
@@ -19,12 +20,9 @@ plays_then (turn ∷ turns) rest a b c (mid, went, more) p = (mid, went, plays_t
 pub plays_one : (turn : Turn) (a b : Stage) → TurnWasPlayed turn a b → Plays (turn ∷ []) a b
 plays_one turn a b went = (b, went, refl)
 
-one_more : (n : ℕ) → suc n ≡ n + 1
-one_more n = omega arith
-
 -- and a list of turns of all numbers below another, one number further
 pub plays_next : (all : ℕ → List Turn) (n : ℕ) (last : List Turn) (a b c : Stage) → all (suc n) ≡ all n ++ last → Plays (all n) a b → Plays last b c → Plays (all (n + 1)) a c
-plays_next all n last a b c is before after = subst (λ (k : ℕ). Plays (all k) a c) (one_more n) (subst (λ (l : List Turn). Plays l a c) (sym is) (plays_then (all n) last a b c before after))
+plays_next all n last a b c is before after = subst (λ (k : ℕ). Plays (all k) a c) (one_further n) (subst (λ (l : List Turn). Plays l a c) (sym is) (plays_then (all n) last a b c before after))
 
 -- the imports, the prepares, the runs, and then what comes at the end
 pub plays_to_end : {Error : Type 0} (count runs : ℕ) (start a b c : Stage) (result : Result Stage Error) → start ≡ empty_stage → Plays (imports count) start a → Plays (prepare_turns count) a b → Plays (runs_of count count) b c → runs ≡ count_below is_run_pod count →

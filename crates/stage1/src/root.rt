@@ -15,10 +15,8 @@ use dir_trait::{Dir, PodId};
 use manifests::RuntimeApp;
 use path_map::PathMap;
 use std::alloc::Global;
+use tree_digest::refusals::MOST_OF_LISTING;
 use tree_digest::{Listing, ListingError};
-
-// One byte more than a listing may have.
-const MOST_OF_TREE: usize = 33_554_433;
 
 /// The root of an app: its listing as it stands there, and the map of it.
 #[derive(Drop)]
@@ -62,7 +60,7 @@ fn root_at<D: Dir>(
     ensures lacks { IfErr result (IsDamageFor (told_path pod path.now) (D.observed ≡ true → LacksRootListing pod app.now (D.shown dir.old) (D.shown dir.new))) }
 {
     let _name = app.as_str();
-    match read_part(alloc, dir, pod, path, MOST_OF_TREE) {
+    match read_part(alloc, dir, pod, path, MOST_OF_LISTING) {
         Ok(Some(bytes)) => root_with(alloc, pod, path, bytes),
         Ok(None) => Err(damaged(alloc, pod, path)),
         Err(error) => Err(error),

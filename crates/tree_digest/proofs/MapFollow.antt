@@ -1,5 +1,6 @@
 -- The entries of a map as the lines of a listing.
 use Rattle.std.proofs.Common.{◌≡◌, ℕ, ◌≤◌, true, false, ◌&&◌, eqb, List, [], ◌∷◌, ◌++◌, length, get_or, take, drop, Option, Some, None, IsSome, nat_cmp, Less, sym, refl, ap, subst, ◌∙◌, ⊎_elim, arith, append_assoc, length-append}
+use Rattle.std.specs.Cmp.{Equal-is}
 use Rattle.std.specs.Cmp.Lexicographic.{slice_cmp}
 use Rattle.std.specs.List.{All, AllByRecursion, list_any}
 use Rattle.std.specs.List.Sorted.{IsStrictlySortedBy}
@@ -24,7 +25,7 @@ use Rattle.path_map.proofs.Segments.{sound_from, path_some}
 use Rattle.tree_digest.specs.declared.line.ListingLine.{ListingLine}
 use Rattle.tree_digest.specs.Lines.{IsEntry, is_too_long, line_text}
 use Rattle.tree_digest.specs.Listings.{AllFollow, last_path, has_directory, lines_of, listing_text, IsListable}
-use Rattle.tree_digest.proofs.MapLines.{last_push, before_below, differ_if_less, is_equal}
+use Rattle.tree_digest.proofs.MapLines.{last_push, before_below, differ_if_less}
 
 -- the line of an entry
 abbrev line_of : List ℕ × Entry → ListingLine
@@ -67,7 +68,7 @@ dir_listed [] q h = h
 dir_listed (e ∷ es) q h =
     ⊎_elim
     (λ at.
-    let path : q ≡ e.0 = exact_bytes q e.0 (is_equal _ at) in
+    let path : q ≡ e.0 = exact_bytes q e.0 ((Equal-is _).0 at) in
     or_left _ _ (and_from _ _ ((bytes_eq-Decides e.0 q).1 (sym path)) (sym (ap is_directory_at (cond-true (is_at (slice_cmp nat_cmp q) e.0) (Some e.1) (entry_at es q) at)) ∙ h)))
     (λ off. or_right _ _ (dir_listed es q (sym (ap is_directory_at (cond-false (is_at (slice_cmp nat_cmp q) e.0) (Some e.1) (entry_at es q) off)) ∙ h)))
     (cases_Bool (is_at (slice_cmp nat_cmp q) e.0))

@@ -5,10 +5,12 @@ use Rattle.std.specs.List.{AllByRecursion, list_any, slice_get, All}
 use Rattle.std.specs.List.Sorted.{IsStrictlySortedBy}
 use Rattle.std.specs.Map.{keys_of}
 use Rattle.std.specs.BTreeMap.{is_at}
+use Rattle.std.specs.Cmp.{Equal-is}
 use Rattle.std.specs.Ordering.{is_eq, ordering_reverse}
 use Rattle.std.specs.declared.cmp.Ordering.{Ordering}
 use Rattle.std.specs.Option.{option_map_or}
 use Rattle.std.specs.Str.{bytes_eq}
+use Rattle.std.proofs.Math.Bool.{or-false}
 use Rattle.std.proofs.lemmas.Bool.{ltb-false, cases_Bool, or_left, or_right, or_cases, and_parts, cond-true, cond-false, both_ways, false_from_ne_true, eqb-true}
 use Rattle.std.proofs.lemmas.Cmp.{nat_list_cmp_total, nat_cmp_total, tied_itself}
 use Rattle.std.proofs.lemmas.List.{append-nil}
@@ -50,15 +52,10 @@ none_at_later (line ∷ lines) q h =
     (ap is_eq (nat_list_cmp_total.antisymm q line.path ∙ ap ordering_reverse h.0))
     ∙ none_at_later lines q h.1
 
-pub is_equal : (o : Ordering) → is_eq o ≡ true → o ≡ Equal
-is_equal Less h = cc
-is_equal Equal h = refl
-is_equal Greater h = cc
-
 -- a line more stands at its path alone
-at_more : (lines : List ListingLine) (line : ListingLine) (q : List ℕ) → line.path ≢ q → entry_at (entries_of (lines ++ line ∷ [])) q ≡ entry_at (entries_of lines) q
+pub at_more : (lines : List ListingLine) (line : ListingLine) (q : List ℕ) → line.path ≢ q → entry_at (entries_of (lines ++ line ∷ [])) q ≡ entry_at (entries_of lines) q
 at_more [] line q other =
-    cond-false (is_at (slice_cmp nat_cmp q) line.path) (Some line.entry) None (false_from_ne_true _ (λ e. other (sym (exact_bytes q line.path (is_equal _ e)))))
+    cond-false (is_at (slice_cmp nat_cmp q) line.path) (Some line.entry) None (false_from_ne_true _ (λ e. other (sym (exact_bytes q line.path ((Equal-is _).0 e)))))
 at_more (l ∷ lines) line q other = ap (λ o. cond (is_at (slice_cmp nat_cmp q) l.path) (Some l.entry) o) (at_more lines line q other)
 
 at_last : (lines : List ListingLine) (line : ListingLine) → AllBelow lines line.path → entry_at (entries_of (lines ++ line ∷ [])) line.path ≡ Some line.entry
@@ -141,10 +138,6 @@ ancestors_there lines line known next q up =
 has_more : (f : ListingLine → Bool) (lines : List ListingLine) (line : ListingLine) → list_any f (lines ++ line ∷ []) ≡ (list_any f lines || (f line || false))
 has_more f lines line = list_any-append f lines (line ∷ [])
 
-or_nothing : (b : Bool) → (b || false) ≡ true → b ≡ true
-or_nothing true h = refl
-or_nothing false h = h
-
 known_more : (lines : List ListingLine) (line : ListingLine) → IsKnown lines → Follows lines line → IsKnown (lines ++ line ∷ [])
 known_more lines line known next = record {
   below = λ path less.
@@ -154,7 +147,7 @@ known_more lines line known next = record {
       sym_or (λ l. bytes_eq l.path q && is_directory l.entry)
       (⊎_elim
       (λ old. known.parents q path old up)
-      (λ new. ancestors_there lines line known next q (subst (λ t. is_ancestor q t ≡ true) (sym ((bytes_eq-Decides line.path path).0 (or_nothing _ new))) up))
+      (λ new. ancestors_there lines line known next q (subst (λ t. is_ancestor q t ≡ true) (sym ((bytes_eq-Decides line.path path).0 (sym (or-false _) ∙ new))) up))
       (or_cases _ _ (sym (has_more (λ l. bytes_eq l.path path) lines line) ∙ there)));
   directories = λ q there.
       ⊎_elim
@@ -164,7 +157,7 @@ known_more lines line known next = record {
       not_none (entry_at (entries_of lines) q) dir (subst (λ t. entry_at (entries_of lines) t ≡ None) e (none_at_later lines line.path (known.below line.path next.rises))) in
       ap is_directory_at (at_more lines line q other) ∙ dir)
       (λ new.
-      let both = and_parts _ _ (or_nothing _ new) in
+      let both = and_parts _ _ (sym (or-false _) ∙ new) in
       let here : line.path ≡ q = (bytes_eq-Decides line.path q).0 both.0 in
       ap is_directory_at (ap (entry_at (entries_of (lines ++ line ∷ []))) (sym here) ∙ at_last lines line (known.below line.path next.rises)) ∙ both.1)
       (or_cases _ _ (sym (has_more (λ l. bytes_eq l.path q && is_directory l.entry) lines line) ∙ there));
@@ -232,7 +225,7 @@ some_listed : (lines : List ListingLine) (path : List ℕ) → IsSome (entry_at 
 some_listed [] path h = cc
 some_listed (line ∷ lines) path h =
     ⊎_elim
-    (λ at. or_left _ _ ((bytes_eq-Decides line.path path).1 (sym (exact_bytes path line.path (is_equal _ at)))))
+    (λ at. or_left _ _ ((bytes_eq-Decides line.path path).1 (sym (exact_bytes path line.path ((Equal-is _).0 at)))))
     (λ off. or_right _ _ (some_listed lines path (subst IsSome (cond-false (is_at (slice_cmp nat_cmp path) line.path) (Some line.entry) (entry_at (entries_of lines) path) off) h)))
     (cases_Bool (is_at (slice_cmp nat_cmp path) line.path))
 

@@ -21,6 +21,10 @@ pub const MAX_LINES: usize = 65_536;
 /// The most bytes of a listing's text.
 pub const MAX_BYTES: usize = 33_554_432;
 
+/// The most bytes that are read of a listing: one more than it may have, so that a longer one is
+/// told from the longest.
+pub const MOST_OF_LISTING: usize = 33_554_433;
+
 /// The most bytes of a file: 1 GiB.
 pub const MAX_FILE: u64 = 1_073_741_824;
 

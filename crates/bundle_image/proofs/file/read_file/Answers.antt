@@ -1,5 +1,5 @@
 use Rattle.std.proofs.Common.{rules, arith, ◌≡◌, ◌≤◌, ◌+◌, ◌-◌, min, take, ℕ, Bool, true, List, length, Option, IsSomeAnd, ap, subst, ◌∙◌}
-use Rattle.std.proofs.lemmas.Grind.{common_steps}
+use Rattle.plain_laws.proofs.Lists.{within_most}
 use Rattle.dir_trait.specs.Bundles.{bytes_of_node}
 use Rattle.dir_trait.proofs.Askings.{asks_more}
 use Rattle.bundle_image.specs.Fronts.{IsFrontOrNothing, IsFront}
@@ -9,9 +9,6 @@ use Rattle.bundle_image.proofs.file.read_file.Goals as goal
 -- what is known of one file is known of an equal one
 carried : (ended : Bool) (old new : List ℕ) {file same : Option (List ℕ)} → file ≡ same → (IsFrontOrNothing file old → IsSomeAnd file (IsFront ended new)) → IsFrontOrNothing same old → IsSomeAnd same (IsFront ended new)
 carried ended old new is next = subst (λ (f : Option (List ℕ)). IsFrontOrNothing f old → IsSomeAnd f (IsFront ended new)) is next
-
-within_most : (new l w r n most : ℕ) (room : List ℕ) → new ≤ l + length (take w room) → w ≡ min r (most - n) → n ≡ l → l ≤ most → new ≤ most
-within_most new l w r n most room more wanted same within = grind (arith, common_steps)
 
 pub pieces-preserved : goal.pieces-preserved
 pieces-preserved g c = record {

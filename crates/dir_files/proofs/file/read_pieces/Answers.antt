@@ -1,10 +1,8 @@
 use Rattle.std.proofs.Common.{rules, arith, ◌≡◌, ◌≤◌, ◌<◌, ◌+◌, ◌*◌, ◌-◌, min, take, ℕ, List, length}
 use Rattle.std.proofs.lemmas.Grind.{common_steps}
+use Rattle.plain_laws.proofs.Lists.{within_most}
 use Rattle.dir_files.proofs.Reading.{only_more, missing_more, reads_more, reads_ended}
 use Rattle.dir_files.proofs.file.read_pieces.Goals as goal
-
-within_most : (new l w r n most : ℕ) (room : List ℕ) → new ≤ l + length (take w room) → w ≡ min r (most - n) → n ≡ l → l ≤ most → new ≤ most
-within_most new l w r n most room more wanted same within = grind (arith, common_steps)
 
 one_more : (new old first l most : ℕ) → new ≤ old + 1 → 65536 * old ≤ 65536 * first + l → l < most → 65536 * new ≤ 65536 * first + (most + 65535)
 one_more new old first l most more begun under = grind (arith, common_steps)

@@ -1,4 +1,5 @@
 use Rattle.std.proofs.Common.{arith, ◌≡◌, ◌+◌, ℕ, suc, subst}
+use Rattle.plain_laws.proofs.Numbers.{one_further}
 use Rattle.dir_model.specs.Trace.{state_after}
 use Rattle.dir_model.proofs.Chains.{extends_wider}
 use Rattle.pod_lookup.proofs.Shown.{conforms}
@@ -14,9 +15,6 @@ use Rattle.pod_report.proofs.Results.{outside_unanswered}
 use Rattle.pod_report.proofs.SequentialStatus.{status_is, nowhere_is}
 use Rattle.pod_report.proofs.status.status_of.Goals as goal
 
-one_more : (n : ℕ) → suc n ≡ n + 1
-one_more n = omega arith
-
 pub rounds-preserved : goal.rounds-preserved
 rounds-preserved g c =
     let D = g.D.Dir in
@@ -29,7 +27,7 @@ rounds-preserved g c =
       left = λ t conforming.
           let l = i.left t (conforming_before mid new t c.inspect.ensures.only conforming) in
           let m = e.round t conforming c.rounds._round l.0 in
-          (subst (λ (n : ℕ). HasLeft c.args.pod n new) (one_more c.rounds._round) m.left, let most = m.most in omega (arith, most));
+          (subst (λ (n : ℕ). HasLeft c.args.pod n new) (one_further c.rounds._round) m.left, let most = m.most in omega (arith, most));
     }
 
 pub returns-in-Ok-Met-clause-only : goal.returns-in-Ok-Met-clause-only

@@ -1,12 +1,10 @@
 use Rattle.std.proofs.Common.{arith, ◌≡◌, ◌+◌, ℕ, suc, subst}
+use Rattle.plain_laws.proofs.Numbers.{one_further}
 use Rattle.pod_report.proofs.Asking.{asks_more}
 use Rattle.pod_report.specs.Rounds.{HasLeft}
 use Rattle.pod_report.proofs.Going.{conforming_before, gone_after, visit_after}
 use Rattle.pod_report.proofs.OwnReadings.{visited_after, missed_after}
 use Rattle.pod_report.proofs.visit.visit_pod.Goals as goal
-
-one_more : (n : ℕ) → suc n ≡ n + 1
-one_more n = omega arith
 
 pub rounds-preserved : goal.rounds-preserved
 rounds-preserved g c =
@@ -21,7 +19,7 @@ rounds-preserved g c =
       left = λ t conforming.
           let l = i.left t (conforming_before mid new t c.attempt.ensures.only conforming) in
           let m = e.round t conforming c.rounds._round l.0 in
-          (subst (λ (n : ℕ). HasLeft c.args.pod n new) (one_more c.rounds._round) m.left, let most = m.most in omega (arith, most));
+          (subst (λ (n : ℕ). HasLeft c.args.pod n new) (one_further c.rounds._round) m.left, let most = m.most in omega (arith, most));
     }
 
 pub returns-in-Ok-Met-clause-only : goal.returns-in-Ok-Met-clause-only
