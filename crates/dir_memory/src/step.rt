@@ -82,7 +82,7 @@ pub fn steps_come(
     ensures interlude { Interlude me past.old.items past.new.items }
     ensures first { with_steps me past.new.items (due (calls + 1) listing pending.new.items) ≡ with_steps me past.old.items (due (calls + 1) listing pending.old.items) }
     ensures later { not_due (calls + 1) listing pending.new.items ≡ not_due (calls + 1) listing pending.old.items }
-    ensures came { OnOk result (past.new.items ≡ with_steps me past.old.items (due (calls + 1) listing pending.old.items)) }
+    ensures arrived { OnOk result (past.new.items ≡ with_steps me past.old.items (due (calls + 1) listing pending.old.items)) }
     ensures left { OnOk result (pending.new.items ≡ not_due (calls + 1) listing pending.old.items) }
     ensures kept { past.old.spare ≤ past.new.spare }
 {
@@ -95,7 +95,7 @@ pub fn inside_come(past: &mut Past, me: u32, pending: &mut Vec<Planned>, calls: 
     ensures interlude { Interlude me past.old.items past.new.items }
     ensures first { with_steps me past.new.items (due (calls + 1) false pending.new.items) ≡ with_steps me past.old.items (due (calls + 1) false pending.old.items) }
     ensures later { not_due (calls + 1) false pending.new.items ≡ not_due (calls + 1) false pending.old.items }
-    ensures came { result ≡ true → past.new.items ≡ with_steps me past.old.items (due (calls + 1) false pending.old.items) }
+    ensures arrived { result ≡ true → past.new.items ≡ with_steps me past.old.items (due (calls + 1) false pending.old.items) }
     ensures left { result ≡ true → pending.new.items ≡ not_due (calls + 1) false pending.old.items }
     ensures kept { past.old.spare ≤ past.new.spare }
 {
@@ -243,7 +243,7 @@ pub fn begin_step(
 
 // What a listing is answered, for its event and for the caller.
 fn end_of(past: &Past, me: u32, fails: bool, came: bool) -> Result<(Reply, Reply), NoMemory>
-    ensures came { OnOk result (came ≡ true) }
+    ensures arrived { OnOk result (came ≡ true) }
     ensures same { IfOk result (λ both. both.0 ≡ both.1) }
     ensures reply { IfOk result (λ both. both.1 ≡ cond fails (Reply.Refused DirError.Failed 0) (listing_answer (state_after past.now.items) me)) }
 {

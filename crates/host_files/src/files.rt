@@ -208,7 +208,7 @@ fn kind_of(kind: FileType) -> BundleKind
 
 /// What the system told of the next entry. None where its name isn't UTF-8.
 fn told_entry<E>(told: io::Result<E>) -> Result<Option<E>, BundleError>
-    ensures told { IfOk told (λ entry. result ≡ Ok (Some entry)) }
+    ensures found { IfOk told (λ entry. result ≡ Ok (Some entry)) }
     ensures unnamed { IfErr told (λ e. error_kind e ≡ ErrorKind.InvalidFilename → result ≡ Ok None) }
     ensures refused { IfErr told (λ e. error_kind e ≢ ErrorKind.InvalidFilename → result ≡ Err (bundle_error (error_kind e))) }
 {
@@ -221,7 +221,7 @@ fn told_entry<E>(told: io::Result<E>) -> Result<Option<E>, BundleError>
 
 /// What the system told of an entry's kind. None where the entry has gone since.
 fn told_kind(told: io::Result<FileType>) -> Result<Option<FileType>, BundleError>
-    ensures told { IfOk told (λ kind. result ≡ Ok (Some kind)) }
+    ensures found { IfOk told (λ kind. result ≡ Ok (Some kind)) }
     ensures gone { IfErr told (λ e. error_kind e ≡ ErrorKind.NotFound → result ≡ Ok None) }
     ensures refused { IfErr told (λ e. error_kind e ≢ ErrorKind.NotFound → result ≡ Err (bundle_error (error_kind e))) }
 {

@@ -53,7 +53,7 @@ fn receive_part<N: Network>(
 ) -> io::Result<usize>
     ensures most { IfOk result (λ n. n ≤ length room.new) }
     ensures same { N.number stream.new ≡ N.number stream.old }
-    ensures told { N.observed ≡ true → TellsLinkFact (N.facts network.old) (λ n. receives (N.number stream.old) (take n room.new)) result (N.facts network.new) }
+    ensures recorded { N.observed ≡ true → TellsLinkFact (N.facts network.old) (λ n. receives (N.number stream.old) (take n room.new)) result (N.facts network.new) }
 {
     'tries: for _ in 0..u64::MAX {
         match network.receive(stream, room) {
@@ -69,7 +69,7 @@ fn receive_part<N: Network>(
 fn send_part<N: Network>(network: &mut N, stream: &mut N::Stream, piece: &[u8]) -> io::Result<usize>
     ensures most { IfOk result (λ n. n ≤ length piece.now) }
     ensures same { N.number stream.new ≡ N.number stream.old }
-    ensures told { N.observed ≡ true → TellsLinkFact (N.facts network.old) (λ n. sends (N.number stream.old) (take n piece.now)) result (N.facts network.new) }
+    ensures recorded { N.observed ≡ true → TellsLinkFact (N.facts network.old) (λ n. sends (N.number stream.old) (take n piece.now)) result (N.facts network.new) }
 {
     'tries: for _ in 0..u64::MAX {
         match network.send(stream, piece) {
@@ -89,7 +89,7 @@ pub fn receive<N: Network>(
 ) -> Result<usize, LinkError>
     ensures most { IfOk result (λ n. n ≤ length room.new) }
     ensures same { option_map N.number stream.new ≡ option_map N.number stream.old }
-    ensures told { IfOk result (λ n. N.observed ≡ true
+    ensures recorded { IfOk result (λ n. N.observed ≡ true
         → N.facts network.new ≡ N.facts network.old ++ told_of_connection (option_map N.number stream.old) (λ number. receives number (take n room.new) ∷ [])) }
 {
     match stream {
@@ -112,7 +112,7 @@ pub fn send<N: Network>(
     ensures most { IfOk result (λ n. n ≤ length piece.now) }
     ensures some { IfOk result (λ n. 0 < n) }
     ensures same { option_map N.number stream.new ≡ option_map N.number stream.old }
-    ensures told { IfOk result (λ n. N.observed ≡ true
+    ensures recorded { IfOk result (λ n. N.observed ≡ true
         → N.facts network.new ≡ N.facts network.old ++ told_of_connection (option_map N.number stream.old) (λ number. sends number (take n piece.now) ∷ [])) }
 {
     match stream {

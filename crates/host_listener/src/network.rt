@@ -28,31 +28,31 @@ pub trait Network {
 
     /// Listens at an address.
     fn listen(&mut self, address: &str) -> io::Result<Self::Listening>
-        ensures told { observed ≡ true → TellsLinkFact (facts self.old) (λ _. listens address.now) result (facts self.new) };
+        ensures recorded { observed ≡ true → TellsLinkFact (facts self.old) (λ _. listens address.now) result (facts self.new) };
 
     /// Takes the next connection, and waits for it.
     fn accept(&mut self, listening: &Self::Listening) -> io::Result<Self::Stream>
-        ensures told { observed ≡ true → TellsLinkFact (facts self.old) (λ stream. accepts (number stream)) result (facts self.new) };
+        ensures recorded { observed ≡ true → TellsLinkFact (facts self.old) (λ stream. accepts (number stream)) result (facts self.new) };
 
     /// Lets no read of the connection wait longer.
     fn limit_reads(&mut self, stream: &Self::Stream, seconds: u64) -> io::Result<()>
-        ensures told { observed ≡ true → TellsLinkFact (facts self.old) (λ _. limits_reads (number stream.now) seconds) result (facts self.new) };
+        ensures recorded { observed ≡ true → TellsLinkFact (facts self.old) (λ _. limits_reads (number stream.now) seconds) result (facts self.new) };
 
     /// Lets no write to the connection wait longer.
     fn limit_writes(&mut self, stream: &Self::Stream, seconds: u64) -> io::Result<()>
-        ensures told { observed ≡ true → TellsLinkFact (facts self.old) (λ _. limits_writes (number stream.now) seconds) result (facts self.new) };
+        ensures recorded { observed ≡ true → TellsLinkFact (facts self.old) (λ _. limits_writes (number stream.now) seconds) result (facts self.new) };
 
     /// Fills the room from its start with what comes, and answers how many bytes: none at the end.
     fn receive(&mut self, stream: &mut Self::Stream, room: &mut [u8]) -> io::Result<usize>
         ensures most { IfOk result (λ n. n ≤ length room.new) }
         ensures same { number stream.new ≡ number stream.old }
-        ensures told { observed ≡ true → TellsLinkFact (facts self.old) (λ n. receives (number stream.old) (take n room.new)) result (facts self.new) };
+        ensures recorded { observed ≡ true → TellsLinkFact (facts self.old) (λ n. receives (number stream.old) (take n room.new)) result (facts self.new) };
 
     /// Sends the piece from its start, and answers how many of its bytes.
     fn send(&mut self, stream: &mut Self::Stream, piece: &[u8]) -> io::Result<usize>
         ensures most { IfOk result (λ n. n ≤ length piece.now) }
         ensures same { number stream.new ≡ number stream.old }
-        ensures told { observed ≡ true → TellsLinkFact (facts self.old) (λ n. sends (number stream.old) (take n piece.now)) result (facts self.new) };
+        ensures recorded { observed ≡ true → TellsLinkFact (facts self.old) (λ n. sends (number stream.old) (take n piece.now)) result (facts self.new) };
 }
 
 /// The network of a host.

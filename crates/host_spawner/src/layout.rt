@@ -21,7 +21,7 @@ const OPEN: u32 = 0o700;
 
 /// Fails where something else stands at a path.
 fn check_standing<S: System>(system: &mut S, path: &str, wanted: Standing) -> Result<(), SpawnError>
-    ensures told { OnOk result (S.observed ≡ true → S.facts system.new ≡ S.facts system.old ++ stands path.now wanted ∷ []) }
+    ensures recorded { OnOk result (S.observed ≡ true → S.facts system.new ≡ S.facts system.old ++ stands path.now wanted ∷ []) }
 {
     let found = system.look(path).map_err(refusal)?;
     if found == wanted {
@@ -34,7 +34,7 @@ fn check_standing<S: System>(system: &mut S, path: &str, wanted: Standing) -> Re
 /// Fails where a path ends at a slash and no directory stands there.
 fn check_step<S: System>(system: &mut S, path: &str, end: usize) -> Result<(), SpawnError>
     requires { end < length path.now }
-    ensures told { OnOk result (S.observed ≡ true → S.facts system.new ≡ S.facts system.old ++ step_at (take end path.now) (get_or path.now end 0)) }
+    ensures recorded { OnOk result (S.observed ≡ true → S.facts system.new ≡ S.facts system.old ++ step_at (take end path.now) (get_or path.now end 0)) }
 {
     if path.as_bytes()[end] == b'/' {
         let (above, _) = path.split_at(end);
@@ -47,7 +47,7 @@ fn check_step<S: System>(system: &mut S, path: &str, end: usize) -> Result<(), S
 /// Fails where a name on the way to a path, from a byte of it on, isn't a directory's own.
 fn check_way<S: System>(system: &mut S, path: &str, start: usize) -> Result<(), SpawnError>
     requires { start ≤ length path.now }
-    ensures told { OnOk result (S.observed ≡ true → S.facts system.new ≡ S.facts system.old ++ way path.now start) }
+    ensures recorded { OnOk result (S.observed ≡ true → S.facts system.new ≡ S.facts system.old ++ way path.now start) }
 {
     'way: for end in start..path.len() {
         check_step(system, path, end)?;
@@ -70,7 +70,7 @@ fn open_directory<S: System>(
     named: &AbsPath,
     meta: &Meta,
 ) -> Result<(), SpawnError>
-    ensures told { OnOk result (S.observed ≡ true → S.facts system.new ≡ S.facts system.old
+    ensures recorded { OnOk result (S.observed ≡ true → S.facts system.new ≡ S.facts system.old
         ++ stands (below_root root.now named.now) Standing.Directory ∷ has_mode (below_root root.now named.now) (opened_to_owner meta.now.mode) ∷ []) }
 {
     let path = path_below(alloc, root, named.as_str()).map_err(short)?;
@@ -86,7 +86,7 @@ fn open_line<S: System>(
     root: &str,
     line: &ListingLine,
 ) -> Result<(), SpawnError>
-    ensures told { OnOk result (S.observed ≡ true → S.facts system.new ≡ S.facts system.old ++ opening root.now line.now) }
+    ensures recorded { OnOk result (S.observed ≡ true → S.facts system.new ≡ S.facts system.old ++ opening root.now line.now) }
 {
     match &line.entry {
         Entry::Dir(meta) => open_directory(system, alloc, root, &line.path, meta),
@@ -102,7 +102,7 @@ fn open_directories<S: System>(
     root: &str,
     lines: &[ListingLine],
 ) -> Result<(), SpawnError>
-    ensures told { OnOk result (S.observed ≡ true → S.facts system.new ≡ S.facts system.old ++ flat_map (opening root.now) lines.now) }
+    ensures recorded { OnOk result (S.observed ≡ true → S.facts system.new ≡ S.facts system.old ++ flat_map (opening root.now) lines.now) }
 {
     'lines: for line in lines {
         open_line(system, alloc, root, line)?;
@@ -112,7 +112,7 @@ fn open_directories<S: System>(
 
 /// Fails where something else stands at a path than a link to that target.
 fn check_link<S: System>(system: &mut S, path: &str, target: &str) -> Result<(), SpawnError>
-    ensures told { OnOk result (S.observed ≡ true → S.facts system.new ≡ S.facts system.old ++ links path.now target.now ∷ []) }
+    ensures recorded { OnOk result (S.observed ≡ true → S.facts system.new ≡ S.facts system.old ++ links path.now target.now ∷ []) }
 {
     let found = system.target(path).map_err(refusal)?;
     if found.as_str() == target {
@@ -130,7 +130,7 @@ fn make_link<S: System>(
     named: &AbsPath,
     target: &str,
 ) -> Result<(), SpawnError>
-    ensures told { OnOk result (S.observed ≡ true → S.facts system.new ≡ S.facts system.old ++ links (below_root root.now named.now) target.now ∷ []) }
+    ensures recorded { OnOk result (S.observed ≡ true → S.facts system.new ≡ S.facts system.old ++ links (below_root root.now named.now) target.now ∷ []) }
 {
     let path = path_below(alloc, root, named.as_str()).map_err(short)?;
     match system.link(path.as_str(), target) {
@@ -149,7 +149,7 @@ fn link_line<S: System>(
     root: &str,
     line: &ListingLine,
 ) -> Result<(), SpawnError>
-    ensures told { OnOk result (S.observed ≡ true → S.facts system.new ≡ S.facts system.old ++ linking root.now line.now) }
+    ensures recorded { OnOk result (S.observed ≡ true → S.facts system.new ≡ S.facts system.old ++ linking root.now line.now) }
 {
     match &line.entry {
         Entry::Link { target, .. } => make_link(system, alloc, root, &line.path, target.as_str()),
@@ -164,7 +164,7 @@ fn make_links<S: System>(
     root: &str,
     lines: &[ListingLine],
 ) -> Result<(), SpawnError>
-    ensures told { OnOk result (S.observed ≡ true → S.facts system.new ≡ S.facts system.old ++ flat_map (linking root.now) lines.now) }
+    ensures recorded { OnOk result (S.observed ≡ true → S.facts system.new ≡ S.facts system.old ++ flat_map (linking root.now) lines.now) }
 {
     'lines: for line in lines {
         link_line(system, alloc, root, line)?;
@@ -174,7 +174,7 @@ fn make_links<S: System>(
 
 /// Sets the mode of a file that is the root's own.
 fn set_file_mode<S: System>(system: &mut S, path: &str, meta: &Meta) -> Result<(), SpawnError>
-    ensures told { OnOk result (S.observed ≡ true → S.facts system.new ≡ S.facts system.old ++ stands path.now Standing.File ∷ has_mode path.now meta.now.mode ∷ []) }
+    ensures recorded { OnOk result (S.observed ≡ true → S.facts system.new ≡ S.facts system.old ++ stands path.now Standing.File ∷ has_mode path.now meta.now.mode ∷ []) }
 {
     check_standing(system, path, Standing::File)?;
     system.set_mode(path, u32::from(meta.mode)).map_err(refusal)
@@ -182,7 +182,7 @@ fn set_file_mode<S: System>(system: &mut S, path: &str, meta: &Meta) -> Result<(
 
 /// Sets the mode of a directory that was looked at before.
 fn set_directory_mode<S: System>(system: &mut S, path: &str, meta: &Meta) -> Result<(), SpawnError>
-    ensures told { OnOk result (S.observed ≡ true → S.facts system.new ≡ S.facts system.old ++ has_mode path.now meta.now.mode ∷ []) }
+    ensures recorded { OnOk result (S.observed ≡ true → S.facts system.new ≡ S.facts system.old ++ has_mode path.now meta.now.mode ∷ []) }
 {
     system.set_mode(path, u32::from(meta.mode)).map_err(refusal)
 }
@@ -194,7 +194,7 @@ fn close_line<S: System>(
     root: &str,
     line: &ListingLine,
 ) -> Result<(), SpawnError>
-    ensures told { OnOk result (S.observed ≡ true → S.facts system.new ≡ S.facts system.old ++ closing root.now line.now) }
+    ensures recorded { OnOk result (S.observed ≡ true → S.facts system.new ≡ S.facts system.old ++ closing root.now line.now) }
 {
     let path = path_below(alloc, root, line.path.as_str()).map_err(short)?;
     match &line.entry {
@@ -212,7 +212,7 @@ fn set_modes<S: System>(
     root: &str,
     lines: &[ListingLine],
 ) -> Result<(), SpawnError>
-    ensures told { OnOk result (S.observed ≡ true → S.facts system.new ≡ S.facts system.old ++ flat_map (closing root.now) (reverse lines.now)) }
+    ensures recorded { OnOk result (S.observed ≡ true → S.facts system.new ≡ S.facts system.old ++ flat_map (closing root.now) (reverse lines.now)) }
 {
     'lines: for behind in 0..lines.len() {
         let place = lines.len() - 1 - behind;
@@ -229,7 +229,7 @@ fn lay_out<S: System>(
     root: &str,
     lines: &[ListingLine],
 ) -> Result<(), SpawnError>
-    ensures told { OnOk result (S.observed ≡ true → S.facts system.new ≡ S.facts system.old ++ laying root.now lines.now) }
+    ensures recorded { OnOk result (S.observed ≡ true → S.facts system.new ≡ S.facts system.old ++ laying root.now lines.now) }
 {
     open_directories(system, alloc, root, lines)?;
     make_links(system, alloc, root, lines)?;
@@ -247,7 +247,7 @@ pub fn make_ready<S: System>(
     root: &RootPlace,
     listing: &[u8],
 ) -> Result<(), SpawnError>
-    ensures told { OnOk result (S.observed ≡ true → IsRootReady listing.now base.now root.now (S.facts system.old) (S.facts system.new)) }
+    ensures recorded { OnOk result (S.observed ≡ true → IsRootReady listing.now base.now root.now (S.facts system.old) (S.facts system.new)) }
 {
     let listing = Listing::read(alloc, listing).map_err(no_listing)?;
     let pod = path_of_pod(alloc, base, &root.spot).map_err(short)?;

@@ -26,23 +26,23 @@ pub trait System {
 
     /// Looks at what stands at a path. A link isn't followed.
     fn look(&mut self, path: &str) -> io::Result<Standing>
-        ensures told { observed ≡ true → TellsSpawnFact (facts self.old) (λ standing. stands path.now standing) result (facts self.new) };
+        ensures recorded { observed ≡ true → TellsSpawnFact (facts self.old) (λ standing. stands path.now standing) result (facts self.new) };
 
     /// Makes a link at a path.
     fn link(&mut self, path: &str, target: &str) -> io::Result<()>
-        ensures told { observed ≡ true → TellsSpawnFact (facts self.old) (λ _. links path.now target.now) result (facts self.new) };
+        ensures recorded { observed ≡ true → TellsSpawnFact (facts self.old) (λ _. links path.now target.now) result (facts self.new) };
 
     /// Reads where the link points to that stands at a path.
     fn target(&mut self, path: &str) -> io::Result<PathBuf>
-        ensures told { observed ≡ true → TellsSpawnFact (facts self.old) (λ target. links path.now (path_buf_bytes target)) result (facts self.new) };
+        ensures recorded { observed ≡ true → TellsSpawnFact (facts self.old) (λ target. links path.now (path_buf_bytes target)) result (facts self.new) };
 
     /// Sets the mode of what stands at a path.
     fn set_mode(&mut self, path: &str, mode: u32) -> io::Result<()>
-        ensures told { observed ≡ true → TellsSpawnFact (facts self.old) (λ _. has_mode path.now mode) result (facts self.new) };
+        ensures recorded { observed ≡ true → TellsSpawnFact (facts self.old) (λ _. has_mode path.now mode) result (facts self.new) };
 
     /// Starts a program.
     fn start(&mut self, command: Command) -> io::Result<Child<Self::Process>>
-        ensures told { observed ≡ true → TellsSpawnFact (facts self.old) (λ _. starts (start_of command)) result (facts self.new) };
+        ensures recorded { observed ≡ true → TellsSpawnFact (facts self.old) (λ _. starts (start_of command)) result (facts self.new) };
 }
 
 /// A host.

@@ -30,7 +30,7 @@ pub(crate) fn is_there<D: Dir>(alloc: Global, dir: &mut D, spot: Spot) -> Result
     requires active { IsActive (D.shown dir.old).local }
     ensures worked { OnlyAsks D.observed (looks_at_folder spot) (D.shown dir.old) (D.shown dir.new) }
     ensures cause { IfErr result (λ e. RemovalWorkCause D.observed e (D.shown dir.old) (D.shown dir.new)) }
-    ensures told { IsErrOf result StoreError.Stray → ⊥ }
+    ensures never_stray { IsErrOf result StoreError.Stray → ⊥ }
     ensures present { result ≡ Ok true → D.observed ≡ true
         → HeldBetween (D.shown dir.old) (D.shown dir.new) (λ s. stands s.namespace spot ≡ true) }
     ensures absent { result ≡ Ok false → D.observed ≡ true

@@ -45,7 +45,7 @@ fn build_and_place<D: Dir, B: Bundle>(
 ) -> Result<bool, StoreError>
     requires active { IsActive (D.shown dir.old).local }
     ensures worked { OnlyAsks D.observed (imports_at (building_spot draw)) (D.shown dir.old) (D.shown dir.new) }
-    ensures still { D.observed ≡ true → Moves (building_spot draw) (key_of_image image.now) result (D.shown dir.old) (D.shown dir.new) }
+    ensures moves { D.observed ≡ true → Moves (building_spot draw) (key_of_image image.now) result (D.shown dir.old) (D.shown dir.new) }
     ensures bundle { (B.shown bundle.old).faults ≤ (B.shown bundle.new).faults }
     ensures bundle_cause { IsErrOf result StoreError.BundleFault → Rose (B.shown bundle.old).faults (B.shown bundle.new).faults }
     ensures cause { IfErr result (λ e. ImportCause is_import_work_refusal D.observed (bundle_source_at B.observed (B.shown bundle.old).tree path.now)
@@ -71,7 +71,7 @@ fn import_new<D: Dir, B: Bundle>(
 ) -> Result<bool, StoreError>
     requires active { IsActive (D.shown dir.old).local }
     ensures worked { OnlyAsks D.observed (imports_at (building_spot draw)) (D.shown dir.old) (D.shown dir.new) }
-    ensures still { D.observed ≡ true → Moves (building_spot draw) (key_of_image image.now) result (D.shown dir.old) (D.shown dir.new) }
+    ensures moves { D.observed ≡ true → Moves (building_spot draw) (key_of_image image.now) result (D.shown dir.old) (D.shown dir.new) }
     ensures bundle { (B.shown bundle.old).faults ≤ (B.shown bundle.new).faults }
     ensures bundle_cause { IsErrOf result StoreError.BundleFault → Rose (B.shown bundle.old).faults (B.shown bundle.new).faults }
     ensures cause { IfErr result (λ e. ImportCause is_import_refusal D.observed (bundle_source_at B.observed (B.shown bundle.old).tree path.now)
@@ -102,7 +102,7 @@ fn import_or_find<D: Dir, B: Bundle>(
 ) -> Result<bool, StoreError>
     requires active { IsActive (D.shown dir.old).local }
     ensures worked { OnlyAsks D.observed (imports_at (building_spot draw)) (D.shown dir.old) (D.shown dir.new) }
-    ensures still { D.observed ≡ true → Moves (building_spot draw) (key_of_image image.now) result (D.shown dir.old) (D.shown dir.new) }
+    ensures moves { D.observed ≡ true → Moves (building_spot draw) (key_of_image image.now) result (D.shown dir.old) (D.shown dir.new) }
     ensures bundle { (B.shown bundle.old).faults ≤ (B.shown bundle.new).faults }
     ensures bundle_cause { IsErrOf result StoreError.BundleFault → Rose (B.shown bundle.old).faults (B.shown bundle.new).faults }
     ensures cause { IfErr result (λ e. ImportCause is_import_refusal D.observed (bundle_source_at B.observed (B.shown bundle.old).tree path.now)
@@ -135,7 +135,7 @@ fn import_locked<D: Dir, B: Bundle>(
 ) -> Result<bool, StoreError>
     requires active { IsActive (D.shown dir.old).local }
     ensures worked { OnlyAsks D.observed (imports_at (building_spot draw)) (D.shown dir.old) (D.shown dir.new) }
-    ensures still { D.observed ≡ true → Moves (building_spot draw) (key_of_image image.now) result (D.shown dir.old) (D.shown dir.new) }
+    ensures moves { D.observed ≡ true → Moves (building_spot draw) (key_of_image image.now) result (D.shown dir.old) (D.shown dir.new) }
     ensures bundle { (B.shown bundle.old).faults ≤ (B.shown bundle.new).faults }
     ensures bundle_cause { IsErrOf result StoreError.BundleFault → Rose (B.shown bundle.old).faults (B.shown bundle.new).faults }
     ensures cause { IfErr result (λ e. ImportCause is_import_refusal D.observed (bundle_source_at B.observed (B.shown bundle.old).tree path.now)
@@ -166,7 +166,7 @@ fn import_image<D: Dir, B: Bundle>(
 ) -> Result<bool, StoreError>
     requires active { IsActive (D.shown dir.old).local }
     ensures worked { OnlyAsks D.observed (imports_at (building_spot draw)) (D.shown dir.old) (D.shown dir.new) }
-    ensures still { D.observed ≡ true → Moves (building_spot draw) (key_of_image image.now) result (D.shown dir.old) (D.shown dir.new) }
+    ensures moves { D.observed ≡ true → Moves (building_spot draw) (key_of_image image.now) result (D.shown dir.old) (D.shown dir.new) }
     ensures bundle { (B.shown bundle.old).faults ≤ (B.shown bundle.new).faults }
     ensures bundle_cause { IsErrOf result StoreError.BundleFault → Rose (B.shown bundle.old).faults (B.shown bundle.new).faults }
     ensures cause { IfErr result (λ e. ImportCause is_import_refusal D.observed (bundle_source_at B.observed (B.shown bundle.old).tree path.now)
@@ -211,7 +211,7 @@ pub fn import<D: Dir, B: Bundle>(
 ) -> Result<Imported, StoreError>
     requires active { IsActive (D.shown dir.old).local }
     ensures worked { OnlyAsks D.observed (imports_at (building_spot draw)) (D.shown dir.old) (D.shown dir.new) }
-    ensures still { D.observed ≡ true → MovesAtEnd (building_spot draw) result (D.shown dir.old) (D.shown dir.new) }
+    ensures moves { D.observed ≡ true → MovesAtEnd (building_spot draw) result (D.shown dir.old) (D.shown dir.new) }
     ensures lawful { IsErrOf result StoreError.Stray → D.observed ≡ true → IsConforming (D.shown dir.new).trace → ⊥ }
     ensures bundle { (B.shown bundle.old).faults ≤ (B.shown bundle.new).faults }
     ensures bundle_cause { IsErrOf result StoreError.BundleFault → Rose (B.shown bundle.old).faults (B.shown bundle.new).faults }

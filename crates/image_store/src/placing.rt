@@ -33,7 +33,7 @@ fn move_answer(error: DirError) -> Result<bool, StoreError>
 fn bring<D: Dir>(alloc: Global, dir: &mut D, draw: PodId, key: StoreKey) -> Result<bool, StoreError>
     requires active { IsActive (D.shown dir.old).local }
     ensures worked { OnlyAsks D.observed (imports_at (building_spot draw)) (D.shown dir.old) (D.shown dir.new) }
-    ensures still { D.observed ≡ true → Moves (building_spot draw) key result (D.shown dir.old) (D.shown dir.new) }
+    ensures moves { D.observed ≡ true → Moves (building_spot draw) key result (D.shown dir.old) (D.shown dir.new) }
     ensures cause { IfErr result (λ e. ChangeCause D.observed e (D.shown dir.old) (D.shown dir.new)) }
     ensures taken { result ≡ Ok true → D.observed ≡ true → KeyWasTaken key (D.shown dir.old) (D.shown dir.new) }
     ensures placed { result ≡ Ok false → D.observed ≡ true → WhereImportFilled draw (D.shown dir.old)
@@ -81,7 +81,7 @@ pub(crate) fn place<D: Dir>(
 ) -> Result<bool, StoreError>
     requires active { IsActive (D.shown dir.old).local }
     ensures worked { OnlyAsks D.observed (imports_at (building_spot draw)) (D.shown dir.old) (D.shown dir.new) }
-    ensures still { D.observed ≡ true → Moves (building_spot draw) key result (D.shown dir.old) (D.shown dir.new) }
+    ensures moves { D.observed ≡ true → Moves (building_spot draw) key result (D.shown dir.old) (D.shown dir.new) }
     ensures cause { IfErr result (λ e. PlaceCause D.observed key digest.now e (D.shown dir.old) (D.shown dir.new)) }
     ensures there { result ≡ Ok true → D.observed ≡ true → WasThere key digest.now (D.shown dir.old) (D.shown dir.new) }
     ensures placed { result ≡ Ok false → D.observed ≡ true → WhereImportFilled draw (D.shown dir.old)

@@ -13,7 +13,7 @@ use std::alloc::Global;
 /// conforms, the data folder shows them, and no reply came that no rule-keeping process brings about.
 /// Refused only where memory ran out.
 pub fn replay(alloc: Global, history: &History) -> Result<PodMachine, NoMemory>
-    ensures told { IfOk result (λ machine. machine ≡ made_pod_entries history.now.items history.now.items) }
+    ensures machine { IfOk result (λ machine. machine ≡ made_pod_entries history.now.items history.now.items) }
     ensures states { IsRun history.now.items → IfOk result (λ machine. TellsStates machine history.now.items) }
     ensures shown { IsConforming history.now.items → IfOk result (λ machine. ShowsPods machine history.now.items) }
     ensures replies { IsConforming history.now.items → NoneIsImpossible history.now.items }

@@ -71,7 +71,7 @@ fn handler(
 
 fn directory_of(alloc: Global, app: &App) -> Result<Text, LaunchError>
     ensures value { IfOk result (λ directory. directory ≡ unwrap_or app.now.working_directory (codes "/")) }
-    ensures calm { (word : List ℕ) → IsErrOf result (LaunchError.NoProgram word) → ⊥ }
+    ensures has_program { (word : List ℕ) → IsErrOf result (LaunchError.NoProgram word) → ⊥ }
 {
     let directory = match &app.working_directory {
         Some(directory) => directory.as_str(),

@@ -67,7 +67,7 @@ fn entries(alloc: Global, events: &[Event]) -> Result<Vec<PodEntry>, NoMemory>
 /// The states of the pods after a trace: those that the machine gives them and, where the execution
 /// conforms, what the data folder shows of them. Refused only where memory ran out.
 pub fn pods_after(alloc: Global, history: &History) -> Result<PodMachine, NoMemory>
-    ensures told { IfOk result (λ machine. machine ≡ made_pod_entries history.now.items history.now.items) }
+    ensures machine { IfOk result (λ machine. machine ≡ made_pod_entries history.now.items history.now.items) }
     ensures states { IsRun history.now.items → IfOk result (λ machine. TellsStates machine history.now.items) }
     ensures shown { IsConforming history.now.items → IfOk result (λ machine. ShowsPods machine history.now.items) }
 {

@@ -208,7 +208,7 @@ impl Spawner for MemorySpawner {
         requires may { D.observed ≡ true → MayStart (D.shown _dir.now) root.now }
         ensures kept { self.old.faults ≤ self.new.faults }
         ensures cause { IsErrOf result SpawnError.Failed → Rose self.old.faults self.new.faults }
-        ensures told { true ≡ true → Tells (spawner_of_memory self.old) (SpawnRequest.Ready root.now listing.now) (ready_reply result) (spawner_of_memory self.new) }
+        ensures recorded { true ≡ true → Tells (spawner_of_memory self.old) (SpawnRequest.Ready root.now listing.now) (ready_reply result) (spawner_of_memory self.new) }
         ensures spawns { Spawns self.old (SpawnRequest.Ready root.now listing.now) SpawnReply.Done (ready_reply result) self.new }
     {
         let fails = self.count();
@@ -233,7 +233,7 @@ impl Spawner for MemorySpawner {
         requires may { D.observed ≡ true → MayStart (D.shown _dir.now) root.now }
         ensures kept { self.old.faults ≤ self.new.faults }
         ensures cause { IsErrOf result SpawnError.Failed → Rose self.old.faults self.new.faults }
-        ensures told { true ≡ true → Tells (spawner_of_memory self.old) (SpawnRequest.Start root.now argv.now env.now cwd.now) (start_reply result) (spawner_of_memory self.new) }
+        ensures recorded { true ≡ true → Tells (spawner_of_memory self.old) (SpawnRequest.Start root.now argv.now env.now cwd.now) (start_reply result) (spawner_of_memory self.new) }
         ensures fresh { IfOk result (λ child. true ≡ true → has_started child self.old.calls ≡ false) }
         ensures spawns { Spawns self.old (SpawnRequest.Start root.now argv.now env.now cwd.now)
             (SpawnReply.Started (record { number = length (ok_starts_of self.old.calls) })) (start_reply result) self.new }
@@ -256,7 +256,7 @@ impl Spawner for MemorySpawner {
         requires may { D.observed ≡ true → true ≡ true → MayWait (D.shown _dir.now) self.old.calls child }
         ensures kept { self.old.faults ≤ self.new.faults }
         ensures cause { IsErrOf result SpawnError.Failed → Rose self.old.faults self.new.faults }
-        ensures told { true ≡ true → Tells (spawner_of_memory self.old) (SpawnRequest.Wait child) (wait_reply result) (spawner_of_memory self.new) }
+        ensures recorded { true ≡ true → Tells (spawner_of_memory self.old) (SpawnRequest.Wait child) (wait_reply result) (spawner_of_memory self.new) }
         ensures status { IfOk result (λ status. true ≡ true → status ≡ end_status_of self.old.ends child.number) }
         ensures spawns { Spawns self.old (SpawnRequest.Wait child) (SpawnReply.Ended (end_status_of self.old.ends child.number)) (wait_reply result) self.new }
     {

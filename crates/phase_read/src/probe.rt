@@ -57,7 +57,7 @@ pub fn ask<D: Dir>(alloc: Global, dir: &mut D, spot: Spot) -> Result<Option<bool
     ensures extends { D.observed ≡ true → ExtendsBy (is_look_at (spot_eq spot)) (D.shown dir.old) (D.shown dir.new) }
     ensures there { IfOk result (λ owned. D.observed ≡ true
         → HeldBetween (D.shown dir.old) (D.shown dir.new) (λ s. stands s.namespace spot ≡ is_some owned)) }
-    ensures told { IfOk result (λ found. IfSome found (λ owned. D.observed ≡ true
+    ensures answer_holds { IfOk result (λ found. IfSome found (λ owned. D.observed ≡ true
         → LockToldBetween (D.shown dir.old) (D.shown dir.new) spot owned)) }
 {
     match dir.open(alloc, spot, Which::Own) {

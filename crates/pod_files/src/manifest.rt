@@ -20,7 +20,7 @@ fn manifest_of(alloc: Global, bytes: &[u8]) -> Result<PodManifest, FileError>
     ensures ok { IfOk result (λ manifest. IsManifestOf (pod_data manifest) bytes.now) }
     ensures kind { IfOk result (λ manifest. IsPodManifest (pod_data manifest)) }
     ensures fault { IfErr result (IsFileLack (IsNoManifest bytes.now)) }
-    ensures calm { IsErrOf result FileError.DirFault → ⊥ }
+    ensures never_fails { IsErrOf result FileError.DirFault → ⊥ }
 {
     match read_pod(alloc, bytes) {
         Ok(manifest) => Ok(manifest),

@@ -40,7 +40,7 @@ fn is_token(bytes: &[u8]) -> bool
 fn token_of(alloc: Global, bytes: &[u8]) -> Result<Text, FileError>
     ensures ok { IfOk result (λ token. IsTokenOf token bytes.now) }
     ensures fault { IfErr result (IsFileLack (IsNoToken bytes.now)) }
-    ensures calm { IsErrOf result FileError.DirFault → ⊥ }
+    ensures never_fails { IsErrOf result FileError.DirFault → ⊥ }
 {
     if !is_token(bytes) {
         return Err(FileError::Lacking);

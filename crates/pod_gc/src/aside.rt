@@ -47,7 +47,7 @@ pub fn discard_aborted<D: Dir>(
     ensures aside { IfOk result (λ done. D.observed ≡ true → ExtendsBy (puts_aside pod area.Prepare area.Garbage) (D.shown dir.old) (D.shown dir.new)) }
     ensures free { IfOk result (λ done. D.observed ≡ true → LockToldBetween (D.shown dir.old) (D.shown dir.new) (pod_spot pod area.Prepare) false) }
     ensures peeks { IfErr result (λ e. BusyByPeeks D.observed pod area.Prepare e (D.shown dir.old) (D.shown dir.new)) }
-    ensures still { IfErr result (λ e. TakesNothing D.observed (D.shown dir.old) (D.shown dir.new)) }
+    ensures takes_nothing { IfErr result (λ e. TakesNothing D.observed (D.shown dir.old) (D.shown dir.new)) }
     ensures ready { D.observed ≡ true → Given (MayRemove now) (D.shown dir.old) (λ s. KeepsReady s (D.shown dir.new)) }
 {
     probe(alloc, dir, pod, Area::Prepare)?;
@@ -61,7 +61,7 @@ fn mark<D: Dir>(alloc: Global, dir: &mut D, pod: PodId, now: u64) -> Result<(), 
     ensures worked { OnlyAsks D.observed (marks_at pod now) (D.shown dir.old) (D.shown dir.new) }
     ensures stopped { IfErr result (λ e. StepWasStopped D.observed pod (IsAbsentAt pod area.Run) e (D.shown dir.old) (D.shown dir.new)) }
     ensures never { IfErr result (λ e. e ≡ Setback.Stray → ⊥) }
-    ensures calm { IfErr result (λ e. (which : Which) → e ≡ Setback.Busy which → ⊥) }
+    ensures never_busy { IfErr result (λ e. (which : Which) → e ≡ Setback.Busy which → ⊥) }
     ensures marked { IfOk result (λ done. D.observed ≡ true → Given (MayMark pod now) (D.shown dir.old) (λ s. Marked pod s (D.shown dir.new))) }
     ensures noted { IfOk result (λ done. D.observed ≡ true → IsMarkedBetween pod now (D.shown dir.old) (D.shown dir.new)) }
     ensures left { D.observed ≡ true → Given (MayMark pod now) (D.shown dir.old) (λ s. KeepsReady s (D.shown dir.new)) }
@@ -103,7 +103,7 @@ pub fn retire_exited<D: Dir>(
     ensures free { IfOk result (λ done. D.observed ≡ true → LockToldBetween (D.shown dir.old) (D.shown dir.new) (pod_spot pod area.Run) false) }
     ensures noted { IfOk result (λ done. D.observed ≡ true → MarkedFirst pod now (D.shown dir.old).process (D.shown dir.old).trace (D.shown dir.new).trace) }
     ensures peeks { IfErr result (λ e. BusyByPeeks D.observed pod area.Run e (D.shown dir.old) (D.shown dir.new)) }
-    ensures still { IfErr result (λ e. TakesNothing D.observed (D.shown dir.old) (D.shown dir.new)) }
+    ensures takes_nothing { IfErr result (λ e. TakesNothing D.observed (D.shown dir.old) (D.shown dir.new)) }
     ensures ready { D.observed ≡ true → Given (MayRemove now) (D.shown dir.old) (λ s. KeepsReady s (D.shown dir.new)) }
 {
     probe(alloc, dir, pod, Area::Run)?;

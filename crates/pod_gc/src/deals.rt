@@ -32,7 +32,7 @@ fn deal_embryo<D: Dir>(alloc: Global, dir: &mut D, pod: PodId) -> Result<Deed, G
     ensures cause { IfErr result (λ e. GcCause D.observed e (D.shown dir.old) (D.shown dir.new)) }
     ensures lawful { IfErr result (λ e. GcNeverStray D.observed e (D.shown dir.new)) }
     ensures deed { IfOk result (λ deed. D.observed ≡ true → DeedCause pod area.Embryo deed (D.shown dir.old).process (D.shown dir.old).trace (D.shown dir.new).trace) }
-    ensures calm { IfOk result (λ deed. (which : Which) → refused_lock deed ≡ Some which → ⊥) }
+    ensures never_busy { IfOk result (λ deed. (which : Which) → refused_lock deed ≡ Some which → ⊥) }
     ensures left_untouched { IfOk result (λ deed. LetBe D.observed pod area.Embryo deed (D.shown dir.old) (D.shown dir.new)) }
     ensures ready { D.observed ≡ true → (now : ℕ) → Given (HoldsEmbryo now) (D.shown dir.old) (λ s. KeepsReady s (D.shown dir.new)) }
 {

@@ -38,7 +38,7 @@ fn delete_standing<D: Dir>(
     ensures stopped { IfErr result (λ e. StoppedDeleting D.observed (pod_spot pod area) e (D.shown dir.old) (D.shown dir.new)) }
     ensures knew { IfErr result (λ e. e ≡ Setback.Stray → D.observed ≡ true → Given (HasOwn pod area) (D.shown dir.old)
         (λ s. StrayKnowing (pod_spot pod area) (D.shown dir.old).process (D.shown dir.new).trace)) }
-    ensures calm { IfErr result (λ e. (which : Which) → e ≡ Setback.Busy which → ⊥) }
+    ensures never_busy { IfErr result (λ e. (which : Which) → e ≡ Setback.Busy which → ⊥) }
     ensures done { IfOk result (λ done. D.observed ≡ true
         → Did (RemoveFolder (pod_spot pod area)) Done (D.shown dir.old).process (D.shown dir.old).trace (D.shown dir.new).trace) }
     ensures kept { IfErr result (λ e. D.observed ≡ true → KeepsFolders (D.shown dir.old) (D.shown dir.new)) }
@@ -63,8 +63,8 @@ fn delete_if_there<D: Dir>(
     ensures worked { OnlyAsks D.observed (deletes_in pod area) (D.shown dir.old) (D.shown dir.new) }
     ensures stopped { IfErr result (λ e. StepWasStopped D.observed pod (IsAbsentAt pod area) e (D.shown dir.old) (D.shown dir.new)) }
     ensures lawful { IfErr result (λ e. StrayByApp D.observed e (HasOwn pod area) (D.shown dir.old) (D.shown dir.new)) }
-    ensures calm { IfErr result (λ e. (which : Which) → e ≡ Setback.Busy which → ⊥) }
-    ensures still { IfErr result (λ e. MissedUntaken D.observed e (D.shown dir.old) (D.shown dir.new)) }
+    ensures never_busy { IfErr result (λ e. (which : Which) → e ≡ Setback.Busy which → ⊥) }
+    ensures takes_nothing { IfErr result (λ e. MissedUntaken D.observed e (D.shown dir.old) (D.shown dir.new)) }
     ensures stood { IfErr result (λ e. e ≡ Setback.Stray → D.observed ≡ true
         → HeldBetween (D.shown dir.old) (D.shown dir.new) (λ s. stands s.namespace (pod_spot pod area) ≡ true)) }
     ensures done { IfOk result (λ done. D.observed ≡ true
@@ -104,7 +104,7 @@ pub fn delete_at<D: Dir>(
     ensures named { IfErr result (λ e. (which : Which) → e ≡ Setback.Busy which → which ≡ Own) }
     ensures free { IfOk result (λ done. FreeIfObserved D.observed pod area Own mode.Exclusive (D.shown dir.old) (D.shown dir.new)) }
     ensures looks { IfErr result (λ e. BusyByLooks D.observed pod area e (D.shown dir.old) (D.shown dir.new)) }
-    ensures still { IfErr result (λ e. MissedUntaken D.observed e (D.shown dir.old) (D.shown dir.new)) }
+    ensures takes_nothing { IfErr result (λ e. MissedUntaken D.observed e (D.shown dir.old) (D.shown dir.new)) }
     ensures kept { IfErr result (λ e. D.observed ≡ true → KeepsFolders (D.shown dir.old) (D.shown dir.new)) }
     ensures ready { D.observed ≡ true → Given (MayRemove now) (D.shown dir.old) (λ s. KeepsReady s (D.shown dir.new)) }
 {

@@ -52,7 +52,7 @@ pub(crate) fn kept_exited<D: Dir>(alloc: Global, dir: &mut D, pod: PodId) -> Res
     ensures deed { IfOk result (λ deed. D.observed ≡ true → DeedCause pod area.ExitedGarbage deed (D.shown dir.old).process (D.shown dir.old).trace (D.shown dir.new).trace) }
     ensures rests { IfOk result (λ deed. DoesNothing deed) }
     ensures by_other_process { IfOk result (λ deed. (now : ℕ) → LeavesIfObserved D.observed (MayRemove now) pod area.ExitedGarbage deed (D.shown dir.old) (D.shown dir.new)) }
-    ensures calm { IfOk result (λ deed. (which : Which) → deed ≡ Deed.Busy which → ⊥) }
+    ensures never_busy { IfOk result (λ deed. (which : Which) → deed ≡ Deed.Busy which → ⊥) }
     ensures ready { D.observed ≡ true → (now : ℕ) → Given (MayRemove now) (D.shown dir.old) (λ s. KeepsReady s (D.shown dir.new)) }
 {
     match probe(alloc, dir, pod, Area::ExitedGarbage) {

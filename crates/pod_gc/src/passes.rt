@@ -42,7 +42,7 @@ fn deal_next<D: Dir>(
     ensures worked { OnlyAsks D.observed (deals_with_pods times.now place (name.now ∷ [])) (D.shown dir.old) (D.shown dir.new) }
     ensures cause { IfErr result (λ e. GcCause D.observed e (D.shown dir.old) (D.shown dir.new)) }
     ensures lawful { IfErr result (λ e. GcStrayByApp D.observed e (MayPassPods place times.now times.expire) (D.shown dir.old) (D.shown dir.new)) }
-    ensures told { IfOk result (λ done. D.observed ≡ true → AddsTold times place (name.now ∷ []) (D.shown dir.old) (D.shown dir.new) lines.old.items lines.new.items) }
+    ensures answer_holds { IfOk result (λ done. D.observed ≡ true → AddsTold times place (name.now ∷ []) (D.shown dir.old) (D.shown dir.new) lines.old.items lines.new.items) }
     ensures ended { IfErr result (λ e. D.observed ≡ true → EndsAtPod times.now place name.now (D.shown dir.old).process (D.shown dir.old).trace (D.shown dir.new).trace) }
     ensures ready { D.observed ≡ true → Given (MayPassPods place times.now times.expire) (D.shown dir.old) (λ s. KeepsReady s (D.shown dir.new)) }
 {
@@ -69,7 +69,7 @@ fn deal_each<D: Dir>(
     ensures worked { OnlyAsks D.observed (deals_with_pods times.now place names.now) (D.shown dir.old) (D.shown dir.new) }
     ensures cause { IfErr result (λ e. GcCause D.observed e (D.shown dir.old) (D.shown dir.new)) }
     ensures lawful { IfErr result (λ e. GcStrayByApp D.observed e (MayPassPods place times.now times.expire) (D.shown dir.old) (D.shown dir.new)) }
-    ensures told { IfOk result (λ done. D.observed ≡ true → AddsTold times place names.now (D.shown dir.old) (D.shown dir.new) lines.old.items lines.new.items) }
+    ensures answer_holds { IfOk result (λ done. D.observed ≡ true → AddsTold times place names.now (D.shown dir.old) (D.shown dir.new) lines.old.items lines.new.items) }
     ensures ended { IfErr result (λ e. D.observed ≡ true → EndsAmongBetween times place names.now (D.shown dir.old) (D.shown dir.new)) }
     ensures ready { D.observed ≡ true → Given (MayPassPods place times.now times.expire) (D.shown dir.old) (λ s. KeepsReady s (D.shown dir.new)) }
 {
@@ -92,7 +92,7 @@ fn pass_listed<D: Dir>(
     ensures worked { OnlyAsks D.observed (sweeps times.now) (D.shown dir.old) (D.shown dir.new) }
     ensures cause { IfErr result (λ e. GcCause D.observed e (D.shown dir.old) (D.shown dir.new)) }
     ensures lawful { IfErr result (λ e. GcStrayByApp D.observed e (MayPassPods place times.now times.expire) (D.shown dir.old) (D.shown dir.new)) }
-    ensures told { IfOk result (λ done. D.observed ≡ true → AddsShown times place (D.shown dir.old) (D.shown dir.new) lines.old.items lines.new.items) }
+    ensures answer_holds { IfOk result (λ done. D.observed ≡ true → AddsShown times place (D.shown dir.old) (D.shown dir.new) lines.old.items lines.new.items) }
     ensures ended { IfErr result (λ e. D.observed ≡ true → EndsListingBetween times place (D.shown dir.old) (D.shown dir.new)) }
     ensures ready { D.observed ≡ true → Given (MayPassPods place times.now times.expire) (D.shown dir.old) (λ s. KeepsReady s (D.shown dir.new)) }
 {
@@ -113,7 +113,7 @@ fn pass_embryo<D: Dir>(
     ensures worked { OnlyAsks D.observed (sweeps times.now) (D.shown dir.old) (D.shown dir.new) }
     ensures cause { IfErr result (λ e. GcCause D.observed e (D.shown dir.old) (D.shown dir.new)) }
     ensures lawful { IfErr result (λ e. GcStrayByApp D.observed e (MaySweepAll times.now times.expire) (D.shown dir.old) (D.shown dir.new)) }
-    ensures told { IfOk result (λ done. D.observed ≡ true → AddsPassed times Area.Embryo (D.shown dir.old) (D.shown dir.new) lines.old.items lines.new.items) }
+    ensures answer_holds { IfOk result (λ done. D.observed ≡ true → AddsPassed times Area.Embryo (D.shown dir.old) (D.shown dir.new) lines.old.items lines.new.items) }
     ensures ended { IfErr result (λ e. D.observed ≡ true → EndsPassBetween times Area.Embryo (D.shown dir.old) (D.shown dir.new)) }
     ensures ready { D.observed ≡ true → Given (MaySweepAll times.now times.expire) (D.shown dir.old) (λ s. KeepsReady s (D.shown dir.new)) }
 {
@@ -149,7 +149,7 @@ pub(crate) fn pass<D: Dir>(
     ensures worked { OnlyAsks D.observed (sweeps times.now) (D.shown dir.old) (D.shown dir.new) }
     ensures cause { IfErr result (λ e. GcCause D.observed e (D.shown dir.old) (D.shown dir.new)) }
     ensures lawful { IfErr result (λ e. GcStrayByApp D.observed e (MaySweepAll times.now times.expire) (D.shown dir.old) (D.shown dir.new)) }
-    ensures told { IfOk result (λ done. D.observed ≡ true → AddsPassed times place (D.shown dir.old) (D.shown dir.new) lines.old.items lines.new.items) }
+    ensures answer_holds { IfOk result (λ done. D.observed ≡ true → AddsPassed times place (D.shown dir.old) (D.shown dir.new) lines.old.items lines.new.items) }
     ensures ended { IfErr result (λ e. D.observed ≡ true → EndsPassBetween times place (D.shown dir.old) (D.shown dir.new)) }
     ensures ready { D.observed ≡ true → Given (MaySweepAll times.now times.expire) (D.shown dir.old) (λ s. KeepsReady s (D.shown dir.new)) }
 {

@@ -44,7 +44,7 @@ fn discard_under_claim<D: Dir>(
     ensures aside { IfOk result (λ done. D.observed ≡ true → ExtendsBy (puts_aside pod area.Prepared area.Garbage) (D.shown dir.old) (D.shown dir.new)) }
     ensures free { IfOk result (λ done. D.observed ≡ true → LockToldBetween (D.shown dir.old) (D.shown dir.new) (pod_spot pod area.Prepared) false) }
     ensures looks { IfErr result (λ e. BusyByLooks D.observed pod area.Prepared e (D.shown dir.old) (D.shown dir.new)) }
-    ensures still { IfErr result (λ e. TakesNothing D.observed (D.shown dir.old) (D.shown dir.new)) }
+    ensures takes_nothing { IfErr result (λ e. TakesNothing D.observed (D.shown dir.old) (D.shown dir.new)) }
     ensures ready { D.observed ≡ true → Given (UnderClaim pod now) (D.shown dir.old) (λ s. KeepsReady s (D.shown dir.new)) }
 {
     probe(alloc, dir, pod, Area::Prepared)?;
@@ -90,7 +90,7 @@ pub fn discard_prepared<D: Dir>(
     ensures under_claim { IfErr result (λ e. e ≡ Setback.Busy Own → FreeIfObserved D.observed pod area.Prepared Claim mode.Exclusive (D.shown dir.old) (D.shown dir.new)) }
     ensures free { IfOk result (λ done. D.observed ≡ true → LockToldBetween (D.shown dir.old) (D.shown dir.new) (pod_spot pod area.Prepared) false) }
     ensures looks { IfErr result (λ e. BusyByLooks D.observed pod area.Prepared e (D.shown dir.old) (D.shown dir.new)) }
-    ensures still { IfErr result (λ e. TakesNothing D.observed (D.shown dir.old) (D.shown dir.new)) }
+    ensures takes_nothing { IfErr result (λ e. TakesNothing D.observed (D.shown dir.old) (D.shown dir.new)) }
     ensures ready { D.observed ≡ true → Given (MayDiscard pod now) (D.shown dir.old) (λ s. KeepsReady s (D.shown dir.new)) }
 {
     match take(alloc, dir, pod, Area::Prepared, Which::Claim) {

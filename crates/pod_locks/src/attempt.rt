@@ -39,13 +39,13 @@ fn find_prepared<D: Dir>(alloc: Global, dir: &mut D, pod: PodId) -> Result<(), C
     requires alone { has_own_open (D.shown dir.old).local (pod_text pod.bytes) ≡ false }
     ensures went { WentClaiming D.observed 24 pod (D.shown dir.old).local (D.shown dir.old) (D.shown dir.new) }
     ensures reads { ReadsAtMost 1 D.observed pod (D.shown dir.old) (D.shown dir.new) }
-    ensures still { D.observed ≡ true → MovedNothing (D.shown dir.old).process (D.shown dir.old).trace (D.shown dir.new).trace }
+    ensures moves_nothing { D.observed ≡ true → MovedNothing (D.shown dir.old).process (D.shown dir.old).trace (D.shown dir.new).trace }
     ensures found { IfOk result (λ done. D.observed ≡ true
         → IsPhaseRead (D.shown dir.old) (D.shown dir.new) pod (found.At phase.Prepared area.Prepared)) }
     ensures cause { IfErr result (λ e. ClaimCause D.observed pod e (D.shown dir.old) (D.shown dir.new)) }
     ensures owned_elsewhere { IfErr result (λ e. WhereObservedKnew D.observed MayClaim (D.shown dir.old)
         (λ s. MetOwner pod e (D.shown dir.old) (D.shown dir.new))) }
-    ensures calm { IfErr result (λ e. (which : Which) → e ≡ ClaimError.Busy pod which → ⊥) }
+    ensures never_busy { IfErr result (λ e. (which : Which) → e ≡ ClaimError.Busy pod which → ⊥) }
     ensures known { D.observed ≡ true → OnlyLooks (D.shown dir.old) (D.shown dir.new) }
 {
     match read_phase(alloc, dir, pod) {

@@ -53,7 +53,7 @@ pub fn claim<D: Dir>(alloc: Global, dir: &mut D, pod: PodId) -> Result<Owned, Cl
     ensures moved { IfOk result (λ owned. D.observed ≡ true
         → TookBoth pod owned.own (D.shown dir.old).process (D.shown dir.old).trace (D.shown dir.new).trace) }
     ensures alone { IfOk result (λ owned. D.observed ≡ true → HadBothAlone pod (D.shown dir.old).process (D.shown dir.old).trace (D.shown dir.new).trace) }
-    ensures still { IfErr result (λ e. D.observed ≡ true → MovedNothing (D.shown dir.old).process (D.shown dir.old).trace (D.shown dir.new).trace) }
+    ensures moves_nothing { IfErr result (λ e. D.observed ≡ true → MovedNothing (D.shown dir.old).process (D.shown dir.old).trace (D.shown dir.new).trace) }
     ensures runs { IfOk result (λ owned. WhereObservedKnew D.observed MayClaim (D.shown dir.old) (λ s. RunsPod pod (D.shown dir.new))) }
     ensures held { IfOk result (λ owned. WhereObservedKnew D.observed MayClaim (D.shown dir.old) (λ s. HasPod pod owned.own s (D.shown dir.new))) }
     ensures left { IfErr result (λ e. WhereObservedKnew D.observed MayClaim (D.shown dir.old) (λ s. LookedInto s (D.shown dir.new))) }

@@ -26,7 +26,7 @@ fn take<D: Dir>(alloc: Global, dir: &mut D, pod: PodId, which: Which) -> Result<
     ensures unopened { IfOk result (λ handle. IsUnopened (D.shown dir.old).local handle) }
     ensures order { IfOk result (λ handle. D.observed ≡ true
         → InOrder (D.shown dir.old).process (D.shown dir.old).trace (D.shown dir.new).trace (taking_deeds pod which handle [])) }
-    ensures still { IfOk result (λ handle. D.observed ≡ true
+    ensures moves_nothing { IfOk result (λ handle. D.observed ≡ true
         → MovedNothing (D.shown dir.old).process (D.shown dir.old).trace (D.shown dir.new).trace) }
     ensures stopped { IfErr result (λ e. ClaimWasStopped D.observed pod (CannotOpen pod which) e (D.shown dir.old) (D.shown dir.new)) }
     ensures by_other_process { IfErr result (λ e. WhereObservedKnew D.observed (MayTakePrepared pod which) (D.shown dir.old)

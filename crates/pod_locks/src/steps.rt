@@ -33,7 +33,7 @@ pub fn probe<D: Dir>(alloc: Global, dir: &mut D, pod: PodId, area: Area) -> Resu
     ensures named { IfErr result (λ e. (which : Which) → e ≡ Setback.Busy which → which ≡ Own) }
     ensures by_other_process { IfErr result (λ e. D.observed ≡ true → Given (MayLook pod area) (D.shown dir.old)
         (λ s. LockBusyElsewhere pod area mode.Shared e (D.shown dir.old) (D.shown dir.new))) }
-    ensures told { IfOk result (λ done. D.observed ≡ true → LockToldBetween (D.shown dir.old) (D.shown dir.new) (pod_spot pod area) false) }
+    ensures answer_holds { IfOk result (λ done. D.observed ≡ true → LockToldBetween (D.shown dir.old) (D.shown dir.new) (pod_spot pod area) false) }
     ensures owned { IfErr result (λ e. (which : Which) → e ≡ Setback.Busy which → D.observed ≡ true → LockToldBetween (D.shown dir.old) (D.shown dir.new) (pod_spot pod area) true) }
     ensures free { IfOk result (λ done. D.observed ≡ true → Given (MayLook pod area) (D.shown dir.old) (λ s. LooksFree pod area s (D.shown dir.new))) }
     ensures left { IfErr result (λ e. D.observed ≡ true → Given (MayLook pod area) (D.shown dir.old) (λ s. Knows (D.shown dir.new) s)) }
@@ -100,10 +100,10 @@ pub fn put_aside<D: Dir>(
     ensures worked { OnlyAsks D.observed (moves_pod pod from to) (D.shown dir.old) (D.shown dir.new) }
     ensures stopped { IfErr result (λ e. StepWasStopped D.observed pod (IsAbsentAt pod from) e (D.shown dir.old) (D.shown dir.new)) }
     ensures lawful { IfErr result (λ e. is_stage from ≡ true → NeverStray D.observed e (D.shown dir.new)) }
-    ensures calm { IfErr result (λ e. (which : Which) → e ≡ Setback.Busy which → ⊥) }
+    ensures never_busy { IfErr result (λ e. (which : Which) → e ≡ Setback.Busy which → ⊥) }
     ensures done { IfOk result (λ done. D.observed ≡ true
         → Did (MoveFolder (pod_spot pod from) (pod_spot pod to)) Done (D.shown dir.old).process (D.shown dir.old).trace (D.shown dir.new).trace) }
-    ensures still { IfErr result (λ e. TakesNothing D.observed (D.shown dir.old) (D.shown dir.new)) }
+    ensures takes_nothing { IfErr result (λ e. TakesNothing D.observed (D.shown dir.old) (D.shown dir.new)) }
     ensures ready { D.observed ≡ true → Given (MayMove pod from to) (D.shown dir.old) (λ s. KeepsReady s (D.shown dir.new)) }
 {
     match dir.move_folder(alloc, pod_spot(pod, from), pod_spot(pod, to)) {

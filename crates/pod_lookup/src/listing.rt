@@ -72,7 +72,7 @@ pub fn listed_pods<D: Dir>(alloc: Global, dir: &mut D) -> Result<Vec<PodId>, Loo
     ensures kind { IfErr result IsLookFault }
     ensures rise { IfOk result (λ pods. IsStrictlySortedBy (slice_cmp nat_cmp) (pod_names pods.items)) }
     ensures found { IfOk result (λ pods. D.observed ≡ true → FindsPodsBetween (D.shown dir.old) (D.shown dir.new) pods.items) }
-    ensures still { IfOk result (λ pods. D.observed ≡ true → FindsStanding (D.shown dir.old) (D.shown dir.new) pods.items) }
+    ensures standing { IfOk result (λ pods. D.observed ≡ true → FindsStanding (D.shown dir.old) (D.shown dir.new) pods.items) }
     ensures gone { IfOk result (λ pods. D.observed ≡ true → IsConforming (D.shown dir.new).trace
         → MissesGone (D.shown dir.old) (D.shown dir.new) pods.items) }
 {

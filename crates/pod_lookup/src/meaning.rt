@@ -47,7 +47,7 @@ fn the_only(pods: &[PodId]) -> Result<PodId, LookError>
 
 fn choose(alloc: Global, prefix: PodPrefix, pods: &[PodId]) -> Result<PodId, LookError>
     ensures chosen { IsLookupAnswer result → result ≡ choice prefix pods.now }
-    ensures calm { IsErrOf result LookError.DirFault → ⊥ }
+    ensures never_fails { IsErrOf result LookError.DirFault → ⊥ }
 {
     let found = meant(alloc, prefix, pods)?;
     the_only(&found)

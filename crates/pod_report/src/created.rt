@@ -37,7 +37,7 @@ pub(crate) fn created_at<D: Dir>(
     ensures only { OnlyAsksFor D.observed (inspects pod) (D.shown dir.old) (D.shown dir.new) }
     ensures cause { IsErrOf result ReportError.DirFault → Rose (D.shown dir.old).faults (D.shown dir.new).faults }
     ensures kind { IfErr result IsReportFailure }
-    ensures told { IfOk result (λ created. D.observed ≡ true
+    ensures answer_holds { IfOk result (λ created. D.observed ≡ true
         → TellsMarks pod area created (D.shown dir.old).process (D.shown dir.old).trace (D.shown dir.new).trace) }
 {
     match items_of(alloc, dir, pod_spot(pod, area), "") {

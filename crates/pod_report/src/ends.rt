@@ -55,7 +55,7 @@ fn end_at<D: Dir>(
     ensures only { OnlyAsksFor D.observed (inspects pod) (D.shown dir.old) (D.shown dir.new) }
     ensures cause { IsErrOf result ReportError.DirFault → Rose (D.shown dir.old).faults (D.shown dir.new).faults }
     ensures kind { IfErr result IsReportFailure }
-    ensures told { IfOk result (λ status. D.observed ≡ true → (app : List ℕ) → path.now ≡ status_path app
+    ensures answer_holds { IfOk result (λ status. D.observed ≡ true → (app : List ℕ) → path.now ≡ status_path app
         → TellsEnd pod area app status (D.shown dir.old).process (D.shown dir.old).trace (D.shown dir.new).trace) }
 {
     match read_whole(alloc, dir, pod_spot(pod, area), path, MOST) {
@@ -78,7 +78,7 @@ fn end_of<D: Dir>(
     ensures only { OnlyAsksFor D.observed (inspects pod) (D.shown dir.old) (D.shown dir.new) }
     ensures cause { IsErrOf result ReportError.DirFault → Rose (D.shown dir.old).faults (D.shown dir.new).faults }
     ensures kind { IfErr result IsReportFailure }
-    ensures told { IfOk result (λ status. D.observed ≡ true
+    ensures answer_holds { IfOk result (λ status. D.observed ≡ true
         → TellsEnd pod area app.now status (D.shown dir.old).process (D.shown dir.old).trace (D.shown dir.new).trace) }
 {
     match status_path(alloc, app.as_str()) {
@@ -111,7 +111,7 @@ fn add_end<D: Dir>(
     ensures only { OnlyAsksFor D.observed (inspects pod) (D.shown dir.old) (D.shown dir.new) }
     ensures cause { IsErrOf result ReportError.DirFault → Rose (D.shown dir.old).faults (D.shown dir.new).faults }
     ensures kind { IfErr result IsReportFailure }
-    ensures told { IfOk result (λ done. D.observed ≡ true
+    ensures answer_holds { IfOk result (λ done. D.observed ≡ true
         → AddsAppEnd pod area app.now ends.old.items ends.new.items (D.shown dir.old).process (D.shown dir.old).trace (D.shown dir.new).trace) }
 {
     match end_of(alloc, dir, pod, area, app) {
@@ -134,7 +134,7 @@ fn ends_of<D: Dir>(
     ensures only { OnlyAsksFor D.observed (inspects pod) (D.shown dir.old) (D.shown dir.new) }
     ensures cause { IsErrOf result ReportError.DirFault → Rose (D.shown dir.old).faults (D.shown dir.new).faults }
     ensures kind { IfErr result IsReportFailure }
-    ensures told { IfOk result (λ ends. D.observed ≡ true
+    ensures answer_holds { IfOk result (λ ends. D.observed ≡ true
         → TellsEachEnd pod area (item_names items.now) ends.items (D.shown dir.old).process (D.shown dir.old).trace (D.shown dir.new).trace) }
 {
     let mut ends = Vec::new(alloc);
@@ -156,7 +156,7 @@ pub(crate) fn ends_at<D: Dir>(
     ensures only { OnlyAsksFor D.observed (inspects pod) (D.shown dir.old) (D.shown dir.new) }
     ensures cause { IsErrOf result ReportError.DirFault → Rose (D.shown dir.old).faults (D.shown dir.new).faults }
     ensures kind { IfErr result IsReportFailure }
-    ensures told { IfOk result (λ ends. D.observed ≡ true
+    ensures answer_holds { IfOk result (λ ends. D.observed ≡ true
         → TellsEnds pod area ends.items (D.shown dir.old).process (D.shown dir.old).trace (D.shown dir.new).trace) }
 {
     match items_of(alloc, dir, pod_spot(pod, area), "stage1/rootfs/rkt/status") {

@@ -84,7 +84,7 @@ pub(crate) fn line_of<D: Dir>(
     ensures cause { IsErrOf result ReportError.DirFault → Rose (D.shown dir.old).faults (D.shown dir.new).faults }
     ensures kind { IfErr result IsUnsaid }
     ensures seen { IfOk result (λ line. D.observed ≡ true → LineSees pod line (D.shown dir.old) (D.shown dir.new)) }
-    ensures told { IfOk result (λ line. D.observed ≡ true → IsConforming (D.shown dir.new).trace
+    ensures answer_holds { IfOk result (λ line. D.observed ≡ true → IsConforming (D.shown dir.new).trace
         → LineTells pod line (D.shown dir.old) (D.shown dir.new)) }
     ensures stray { IsErrOf result ReportError.Stray → D.observed ≡ true → IsConforming (D.shown dir.new).trace → ⊥ }
 {

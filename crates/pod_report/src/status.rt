@@ -40,7 +40,7 @@ pub fn status_of<D: Dir>(alloc: Global, dir: &mut D, pod: PodId) -> Result<PodSt
     ensures cause { IsErrOf result ReportError.DirFault → Rose (D.shown dir.old).faults (D.shown dir.new).faults }
     ensures never { IsErrOf result ReportError.NoManifest → ⊥ }
     ensures seen { D.observed ≡ true → AnswersSeen pod result (D.shown dir.old) (D.shown dir.new) }
-    ensures told { IfOk result (λ status. D.observed ≡ true → IsConforming (D.shown dir.new).trace
+    ensures answer_holds { IfOk result (λ status. D.observed ≡ true → IsConforming (D.shown dir.new).trace
         → IsStatusBetween pod status (D.shown dir.old) (D.shown dir.new)) }
     ensures nowhere { IsErrOf result ReportError.NoPod → D.observed ≡ true → IsConforming (D.shown dir.new).trace
         → AtOwnEvent (D.shown dir.old).process (D.shown dir.old).trace (D.shown dir.new).trace (IsNowhere pod) }

@@ -39,7 +39,7 @@ fn add_line<D: Dir>(
     ensures kind { IfErr result IsUnsaid }
     ensures seen { IfOk result (λ done. D.observed ≡ true
         → AddsSeen pod lines.old.items lines.new.items (D.shown dir.old) (D.shown dir.new)) }
-    ensures told { IfOk result (λ done. D.observed ≡ true → IsConforming (D.shown dir.new).trace
+    ensures answer_holds { IfOk result (λ done. D.observed ≡ true → IsConforming (D.shown dir.new).trace
         → AddsPodLine pod lines.old.items lines.new.items (D.shown dir.old) (D.shown dir.new)) }
     ensures stray { IsErrOf result ReportError.Stray → D.observed ≡ true → IsConforming (D.shown dir.new).trace → ⊥ }
 {
@@ -59,7 +59,7 @@ fn lines_of<D: Dir>(alloc: Global, dir: &mut D, pods: &[PodId]) -> Result<Vec<Po
     ensures kind { IfErr result IsUnsaid }
     ensures seen { IfOk result (λ lines. D.observed ≡ true
         → LinesSeenBetween pods.now lines.items (D.shown dir.old) (D.shown dir.new)) }
-    ensures told { IfOk result (λ lines. D.observed ≡ true → IsConforming (D.shown dir.new).trace
+    ensures answer_holds { IfOk result (λ lines. D.observed ≡ true → IsConforming (D.shown dir.new).trace
         → TellsPods pods.now lines.items (D.shown dir.old) (D.shown dir.new)) }
     ensures stray { IsErrOf result ReportError.Stray → D.observed ≡ true → IsConforming (D.shown dir.new).trace → ⊥ }
 {

@@ -43,7 +43,7 @@ pub(crate) fn visit_pod<D: Dir>(
     ensures cause { IsErrOf result ReportError.DirFault → Rose (D.shown dir.old).faults (D.shown dir.new).faults }
     ensures kind { IfErr result IsUnsaid }
     ensures seen { IfOk result (λ found. D.observed ≡ true → VisitSees pod found (D.shown dir.old) (D.shown dir.new)) }
-    ensures told { IfOk result (λ found. D.observed ≡ true → IsConforming (D.shown dir.new).trace
+    ensures answer_holds { IfOk result (λ found. D.observed ≡ true → IsConforming (D.shown dir.new).trace
         → VisitTells pod found (D.shown dir.old) (D.shown dir.new)) }
     ensures manifest { IfOk result (λ found. IfSome found IsKnownVisit) }
     ensures stray { IsErrOf result ReportError.Stray → D.observed ≡ true → IsConforming (D.shown dir.new).trace → ⊥ }

@@ -171,7 +171,7 @@ fn act<D: Dir, B: Bundle, S: Spawner, L: Listener>(
     ensures makers { D.observed ≡ true → uses_dir (task_of line.now pod) ≡ true
         → WhereKnown (task_of line.now pod) now draw.now (D.shown dir.old) (HandsOverFaithfulPods (D.shown dir.old) (D.shown dir.new)) }
     ensures ran { CommandRan (task_of line.now pod) now draw.now (outside_at D.Dir B.Bundle dir.old bundle.old) (outside_at D.Dir B.Bundle dir.new bundle.new) (outcome_of result) }
-    ensures came { TellsOfItsApps (task_of line.now pod) now draw.now (inside_at D.Dir S.Spawner dir.old spawner.old) (inside_at D.Dir S.Spawner dir.new spawner.new) result }
+    ensures apps_told { TellsOfItsApps (task_of line.now pod) now draw.now (inside_at D.Dir S.Spawner dir.old spawner.old) (inside_at D.Dir S.Spawner dir.new spawner.new) result }
     ensures unlinked { takes_links line.now ≡ false → listener.new ≡ listener.old }
     ensures link_cause { IsErrOf result Refusal.LinkFault → Rose (L.shown listener.old).faults (L.shown listener.new).faults }
     ensures serves { L.observed ≡ true → D.observed ≡ true → (L.shown listener.old).current ≡ None

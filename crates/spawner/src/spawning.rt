@@ -38,7 +38,7 @@ pub trait Spawner {
         requires may { D.observed ≡ true → MayStart (D.shown dir.now) root.now }
         ensures kept { (shown self.old).faults ≤ (shown self.new).faults }
         ensures cause { IsErrOf result SpawnError.Failed → Rose (shown self.old).faults (shown self.new).faults }
-        ensures told { observed ≡ true → Tells (shown self.old) (SpawnRequest.Ready root.now listing.now) (ready_reply result) (shown self.new) };
+        ensures recorded { observed ≡ true → Tells (shown self.old) (SpawnRequest.Ready root.now listing.now) (ready_reply result) (shown self.new) };
 
     /// Starts the program that the first word names in an app's root, with these words, this
     /// environment alone, and this working directory in the root. The child is one that no earlier start
@@ -55,7 +55,7 @@ pub trait Spawner {
         requires may { D.observed ≡ true → MayStart (D.shown dir.now) root.now }
         ensures kept { (shown self.old).faults ≤ (shown self.new).faults }
         ensures cause { IsErrOf result SpawnError.Failed → Rose (shown self.old).faults (shown self.new).faults }
-        ensures told { observed ≡ true → Tells (shown self.old) (SpawnRequest.Start root.now argv.now env.now cwd.now) (start_reply result) (shown self.new) }
+        ensures recorded { observed ≡ true → Tells (shown self.old) (SpawnRequest.Start root.now argv.now env.now cwd.now) (start_reply result) (shown self.new) }
         ensures fresh { IfOk result (λ child. observed ≡ true → has_started child (shown self.old).calls ≡ false) };
 
     /// Waits until a program has ended, and answers its status.
@@ -63,6 +63,6 @@ pub trait Spawner {
         requires may { D.observed ≡ true → observed ≡ true → MayWait (D.shown dir.now) (shown self.old).calls child }
         ensures kept { (shown self.old).faults ≤ (shown self.new).faults }
         ensures cause { IsErrOf result SpawnError.Failed → Rose (shown self.old).faults (shown self.new).faults }
-        ensures told { observed ≡ true → Tells (shown self.old) (SpawnRequest.Wait child) (wait_reply result) (shown self.new) }
+        ensures recorded { observed ≡ true → Tells (shown self.old) (SpawnRequest.Wait child) (wait_reply result) (shown self.new) }
         ensures status { IfOk result (λ status. observed ≡ true → status ≡ (shown self.old).status child.number) };
 }

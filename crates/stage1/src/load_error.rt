@@ -57,7 +57,7 @@ pub(crate) fn read_error(error: ReadError) -> LoadError
 /// The refusal where the file at the path in the pod's folder is damaged.
 pub(crate) fn damaged(alloc: Global, pod: PodId, path: &str) -> LoadError
     ensures damage { IsLoadDamage (told_path pod path.now) result }
-    ensures calm { result ≡ LoadError.DirFault → ⊥ }
+    ensures never_fails { result ≡ LoadError.DirFault → ⊥ }
 {
     match told_path(alloc, pod, path) {
         Ok(path) => LoadError::Damaged(path),

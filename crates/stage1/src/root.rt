@@ -29,7 +29,7 @@ pub(crate) struct Root {
 fn root_with(alloc: Global, pod: PodId, path: &str, bytes: Vec<u8>) -> Result<Root, LoadError>
     ensures ok { IfOk result (IsAppRootOf bytes.items) }
     ensures fault { IfErr result (IsDamageFor (told_path pod path.now) (IsNoListing bytes.items)) }
-    ensures calm { IsErrOf result LoadError.DirFault → ⊥ }
+    ensures never_fails { IsErrOf result LoadError.DirFault → ⊥ }
 {
     match Listing::read(alloc, &bytes) {
         Ok(listing) => {

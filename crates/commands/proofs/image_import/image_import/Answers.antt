@@ -25,7 +25,7 @@ pub returns-in-Ok-clause-says : goal.returns-in-Ok-clause-says
 returns-in-Ok-clause-says g c =
     let D = g.D.Dir in
     printed_says D.observed (D.shown c.args.dir.now) (D.shown c.import.new.dir) c.args.path.now c.args.now c.args.draw (bundle_at g.B.Bundle c.args.bundle.now) (bundle_at g.B.Bundle c.import.new.bundle) c.in-Ok.done c.printed_key.result c.printed_key.ensures
-    (rw c.as_str.ensures at c.in-Ok.ensures.there) (rw c.as_str.ensures at c.in-Ok.ensures.imported) (rw c.in-Ok.is at c.import.ensures.still)
+    (rw c.as_str.ensures at c.in-Ok.ensures.there) (rw c.as_str.ensures at c.in-Ok.ensures.imported) (rw c.in-Ok.is at c.import.ensures.moves)
 
 pub returns-in-Err-clause-cause : goal.returns-in-Err-clause-cause
 returns-in-Err-clause-cause g c is = fault_cause c.import_refusal.result c.in-Err.ensures.refused c.import_refusal.ensures cc
@@ -44,4 +44,4 @@ pub returns-in-Err-clause-says : goal.returns-in-Err-clause-says
 returns-in-Err-clause-says g c =
     let D = g.D.Dir in
     refused_says D.observed (D.shown c.args.dir.now) (D.shown c.import.new.dir) c.args.path.now c.args.now c.args.draw (bundle_at g.B.Bundle c.args.bundle.now) (bundle_at g.B.Bundle c.import.new.bundle) c.in-Err.error c.import_refusal.result
-    c.import_refusal.ensures (rw c.as_str.ensures at c.in-Err.ensures.refused) (rw c.as_str.ensures at c.in-Err.ensures.turn) (rw c.in-Err.is at c.import.ensures.still) c.in-Err.ensures.by_other_process
+    c.import_refusal.ensures (rw c.as_str.ensures at c.in-Err.ensures.refused) (rw c.as_str.ensures at c.in-Err.ensures.turn) (rw c.in-Err.is at c.import.ensures.moves) c.in-Err.ensures.by_other_process

@@ -71,4 +71,4 @@ returns-in-Err-clause-says g c =
     let D = g.D.Dir in
     let S = g.S.Spawner in
     unclaimed_says D.observed S.observed c.args.pod c.args.address.now (D.shown c.args.dir.now) (D.shown c.claim.new.dir) (S.shown c.args.spawner.now) (S.shown c.args.spawner.now) (Err c.claim_refusal.result) c.in-Err.error
-    (ap Err c.claim_refusal.ensures) c.in-Err.ensures.cause c.in-Err.ensures.still c.in-Err.ensures.by_other_process c.in-Err.ensures.owned_elsewhere c.in-Err.ensures.complete refl
+    (ap Err c.claim_refusal.ensures) c.in-Err.ensures.cause c.in-Err.ensures.moves_nothing c.in-Err.ensures.by_other_process c.in-Err.ensures.owned_elsewhere c.in-Err.ensures.complete refl

@@ -15,4 +15,4 @@ pub returns-clause-says : goal.returns-clause-says
 returns-clause-says g c =
     let D = g.D.Dir in
     status_says c.args.pod D.observed (D.shown c.args.dir.now) (D.shown c.status_of-found.new.dir) c.said.result c.status_of-found.result c.said.ensures.says c.said.ensures.refuses
-    c.status_of-found.ensures.never c.status_of-found.ensures.seen c.status_of-found.ensures.told c.status_of-found.ensures.nowhere c.status_of-found.ensures.quiet c.status_of-found.ensures.stray
+    c.status_of-found.ensures.never c.status_of-found.ensures.seen c.status_of-found.ensures.answer_holds c.status_of-found.ensures.nowhere c.status_of-found.ensures.quiet c.status_of-found.ensures.stray

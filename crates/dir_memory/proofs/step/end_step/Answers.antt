@@ -18,4 +18,4 @@ pub returns-in-Err-clause-ends : goal.returns-in-Err-clause-ends
 returns-in-Err-clause-ends c = cut_ends c.args.past.now.items c.args.me c.args.request c.requires.may c.requires.about _ c.requires.asks c.refused-in-Err.ensures
 
 pub returns-in-Ok-clause-whole : goal.returns-in-Ok-clause-whole
-returns-in-Ok-clause-whole c whole = (c.in-Ok.ensures.came, c.in-Ok.ensures.reply, whole_fails c.args.past.now.items c.args.me c.args.request c.requires.may c.requires.about c.args.fails c.in-Ok.reply c.in-Ok.ensures.reply)
+returns-in-Ok-clause-whole c whole = (c.in-Ok.ensures.arrived, c.in-Ok.ensures.reply, whole_fails c.args.past.now.items c.args.me c.args.request c.requires.may c.requires.about c.args.fails c.in-Ok.reply c.in-Ok.ensures.reply)

@@ -8,8 +8,8 @@ then_so : {T E A B : Type 0} (r : Result T E) → OnOk r A → (A → B) → OnO
 then_so (Ok x) a f = f a
 then_so (Err e) a f = tt
 
-pub returns-clause-came : goal.returns-clause-came
-returns-clause-came c =
+pub returns-clause-arrived : goal.returns-clause-arrived
+returns-clause-arrived c =
     let t = is_due (c.args.calls + 1) c.args.listing in
     then_so c.others_step.result c.others_step.ensures.all (λ all. sym (ap (with_steps c.args.me c.others_step.new.past.items) (none_due t c.others_step.new.pending.items all)) ∙ c.others_step.ensures.first)
 

@@ -7,4 +7,4 @@ pub lines-preserved : goal.lines-preserved
 lines-preserved g c = λ t.
     let lines = c.args.lines.now in
     let line = c.index-lines-place.result in
-    one_before (closing c.args.root.now) _ _ _ lines c.lines.behind line (search rules) (c.lines.invariant t) (search (rules, c.in_ok-close_line.ensures.told t))
+    one_before (closing c.args.root.now) _ _ _ lines c.lines.behind line (search rules) (c.lines.invariant t) (search (rules, c.in_ok-close_line.ensures.recorded t))

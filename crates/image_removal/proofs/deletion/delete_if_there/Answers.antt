@@ -69,7 +69,7 @@ returns-then-branch-clause-kept g c =
     (λ e kept t. kept_more (kept_looking c.removed_spot.result (c.is_there.ensures.worked.extends t)) c.is_there.ensures.worked.same (kept t)) c.delete.ensures.kept
 
 pub returns-in_err-is_there-clause-lawful : goal.returns-in_err-is_there-clause-lawful
-returns-in_err-is_there-clause-lawful g c is t s k may conforming = c.is_there.ensures.told (search (rules, is, c.from_residual.ensures, c.in_err-is_there.is))
+returns-in_err-is_there-clause-lawful g c is t s k may conforming = c.is_there.ensures.never_stray (search (rules, is, c.from_residual.ensures, c.in_err-is_there.is))
 
 pub returns-then-branch-clause-lawful : goal.returns-then-branch-clause-lawful
 returns-then-branch-clause-lawful g c is t s k may conforming =

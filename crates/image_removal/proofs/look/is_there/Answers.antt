@@ -30,8 +30,8 @@ returns-in-Ok-clause-present g c is t =
     at_before (found (D.shown c.args.dir.now).process (D.shown c.args.dir.now).trace c.args.spot Own c.in-Ok.handle (D.shown c.open.new.self).trace (c.in-Ok.ensures.called.step t))
     c.in-Ok.ensures.called.same (and_call {asks = looks_at_folder c.args.spot} nothing_yet refl refl (c.close.ensures.called.step t))
 
-pub returns-in-Err-clause-told : goal.returns-in-Err-clause-told
-returns-in-Err-clause-told g c is = look_never c.args.spot c.in-Err.error c.in-Err.ensures.refusals (sym c.look_answer.ensures ∙ is)
+pub returns-in-Err-clause-never_stray : goal.returns-in-Err-clause-never_stray
+returns-in-Err-clause-never_stray g c is = look_never c.args.spot c.in-Err.error c.in-Err.ensures.refusals (sym c.look_answer.ensures ∙ is)
 
 pub returns-in-Err-clause-present : goal.returns-in-Err-clause-present
 returns-in-Err-clause-present g c is t = absurd (look_finds_none c.in-Err.error (sym c.look_answer.ensures ∙ is))

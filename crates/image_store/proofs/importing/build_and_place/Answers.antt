@@ -54,14 +54,14 @@ returns-in_err-build-clause-worked g c = worked_wider (makes_import (building_sp
 pub returns-clause-worked : goal.returns-clause-worked
 returns-clause-worked g c = worked_more (worked_wider (makes_import (building_spot c.args.draw)) c.build.ensures.worked) c.place.ensures.worked
 
-pub returns-in_err-build-clause-still : goal.returns-in_err-build-clause-still
-returns-in_err-build-clause-still g c t =
+pub returns-in_err-build-clause-moves : goal.returns-in_err-build-clause-moves
+returns-in_err-build-clause-moves g c t =
     let D = g.D.Dir in
     moves_none (building_spot c.args.draw) (key_of_image c.args.image.now) c.from_residual.result (D.shown c.args.dir.now) (D.shown c.build.new.dir) (λ is. search (rules, is, c.from_residual.ensures, c.in_err-build.is))
     (nothing_built (building_spot c.args.draw) c.build.ensures.worked t)
 
-pub returns-clause-still : goal.returns-clause-still
-returns-clause-still g c t =
+pub returns-clause-moves : goal.returns-clause-moves
+returns-clause-moves g c t =
     let D = g.D.Dir in
     let spot = building_spot c.args.draw in
     let key = key_of_image c.args.image.now in
@@ -69,4 +69,4 @@ returns-clause-still g c t =
     let mid = D.shown c.build.new.dir in
     let new = D.shown c.place.new.dir in
     moves_after spot key c.place.result old mid new c.build.ensures.worked.same (nothing_built spot c.build.ensures.worked t)
-    (subst (λ (k : StoreKey). Moves spot k c.place.result mid new) (same_key c.of.result c.args.image.now c.of.ensures) (c.place.ensures.still t))
+    (subst (λ (k : StoreKey). Moves spot k c.place.result mid new) (same_key c.of.result c.args.image.now c.of.ensures) (c.place.ensures.moves t))

@@ -105,8 +105,8 @@ returns-clause-leaves g c t intent hs imports alone k =
     (c.import_or_find-result.ensures.leaves t intent (on_gate h Images (Some Shared) ∷ hs) imports (subst (λ (l : List Held). ImportsUnderImages (on_gate h Images (Some Shared) ∷ l)) (sym alone) (under_images h))
     (c.in_ok-gate.ensures.taken t (seen_importing intent hs false None) k (ap (λ (l : List Held). not (is_open_on (Gate Images) l)) alone)))
 
-pub returns-clause-still : goal.returns-clause-still
-returns-clause-still g c t =
+pub returns-clause-moves : goal.returns-clause-moves
+returns-clause-moves g c t =
     let D = g.D.Dir in
     let h = c.in_ok-gate.gate in
     let old = D.shown c.args.dir.now in
@@ -115,4 +115,4 @@ returns-clause-still g c t =
     let new = D.shown c.unlock_area.new.dir in
     let s : Shares D.observed Images h old mid = record { same = c.share.ensures.same; faults = c.share.ensures.faults; held = c.in_ok-gate.ensures.held; unopened = c.in_ok-gate.ensures.unopened; extends = c.share.ensures.extends } in
     let b : GivesBack D.observed h late new = record { same = c.unlock_area.ensures.same; faultless = c.unlock_area.ensures.faultless; local = c.unlock_area.ensures.local; extends = c.unlock_area.ensures.extends } in
-    moves_under (building_spot c.args.draw) (key_of_image c.args.image.now) c.import_or_find-result.result old mid late new t s c.import_or_find-result.ensures.worked.same b (c.import_or_find-result.ensures.still t)
+    moves_under (building_spot c.args.draw) (key_of_image c.args.image.now) c.import_or_find-result.result old mid late new t s c.import_or_find-result.ensures.worked.same b (c.import_or_find-result.ensures.moves t)

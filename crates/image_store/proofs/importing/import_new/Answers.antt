@@ -84,8 +84,8 @@ returns-clause-leaves g c t intent hs imports under k =
     (λ seen fresh known. c.unlock_area.ensures.given t seen Incoming refl fresh known) intent hs (number_is_new h k c.in_ok-gate.ensures.unopened)
     (c.build_and_place-result.ensures.leaves t intent (on_gate h Incoming (Some Shared) ∷ hs) imports (under_both hs h under) (c.in_ok-gate.ensures.taken t (seen_importing intent hs false None) k (ap not under.free)))
 
-pub returns-clause-still : goal.returns-clause-still
-returns-clause-still g c t =
+pub returns-clause-moves : goal.returns-clause-moves
+returns-clause-moves g c t =
     let D = g.D.Dir in
     let h = c.in_ok-gate.gate in
     let old = D.shown c.args.dir.now in
@@ -94,4 +94,4 @@ returns-clause-still g c t =
     let new = D.shown c.unlock_area.new.dir in
     let s : Shares D.observed Incoming h old mid = record { same = c.share.ensures.same; faults = c.share.ensures.faults; held = c.in_ok-gate.ensures.held; unopened = c.in_ok-gate.ensures.unopened; extends = c.share.ensures.extends } in
     let b : GivesBack D.observed h late new = record { same = c.unlock_area.ensures.same; faultless = c.unlock_area.ensures.faultless; local = c.unlock_area.ensures.local; extends = c.unlock_area.ensures.extends } in
-    moves_under (building_spot c.args.draw) (key_of_image c.args.image.now) c.build_and_place-result.result old mid late new t s c.build_and_place-result.ensures.worked.same b (c.build_and_place-result.ensures.still t)
+    moves_under (building_spot c.args.draw) (key_of_image c.args.image.now) c.build_and_place-result.result old mid late new t s c.build_and_place-result.ensures.worked.same b (c.build_and_place-result.ensures.moves t)

@@ -99,17 +99,17 @@ returns-else-branch-clause-leaves g c t intent hs imports under k =
     leaves_after c.args.draw c.args.now c.args.image.now intent hs (D.shown c.args.dir.now) (D.shown c.is_there.new.dir) (D.shown c.import_new.new.dir) c.import_new.result t (follows_work (worked_reads (building_spot c.args.draw) c.of.result c.is_there.ensures.only))
     (c.import_new.ensures.leaves t intent hs imports under (c.is_there.ensures.only.known t (seen_importing intent hs false None) (may_read_there intent hs false None under.images) k))
 
-pub returns-in_err-is_there-clause-still : goal.returns-in_err-is_there-clause-still
-returns-in_err-is_there-clause-still g c t =
+pub returns-in_err-is_there-clause-moves : goal.returns-in_err-is_there-clause-moves
+returns-in_err-is_there-clause-moves g c t =
     let D = g.D.Dir in
     moves_none (building_spot c.args.draw) (key_of_image c.args.image.now) c.from_residual.result (D.shown c.args.dir.now) (D.shown c.is_there.new.dir) (λ is. search (rules, is, c.from_residual.ensures, c.in_err-is_there.is))
     (nothing_read c.of.result c.is_there.ensures.only t)
 
-pub returns-then-branch-clause-still : goal.returns-then-branch-clause-still
-returns-then-branch-clause-still g c t = nothing_read c.of.result c.is_there.ensures.only t
+pub returns-then-branch-clause-moves : goal.returns-then-branch-clause-moves
+returns-then-branch-clause-moves g c t = nothing_read c.of.result c.is_there.ensures.only t
 
-pub returns-else-branch-clause-still : goal.returns-else-branch-clause-still
-returns-else-branch-clause-still g c t =
+pub returns-else-branch-clause-moves : goal.returns-else-branch-clause-moves
+returns-else-branch-clause-moves g c t =
     let D = g.D.Dir in
     moves_after (building_spot c.args.draw) (key_of_image c.args.image.now) c.import_new.result (D.shown c.args.dir.now) (D.shown c.is_there.new.dir) (D.shown c.import_new.new.dir) c.is_there.ensures.only.same
-    (nothing_read c.of.result c.is_there.ensures.only t) (c.import_new.ensures.still t)
+    (nothing_read c.of.result c.is_there.ensures.only t) (c.import_new.ensures.moves t)

@@ -40,11 +40,11 @@ returns-in-Err-clause-left g c =
     subst (λ (r : Result Bool StoreError). Unbrought r (D.observed ≡ true → WhereImportFilled c.args.draw old (λ intent hs entries. Knows new (seen_importing intent hs true (Some (holding (building_spot c.args.draw) entries)))))) (sym c.move_answer.ensures)
     (move_left D.observed c.args.draw old new c.args.key c.in-Err.error (with_spots c.building_spot-from.ensures c.in_ok-to.ensures.spot c.in-Err.ensures.called))
 
-pub returns-in-Ok-clause-still : goal.returns-in-Ok-clause-still
-returns-in-Ok-clause-still g c t = moved_done (building_spot c.args.draw) c.args.key t (with_spots c.building_spot-from.ensures c.in_ok-to.ensures.spot c.in-Ok.ensures.called)
+pub returns-in-Ok-clause-moves : goal.returns-in-Ok-clause-moves
+returns-in-Ok-clause-moves g c t = moved_done (building_spot c.args.draw) c.args.key t (with_spots c.building_spot-from.ensures c.in_ok-to.ensures.spot c.in-Ok.ensures.called)
 
-pub returns-in-Err-clause-still : goal.returns-in-Err-clause-still
-returns-in-Err-clause-still g c t =
+pub returns-in-Err-clause-moves : goal.returns-in-Err-clause-moves
+returns-in-Err-clause-moves g c t =
     let D = g.D.Dir in
     let old = D.shown c.args.dir.now in
     let new = D.shown c.move_folder.new.self in

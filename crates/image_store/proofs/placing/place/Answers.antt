@@ -31,9 +31,9 @@ returns-in-Ok-true-clause-left g c =
     unbrought_any c.compare.result (D.observed ≡ true → WhereImportFilled c.args.draw (D.shown c.args.dir.now) (λ intent hs entries. Knows (D.shown c.compare.new.dir) (seen_importing intent hs true (Some (holding (building_spot c.args.draw) entries)))))
     (λ t intent hs entries imports under k. c.compare.ensures.only.known t (seen_importing intent hs true (Some (holding (building_spot c.args.draw) entries))) (may_read_there intent hs true (Some (holding (building_spot c.args.draw) entries)) under.images) (left t intent hs entries imports under k))
 
-pub returns-in-Ok-true-clause-still : goal.returns-in-Ok-true-clause-still
-returns-in-Ok-true-clause-still g c t =
+pub returns-in-Ok-true-clause-moves : goal.returns-in-Ok-true-clause-moves
+returns-in-Ok-true-clause-moves g c t =
     let D = g.D.Dir in
     let key = c.args.key in
     moves_none (building_spot c.args.draw) key c.compare.result (D.shown c.args.dir.now) (D.shown c.compare.new.dir) (λ is. not_brought c.compare.result is c.compare.ensures.there)
-    (nothing_more (rw c.in-Ok-true.field-0-test at c.in-Ok-true.ensures.still t) (subst (λ (me : ℕ). MovedNoImage me (D.shown c.bring.new.dir).trace (D.shown c.compare.new.dir).trace) c.bring.ensures.worked.same (nothing_read key c.compare.ensures.only t)))
+    (nothing_more (rw c.in-Ok-true.field-0-test at c.in-Ok-true.ensures.moves t) (subst (λ (me : ℕ). MovedNoImage me (D.shown c.bring.new.dir).trace (D.shown c.compare.new.dir).trace) c.bring.ensures.worked.same (nothing_read key c.compare.ensures.only t)))

@@ -5,7 +5,7 @@ use Rattle.metadata.proofs.service.serve.Goals as goal
 pub returns-in-Ok-clause-serves : goal.returns-in-Ok-clause-serves
 returns-in-Ok-clause-serves g c l d none =
     let L = g.L.Listener in
-    let bound = c.in-Ok.ensures.told l in
+    let bound = c.in-Ok.ensures.recorded l in
     inl (record {
       bound = L.shown c.bind.new.self;
       binds = bound;
@@ -22,7 +22,7 @@ returns-in-Err-clause-serves g c l d none =
       record {
         refused = c.link_fault.ensures.refused;
         cause = λ is. search (rules, is);
-        same = c.in-Err.ensures.told l;
+        same = c.in-Err.ensures.recorded l;
       },
       refl,
     )

@@ -12,8 +12,8 @@ returns-then-faults-before-clause-serves g c l d none =
     let D = g.D.Dir in
     let L = g.L.Listener in
     let old = L.shown c.args.link.now in
-    let took = c.in-Ok.ensures.told l in
-    let left = leaves_part c.args.key.now took.0 old (L.shown c.next.new.self) (L.shown c.serve_one-served.new.link) (L.shown c.hang_up.new.self) (D.shown c.args.dir.now) (D.shown c.serve_one-served.new.dir) took.1 (took.2 ∙ ap (λ (o : Option Connection). past_with_current (L.shown c.next.new.self).faults old.past o) none) took.3 (c.hang_up.ensures.told l)
+    let took = c.in-Ok.ensures.recorded l in
+    let left = leaves_part c.args.key.now took.0 old (L.shown c.next.new.self) (L.shown c.serve_one-served.new.link) (L.shown c.hang_up.new.self) (D.shown c.args.dir.now) (D.shown c.serve_one-served.new.dir) took.1 (took.2 ∙ ap (λ (o : Option Connection). past_with_current (L.shown c.next.new.self).faults old.past o) none) took.3 (c.hang_up.ensures.recorded l)
     LinkFault (c.serve_one-served.ensures.part l d) in
     record {
       connection = left.connection;
@@ -32,9 +32,9 @@ returns-else-faults-before-clause-serves g c l d none =
     let D = g.D.Dir in
     let L = g.L.Listener in
     let old = L.shown c.args.link.now in
-    let took = c.in-Ok.ensures.told l in
+    let took = c.in-Ok.ensures.recorded l in
     let e = c.serve_one-served.ensures in
-    let left = leaves_so c.args.key.now took.0 old (L.shown c.next.new.self) (L.shown c.serve_one-served.new.link) (L.shown c.hang_up.new.self) (D.shown c.args.dir.now) (D.shown c.serve_one-served.new.dir) took.1 (took.2 ∙ ap (λ (o : Option Connection). past_with_current (L.shown c.next.new.self).faults old.past o) none) took.3 (c.hang_up.ensures.told l)
+    let left = leaves_so c.args.key.now took.0 old (L.shown c.next.new.self) (L.shown c.serve_one-served.new.link) (L.shown c.hang_up.new.self) (D.shown c.args.dir.now) (D.shown c.serve_one-served.new.dir) took.1 (took.2 ∙ ap (λ (o : Option Connection). past_with_current (L.shown c.next.new.self).faults old.past o) none) took.3 (c.hang_up.ensures.recorded l)
     c.serve_one-served.result (search rules) (e.part l d) in
     record {
       connection = left.connection;
@@ -50,7 +50,7 @@ returns-else-faults-before-clause-serves g c l d none =
 
 pub returns-in-Err-clause-serves : goal.returns-in-Err-clause-serves
 returns-in-Err-clause-serves g c l d none =
-    (record { refused = c.link_fault.ensures.refused; cause = λ is. search (rules, is); same = c.in-Err.ensures.told l }, refl)
+    (record { refused = c.link_fault.ensures.refused; cause = λ is. search (rules, is); same = c.in-Err.ensures.recorded l }, refl)
 
 pub returns-in-Err-clause-only : goal.returns-in-Err-clause-only
 returns-in-Err-clause-only g c = asks_none

@@ -51,12 +51,12 @@ returns-in-Err-clause-extends g c t = and_call nothing_yet refl (spot_self c.arg
 pub returns-in-Err-Missing-clause-there : goal.returns-in-Err-Missing-clause-there
 returns-in-Err-Missing-clause-there g c t = let e = rw c.in-Err-Missing.field-0-is at c.in-Err-Missing.ensures in missed _ _ _ _ (e.called.step t)
 
-pub returns-in-Ok-answer-clause-told : goal.returns-in-Ok-answer-clause-told
-returns-in-Ok-answer-clause-told g c t =
+pub returns-in-Ok-answer-clause-answer_holds : goal.returns-in-Ok-answer-clause-answer_holds
+returns-in-Ok-answer-clause-answer_holds g c t =
     told_before {asks = is_look_at (spot_eq c.args.spot)} (told_free _ _ _ _ _ _ (c.in-Ok.ensures.called.step t) (rw c.open.ensures.called.same at (c.in-Ok-answer.ensures.called.step t))) (c.try_lock-answer.ensures.called.same ∙ c.open.ensures.called.same) (and_call nothing_yet refl refl (c.close.ensures.called.step t))
 
-pub returns-in-Err-Locked-clause-told : goal.returns-in-Err-Locked-clause-told
-returns-in-Err-Locked-clause-told g c t =
+pub returns-in-Err-Locked-clause-answer_holds : goal.returns-in-Err-Locked-clause-answer_holds
+returns-in-Err-Locked-clause-answer_holds g c t =
     let shown = g.D.Dir.shown in
     let f = rw c.in-Err-Locked.is at c.in-Err-Locked.field-0-is in
     let e : done_reply c.try_lock-answer.result ≡ Refused Locked 0 = ap done_reply c.in-Err-Locked.is ∙ ap (λ (d : DirError). Refused d 0) f in

@@ -30,12 +30,12 @@ returns-then-there-clause-phase g c t stays =
 pub returns-then-there-2-clause-phase : goal.returns-then-there-2-clause-phase
 returns-then-there-2-clause-phase g c t stays =
     let look = rw (c.if-there-2.true, c.ask.ensures.same) at (c.in_ok-there-in-Some.ensures.there t) in
-    let told = rw c.in-Some.is at (c.in_ok-ask-in_default.ensures.told) in
+    let told = rw c.in-Some.is at (c.in_ok-ask-in_default.ensures.answer_holds) in
     at_weaker (HasPhase c.args.spot c.stage_phase-then-there-2.result) (λ w here. record { owned = c.in-Some.owned; here = here; is = c.stage_phase-then-there-2.ensures }) (settle c.requires.area (told t) look stays)
 
 pub returns-then-there-2-clause-found : goal.returns-then-there-2-clause-found
 returns-then-there-2-clause-found g c t =
-    let told = rw c.in-Some.is at (c.in_ok-ask-in_default.ensures.told) in
+    let told = rw c.in-Some.is at (c.in_ok-ask-in_default.ensures.answer_holds) in
     inr (c.in-Some.owned, told_before {asks = is_look_at (spot_eq c.args.spot)} (told t) c.ask.ensures.same (c.look-in-Some.ensures.extends t), c.stage_phase-then-there-2.ensures)
 
 pub returns-in_err-there-in-Some-clause-known : goal.returns-in_err-there-in-Some-clause-known

@@ -53,8 +53,8 @@ returns-clause-stopped g c =
     (mark_stops (record { spot = c.pod_spot.result; path = c.as_str.result.now }) c.args.pod c.args.now c.in-Err-make_file_in.error (λ is. search (rules, is, c.in-Err-make_file_in.error-is)) made.refusals (λ is. made.cause (ap Err is))
     (with_mark c.args.pod c.args.now c.pod_spot.ensures (c.as_str.ensures ∙ c.in-Ok.ensures) made.called))
 
-pub returns-clause-calm : goal.returns-clause-calm
-returns-clause-calm g c which is = never_busy c.in-Err-make_file_in.error which (sym c.set_back.ensures ∙ is)
+pub returns-clause-never_busy : goal.returns-clause-never_busy
+returns-clause-never_busy g c which is = never_busy c.in-Err-make_file_in.error which (sym c.set_back.ensures ∙ is)
 
 pub returns-clause-left : goal.returns-clause-left
 returns-clause-left g c =

@@ -78,7 +78,7 @@ returns-in_err-mark-clause-by_other_process g c =
     err_same (λ e. D.observed ≡ true → Given (MayRemove c.args.now) old (λ s. LockBusyElsewhere c.args.pod Run Shared e old new)) c.mark.result c.from_residual-in_err-mark.result
     (λ e h. search (rules, h, c.from_residual-in_err-mark.ensures, c.in_err-mark.is))
     (if_err (λ e. (which : Which) → e ≡ stop.Busy which → ⊥) (λ e. D.observed ≡ true → Given (MayRemove c.args.now) old (λ s. LockBusyElsewhere c.args.pod Run Shared e old new)) c.mark.result
-    (λ e calm t s k may which is. absurd (calm which is)) c.mark.ensures.calm)
+    (λ e calm t s k may which is. absurd (calm which is)) c.mark.ensures.never_busy)
 
 pub returns-in_err-mark-clause-ready : goal.returns-in_err-mark-clause-ready
 returns-in_err-mark-clause-ready g c t = ready_unmarked c.args.pod (c.in_ok-probe.ensures.free t) (c.mark.ensures.left t)
@@ -104,7 +104,7 @@ returns-clause-by_other_process g c =
     let old = D.shown c.args.dir.now in
     let new = D.shown c.put_aside.new.dir in
     if_err (λ e. (which : Which) → e ≡ stop.Busy which → ⊥) (λ e. D.observed ≡ true → Given (MayRemove c.args.now) old (λ s. LockBusyElsewhere c.args.pod Run Shared e old new)) c.put_aside.result
-    (λ e calm t s k may which is. absurd (calm which is)) c.put_aside.ensures.calm
+    (λ e calm t s k may which is. absurd (calm which is)) c.put_aside.ensures.never_busy
 
 pub returns-clause-done : goal.returns-clause-done
 returns-clause-done g c =
@@ -134,7 +134,7 @@ returns-clause-owned g c =
     let old = D.shown c.args.dir.now in
     let new = D.shown c.put_aside.new.dir in
     if_err (λ e. (which : Which) → e ≡ stop.Busy which → ⊥) (λ e. (which : Which) → e ≡ stop.Busy which → D.observed ≡ true → LockToldBetween old new (pod_spot c.args.pod Run) true) c.put_aside.result
-    (λ e calm which is t. absurd (calm which is)) c.put_aside.ensures.calm
+    (λ e calm which is t. absurd (calm which is)) c.put_aside.ensures.never_busy
 
 pub returns-in_err-mark-clause-owned : goal.returns-in_err-mark-clause-owned
 returns-in_err-mark-clause-owned g c =
@@ -144,7 +144,7 @@ returns-in_err-mark-clause-owned g c =
     err_same (λ e. (which : Which) → e ≡ stop.Busy which → D.observed ≡ true → LockToldBetween old new (pod_spot c.args.pod Run) true) c.mark.result c.from_residual-in_err-mark.result
     (λ e h. search (rules, h, c.from_residual-in_err-mark.ensures, c.in_err-mark.is))
     (if_err (λ e. (which : Which) → e ≡ stop.Busy which → ⊥) (λ e. (which : Which) → e ≡ stop.Busy which → D.observed ≡ true → LockToldBetween old new (pod_spot c.args.pod Run) true) c.mark.result
-    (λ e calm which is t. absurd (calm which is)) c.mark.ensures.calm)
+    (λ e calm which is t. absurd (calm which is)) c.mark.ensures.never_busy)
 
 pub returns-in_err-probe-clause-peeks : goal.returns-in_err-probe-clause-peeks
 returns-in_err-probe-clause-peeks g c =
@@ -155,7 +155,7 @@ pub returns-clause-peeks : goal.returns-clause-peeks
 returns-clause-peeks g c =
     let D = g.D.Dir in
     if_err (λ e. (which : Which) → e ≡ stop.Busy which → ⊥) (λ e. BusyByPeeks D.observed c.args.pod Run e (D.shown c.args.dir.now) (D.shown c.put_aside.new.dir)) c.put_aside.result
-    (λ e calm which is t. absurd (calm which is)) c.put_aside.ensures.calm
+    (λ e calm which is t. absurd (calm which is)) c.put_aside.ensures.never_busy
 
 pub returns-in_err-mark-clause-peeks : goal.returns-in_err-mark-clause-peeks
 returns-in_err-mark-clause-peeks g c =
@@ -164,27 +164,27 @@ returns-in_err-mark-clause-peeks g c =
     let new = D.shown c.mark.new.dir in
     err_same (λ e. BusyByPeeks D.observed c.args.pod Run e old new) c.mark.result c.from_residual-in_err-mark.result
     (λ e h. search (rules, h, c.from_residual-in_err-mark.ensures, c.in_err-mark.is))
-    (if_err (λ e. (which : Which) → e ≡ stop.Busy which → ⊥) (λ e. BusyByPeeks D.observed c.args.pod Run e old new) c.mark.result (λ e calm which is t. absurd (calm which is)) c.mark.ensures.calm)
+    (if_err (λ e. (which : Which) → e ≡ stop.Busy which → ⊥) (λ e. BusyByPeeks D.observed c.args.pod Run e old new) c.mark.result (λ e calm which is t. absurd (calm which is)) c.mark.ensures.never_busy)
 
-pub returns-in_err-probe-clause-still : goal.returns-in_err-probe-clause-still
-returns-in_err-probe-clause-still g c =
+pub returns-in_err-probe-clause-takes_nothing : goal.returns-in_err-probe-clause-takes_nothing
+returns-in_err-probe-clause-takes_nothing g c =
     let D = g.D.Dir in
     err_all (λ e. TakesNothing D.observed (D.shown c.args.dir.now) (D.shown c.probe.new.dir)) c.from_residual.result (λ e t. took_looks c.args.pod Run (c.probe.ensures.worked.extends t))
 
-pub returns-in_err-mark-clause-still : goal.returns-in_err-mark-clause-still
-returns-in_err-mark-clause-still g c =
+pub returns-in_err-mark-clause-takes_nothing : goal.returns-in_err-mark-clause-takes_nothing
+returns-in_err-mark-clause-takes_nothing g c =
     let D = g.D.Dir in
     err_all (λ e. TakesNothing D.observed (D.shown c.args.dir.now) (D.shown c.mark.new.dir)) c.from_residual-in_err-mark.result
     (λ e t. took_more (took_looks c.args.pod Run (c.probe.ensures.worked.extends t)) c.probe.ensures.worked.same (took_marks c.args.pod c.args.now (c.mark.ensures.worked.extends t)))
 
-pub returns-clause-still : goal.returns-clause-still
-returns-clause-still g c =
+pub returns-clause-takes_nothing : goal.returns-clause-takes_nothing
+returns-clause-takes_nothing g c =
     let D = g.D.Dir in
     let new = D.shown c.put_aside.new.dir in
     let looked = c.probe.ensures.worked in
     let marked = c.mark.ensures.worked in
     if_err (λ e. TakesNothing D.observed (D.shown c.mark.new.dir) new) (λ e. TakesNothing D.observed (D.shown c.args.dir.now) new) c.put_aside.result
-    (λ e x t. took_more (took_looks c.args.pod Run (looked.extends t)) looked.same (took_more (took_marks c.args.pod c.args.now (marked.extends t)) marked.same (x t))) c.put_aside.ensures.still
+    (λ e x t. took_more (took_looks c.args.pod Run (looked.extends t)) looked.same (took_more (took_marks c.args.pod c.args.now (marked.extends t)) marked.same (x t))) c.put_aside.ensures.takes_nothing
 
 pub returns-clause-aside : goal.returns-clause-aside
 returns-clause-aside g c =
@@ -198,18 +198,18 @@ returns-in_err-probe-clause-named g c =
 
 pub returns-clause-named : goal.returns-clause-named
 returns-clause-named g c =
-    if_err (λ e. (which : Which) → e ≡ stop.Busy which → ⊥) (λ e. (which : Which) → e ≡ stop.Busy which → which ≡ Own) c.put_aside.result (λ e calm which is. absurd (calm which is)) c.put_aside.ensures.calm
+    if_err (λ e. (which : Which) → e ≡ stop.Busy which → ⊥) (λ e. (which : Which) → e ≡ stop.Busy which → which ≡ Own) c.put_aside.result (λ e calm which is. absurd (calm which is)) c.put_aside.ensures.never_busy
 
 pub returns-in_err-mark-clause-named : goal.returns-in_err-mark-clause-named
 returns-in_err-mark-clause-named g c =
     err_same (λ e. (which : Which) → e ≡ stop.Busy which → which ≡ Own) c.mark.result c.from_residual-in_err-mark.result (λ e h. search (rules, h, c.from_residual-in_err-mark.ensures, c.in_err-mark.is))
-    (if_err (λ e. (which : Which) → e ≡ stop.Busy which → ⊥) (λ e. (which : Which) → e ≡ stop.Busy which → which ≡ Own) c.mark.result (λ e calm which is. absurd (calm which is)) c.mark.ensures.calm)
+    (if_err (λ e. (which : Which) → e ≡ stop.Busy which → ⊥) (λ e. (which : Which) → e ≡ stop.Busy which → which ≡ Own) c.mark.result (λ e calm which is. absurd (calm which is)) c.mark.ensures.never_busy)
 
 pub returns-clause-free : goal.returns-clause-free
 returns-clause-free g c =
     let D = g.D.Dir in
     ok_all (λ done. D.observed ≡ true → LockToldBetween (D.shown c.args.dir.now) (D.shown c.put_aside.new.dir) (pod_spot c.args.pod Run) false) c.put_aside.result
-    (λ done t. told_within grown_none refl (grown_more ((follows_work c.mark.ensures.worked).grown t) ((follows_work c.put_aside.ensures.worked).grown t)) (c.in_ok-probe.ensures.told t))
+    (λ done t. told_within grown_none refl (grown_more ((follows_work c.mark.ensures.worked).grown t) ((follows_work c.put_aside.ensures.worked).grown t)) (c.in_ok-probe.ensures.answer_holds t))
 
 pub returns-clause-noted : goal.returns-clause-noted
 returns-clause-noted g c =

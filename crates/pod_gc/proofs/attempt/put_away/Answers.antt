@@ -104,7 +104,7 @@ returns-in-AbortedPrepare-clause-missed g c =
     let old = D.shown c.args.dir.now in
     let new = D.shown c.discard_aborted.new.dir in
     err_both (λ e. StepWasStopped D.observed c.args.pod (IsAbsentAt c.args.pod Prepare) e old new) (λ e. TakesNothing D.observed old new) (λ e. MissedAtItsArea D.observed c.args.pod c.args.phase e old new) c.discard_aborted.result
-    (λ e x still. missed_here old new c.args.phase Prepare (ap area_of_phase c.in-AbortedPrepare.is) x.missing still) c.discard_aborted.ensures.stopped c.discard_aborted.ensures.still
+    (λ e x still. missed_here old new c.args.phase Prepare (ap area_of_phase c.in-AbortedPrepare.is) x.missing still) c.discard_aborted.ensures.stopped c.discard_aborted.ensures.takes_nothing
 
 pub returns-in-AbortedPrepare-clause-refused : goal.returns-in-AbortedPrepare-clause-refused
 returns-in-AbortedPrepare-clause-refused g c =
@@ -129,7 +129,7 @@ returns-in-Exited-clause-missed g c =
     let old = D.shown c.args.dir.now in
     let new = D.shown c.retire_exited.new.dir in
     err_both (λ e. StepWasStopped D.observed c.args.pod (IsAbsentAt c.args.pod Run) e old new) (λ e. TakesNothing D.observed old new) (λ e. MissedAtItsArea D.observed c.args.pod c.args.phase e old new) c.retire_exited.result
-    (λ e x still. missed_here old new c.args.phase Run (ap area_of_phase c.in-Exited.is) x.missing still) c.retire_exited.ensures.stopped c.retire_exited.ensures.still
+    (λ e x still. missed_here old new c.args.phase Run (ap area_of_phase c.in-Exited.is) x.missing still) c.retire_exited.ensures.stopped c.retire_exited.ensures.takes_nothing
 
 pub returns-in-Exited-clause-refused : goal.returns-in-Exited-clause-refused
 returns-in-Exited-clause-refused g c =
@@ -156,7 +156,7 @@ returns-in-Prepared-clause-missed g c =
     let old = D.shown c.args.dir.now in
     let new = D.shown c.discard_prepared.new.dir in
     err_both (λ e. StoppedAlone D.observed c.args.pod e old new) (λ e. TakesNothing D.observed old new) (λ e. MissedAtItsArea D.observed c.args.pod c.args.phase e old new) c.discard_prepared.result
-    (λ e x still. missed_here old new c.args.phase Prepared (ap area_of_phase c.in-Prepared.is) x.missing still) c.discard_prepared.ensures.stopped c.discard_prepared.ensures.still
+    (λ e x still. missed_here old new c.args.phase Prepared (ap area_of_phase c.in-Prepared.is) x.missing still) c.discard_prepared.ensures.stopped c.discard_prepared.ensures.takes_nothing
 
 pub returns-in-Prepared-clause-refused : goal.returns-in-Prepared-clause-refused
 returns-in-Prepared-clause-refused g c =
@@ -177,14 +177,14 @@ returns-in_default-clause-reads g c = unread_here c.args.pod (g.D.Dir.shown c.ar
 pub returns-in-AbortedPrepare-clause-kept : goal.returns-in-AbortedPrepare-clause-kept
 returns-in-AbortedPrepare-clause-kept g c =
     let D = g.D.Dir in
-    if_err (λ e. TakesNothing D.observed (D.shown c.args.dir.now) (D.shown c.discard_aborted.new.dir)) (λ e. D.observed ≡ true → KeepsFolders (D.shown c.args.dir.now) (D.shown c.discard_aborted.new.dir)) c.discard_aborted.result (λ e still t. kept_untaken (still t)) c.discard_aborted.ensures.still
+    if_err (λ e. TakesNothing D.observed (D.shown c.args.dir.now) (D.shown c.discard_aborted.new.dir)) (λ e. D.observed ≡ true → KeepsFolders (D.shown c.args.dir.now) (D.shown c.discard_aborted.new.dir)) c.discard_aborted.result (λ e still t. kept_untaken (still t)) c.discard_aborted.ensures.takes_nothing
 
 pub returns-in-Prepared-clause-kept : goal.returns-in-Prepared-clause-kept
 returns-in-Prepared-clause-kept g c =
     let D = g.D.Dir in
-    if_err (λ e. TakesNothing D.observed (D.shown c.args.dir.now) (D.shown c.discard_prepared.new.dir)) (λ e. D.observed ≡ true → KeepsFolders (D.shown c.args.dir.now) (D.shown c.discard_prepared.new.dir)) c.discard_prepared.result (λ e still t. kept_untaken (still t)) c.discard_prepared.ensures.still
+    if_err (λ e. TakesNothing D.observed (D.shown c.args.dir.now) (D.shown c.discard_prepared.new.dir)) (λ e. D.observed ≡ true → KeepsFolders (D.shown c.args.dir.now) (D.shown c.discard_prepared.new.dir)) c.discard_prepared.result (λ e still t. kept_untaken (still t)) c.discard_prepared.ensures.takes_nothing
 
 pub returns-in-Exited-clause-kept : goal.returns-in-Exited-clause-kept
 returns-in-Exited-clause-kept g c =
     let D = g.D.Dir in
-    if_err (λ e. TakesNothing D.observed (D.shown c.args.dir.now) (D.shown c.retire_exited.new.dir)) (λ e. D.observed ≡ true → KeepsFolders (D.shown c.args.dir.now) (D.shown c.retire_exited.new.dir)) c.retire_exited.result (λ e still t. kept_untaken (still t)) c.retire_exited.ensures.still
+    if_err (λ e. TakesNothing D.observed (D.shown c.args.dir.now) (D.shown c.retire_exited.new.dir)) (λ e. D.observed ≡ true → KeepsFolders (D.shown c.args.dir.now) (D.shown c.retire_exited.new.dir)) c.retire_exited.result (λ e still t. kept_untaken (still t)) c.retire_exited.ensures.takes_nothing

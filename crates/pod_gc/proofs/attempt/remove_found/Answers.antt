@@ -113,7 +113,7 @@ returns-clause-missed g c =
     let mid = D.shown c.put_away.new.dir in
     let new = D.shown c.delete_at.new.dir in
     err_both (λ e. StepWasStopped D.observed c.args.pod (IsAbsentAt c.args.pod c.aside.result) e mid new) (λ e. MissedUntaken D.observed e mid new) (λ e. MissedThereOrAside D.observed c.args.pod c.args.phase e old new) c.delete_at.result
-    (λ e x still. missed_aside old mid new c.args.phase c.aside.result c.aside.ensures c.put_away.ensures.worked.same c.in_ok-put_away.ensures.put x.missing (λ is. still (ap is_missing is))) c.delete_at.ensures.stopped c.delete_at.ensures.still
+    (λ e x still. missed_aside old mid new c.args.phase c.aside.result c.aside.ensures c.put_away.ensures.worked.same c.in_ok-put_away.ensures.put x.missing (λ is. still (ap is_missing is))) c.delete_at.ensures.stopped c.delete_at.ensures.takes_nothing
 
 pub returns-clause-refused : goal.returns-clause-refused
 returns-clause-refused g c =

@@ -32,7 +32,7 @@ returns-in-Embryo-clause-by_other_process g c =
     let old = D.shown c.args.dir.now in
     let new = D.shown c.deal_embryo.new.dir in
     ok_both (λ deed. (which : Which) → refused_lock deed ≡ Some which → ⊥) (λ deed. D.observed ≡ true → DeedCause c.args.pod area.Embryo deed old.process old.trace new.trace) (λ deed. LeavesIfObserved D.observed (MayPassPods c.args.area c.args.times.now c.args.times.expire) c.args.pod c.args.area deed old new) c.deal_embryo.result
-    (λ deed calm cause t s k m. subst (λ (a : Area). LeavesToAnother c.args.pod a deed old new) (sym c.in-Embryo.is) (embryo_left calm (cause t))) c.deal_embryo.ensures.calm c.deal_embryo.ensures.deed
+    (λ deed calm cause t s k m. subst (λ (a : Area). LeavesToAnother c.args.pod a deed old new) (sym c.in-Embryo.is) (embryo_left calm (cause t))) c.deal_embryo.ensures.never_busy c.deal_embryo.ensures.deed
 
 pub returns-in-Embryo-clause-ready : goal.returns-in-Embryo-clause-ready
 returns-in-Embryo-clause-ready g c t s k m = c.deal_embryo.ensures.ready t c.args.times.now s k (may_embryo c.in-Embryo.is m)

@@ -52,10 +52,10 @@ returns-clause-deed g c =
     (λ e x. set_stopped c.args.pod area.Embryo (λ s h. h) x) c.put_aside-answer.ensures.stopped)
     (claims_elsewhere D.observed c.args.pod area.Embryo old new c.put_aside-answer.result (λ is. cc)))
 
-pub returns-clause-calm : goal.returns-clause-calm
-returns-clause-calm g c =
+pub returns-clause-never_busy : goal.returns-clause-never_busy
+returns-clause-never_busy g c =
     subst (λ (x : Result Deed GcError). IfOk x (λ deed. (which : Which) → refused_lock deed ≡ Some which → ⊥)) (sym c.deed_of.ensures)
-    (step_calm (Moved area.Garbage) (λ which is. cc) c.put_aside-answer.result c.put_aside-answer.ensures.calm)
+    (step_calm (Moved area.Garbage) (λ which is. cc) c.put_aside-answer.result c.put_aside-answer.ensures.never_busy)
 
 pub returns-clause-ready : goal.returns-clause-ready
 returns-clause-ready g c t now = ready_embryo c.args.pod (c.put_aside-answer.ensures.ready t)
@@ -65,14 +65,14 @@ returns-clause-left_untouched g c =
     let D = g.D.Dir in
     let old = D.shown c.args.dir.now in
     let new = D.shown c.put_aside-answer.new.dir in
-    let calm = c.put_aside-answer.ensures.calm in
+    let calm = c.put_aside-answer.ensures.never_busy in
     subst (λ (x : Result Deed GcError). IfOk x (λ deed. LetBe D.observed c.args.pod area.Embryo deed old new)) (sym c.deed_of.ensures)
     (step_let_be D.observed c.args.pod area.Embryo (Moved area.Garbage) old new refl (λ is. cc) c.put_aside-answer.result
     (if_err (λ e. (which : Which) → e ≡ stop.Busy which → ⊥) (λ e. BusyByLooks D.observed c.args.pod area.Embryo e old new) c.put_aside-answer.result (λ e never which is t. absurd (never which is)) calm)
     (if_err (λ e. (which : Which) → e ≡ stop.Busy which → ⊥) (λ e. (which : Which) → e ≡ stop.Busy which → may_be_busy area.Embryo ≡ true) c.put_aside-answer.result
     (λ e never which is. absurd (never which is)) calm)
     (owns_elsewhere area.Embryo c.put_aside-answer.result refl)
-    (if_err (λ e. TakesNothing D.observed old new) (λ e. MissedUntaken D.observed e old new) c.put_aside-answer.result (λ e x is. x) c.put_aside-answer.ensures.still)
+    (if_err (λ e. TakesNothing D.observed old new) (λ e. MissedUntaken D.observed e old new) c.put_aside-answer.result (λ e x is. x) c.put_aside-answer.ensures.takes_nothing)
     (ok_all (λ done. (to : Area) → Moved area.Garbage ≡ Moved to → D.observed ≡ true → ExtendsBy (puts_aside_only c.args.pod area.Embryo to) old new) c.put_aside-answer.result
     (λ done to is t. moved_on c.args.pod area.Embryo area.Garbage (extends_wider (moves_aside c.args.pod area.Embryo area.Garbage) (c.put_aside-answer.ensures.worked.extends t)) to is)))
 

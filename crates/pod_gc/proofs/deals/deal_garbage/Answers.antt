@@ -75,7 +75,7 @@ returns-clause-left_untouched g c =
     (step_let_be D.observed c.args.pod c.args.area Deleted old new refl (λ is. cc) c.delete_at-answer.result c.delete_at-answer.ensures.looks
     (err_all (λ e. (which : Which) → e ≡ stop.Busy which → may_be_busy c.args.area ≡ true) c.delete_at-answer.result (λ e which is. garbage_busy c.args.area c.requires.garbage))
     (if_err (λ e. (which : Which) → e ≡ stop.Busy which → which ≡ Own) (λ e. BusyByOwn c.args.area e) c.delete_at-answer.result (λ e named which is garbage. named which is) c.delete_at-answer.ensures.named)
-    c.delete_at-answer.ensures.still
+    c.delete_at-answer.ensures.takes_nothing
     (ok_all (λ done. (to : Area) → Deleted ≡ Moved to → D.observed ≡ true → ExtendsBy (puts_aside_only c.args.pod c.args.area to) old new) c.delete_at-answer.result (λ done to is t. cc)))
 
 pub returns-clause-lawful : goal.returns-clause-lawful

@@ -104,7 +104,7 @@ returns-in-Err-clause-left_untouched g c =
     let new = D.shown c.discard_aborted.new.dir in
     subst (λ (x : Result Deed GcError). IfOk x (λ deed. LetBe D.observed c.args.pod area.Prepare deed old new)) (sym c.deed_of.ensures)
     (step_let_be D.observed c.args.pod area.Prepare (Moved area.Garbage) old new refl (λ is. cc) (Err c.in-Err.stop)
-    (peeked_looks c.args.pod area.Prepare old new c.in-Err.ensures.peeks) (λ which is. search (rules, is, c.in-Err.stop-is)) (owns_elsewhere area.Prepare (Err c.in-Err.stop) refl) (λ is. c.in-Err.ensures.still) tt)
+    (peeked_looks c.args.pod area.Prepare old new c.in-Err.ensures.peeks) (λ which is. search (rules, is, c.in-Err.stop-is)) (owns_elsewhere area.Prepare (Err c.in-Err.stop) refl) (λ is. c.in-Err.ensures.takes_nothing) tt)
 
 pub returns-in-Err-Busy-clause-lawful : goal.returns-in-Err-Busy-clause-lawful
 returns-in-Err-Busy-clause-lawful g c =

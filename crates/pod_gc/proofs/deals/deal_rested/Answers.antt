@@ -20,7 +20,7 @@ returns-then-is_young-clause-worked g c = worked_wider (looks_deal c.args.pod c.
 pub returns-then-is_young-clause-aged : goal.returns-then-is_young-clause-aged
 returns-then-is_young-clause-aged g c =
     ok_both (λ deed. DoesNothing deed) (λ deed. (which : Which) → deed ≡ Busy which → ⊥) (λ deed. RestsBy (is_young c.args.times.now c.args.times.grace c.args.marked) deed) c.kept_exited.result
-    (λ deed nothing calm. rests_young deed (sym c.is_young.ensures ∙ c.if-is_young.true) nothing calm) c.kept_exited.ensures.rests c.kept_exited.ensures.calm
+    (λ deed nothing calm. rests_young deed (sym c.is_young.ensures ∙ c.if-is_young.true) nothing calm) c.kept_exited.ensures.rests c.kept_exited.ensures.never_busy
 
 pub returns-then-is_young-clause-by_other_process : goal.returns-then-is_young-clause-by_other_process
 returns-then-is_young-clause-by_other_process g c =
@@ -44,7 +44,7 @@ returns-then-is_young-clause-left_untouched g c =
     let old = D.shown c.args.dir.now in
     let new = D.shown c.kept_exited.new.dir in
     if_ok (λ deed. (which : Which) → deed ≡ Busy which → ⊥) (λ deed. LetBe D.observed c.args.pod area.ExitedGarbage deed old new) c.kept_exited.result
-    (λ deed calm t. let_looked (c.kept_exited.ensures.worked.extends t) calm) c.kept_exited.ensures.calm
+    (λ deed calm t. let_looked (c.kept_exited.ensures.worked.extends t) calm) c.kept_exited.ensures.never_busy
 
 pub returns-then-is_young-clause-lawful : goal.returns-then-is_young-clause-lawful
 returns-then-is_young-clause-lawful g c =

@@ -105,7 +105,7 @@ returns-in-Err-clause-left_untouched g c =
     let new = D.shown c.retire_exited.new.dir in
     subst (λ (x : Result Deed GcError). IfOk x (λ deed. LetBe D.observed c.args.pod area.Run deed old new)) (sym c.deed_of.ensures)
     (step_let_be D.observed c.args.pod area.Run (Moved area.ExitedGarbage) old new refl (λ is. cc) (Err c.in-Err.stop)
-    (peeked_looks c.args.pod area.Run old new c.in-Err.ensures.peeks) (λ which is. search (rules, is, c.in-Err.stop-is)) (owns_elsewhere area.Run (Err c.in-Err.stop) refl) (λ is. c.in-Err.ensures.still) tt)
+    (peeked_looks c.args.pod area.Run old new c.in-Err.ensures.peeks) (λ which is. search (rules, is, c.in-Err.stop-is)) (owns_elsewhere area.Run (Err c.in-Err.stop) refl) (λ is. c.in-Err.ensures.takes_nothing) tt)
 
 pub returns-in-Ok-clause-marked : goal.returns-in-Ok-clause-marked
 returns-in-Ok-clause-marked g c t to is = c.in-Ok.ensures.noted t

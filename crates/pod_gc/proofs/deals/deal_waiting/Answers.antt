@@ -102,7 +102,7 @@ returns-then-is_ripe-clause-left_untouched g c =
     (step_let_be D.observed c.args.pod area.Prepared (Moved area.Garbage) old new refl (λ is. cc) c.discard_prepared-answer.result c.discard_prepared-answer.ensures.looks
     (err_all (λ e. (which : Which) → e ≡ stop.Busy which → may_be_busy area.Prepared ≡ true) c.discard_prepared-answer.result (λ e which is. refl))
     (owns_elsewhere area.Prepared c.discard_prepared-answer.result refl)
-    (if_err (λ e. TakesNothing D.observed old new) (λ e. MissedUntaken D.observed e old new) c.discard_prepared-answer.result (λ e x is. x) c.discard_prepared-answer.ensures.still)
+    (if_err (λ e. TakesNothing D.observed old new) (λ e. MissedUntaken D.observed e old new) c.discard_prepared-answer.result (λ e x is. x) c.discard_prepared-answer.ensures.takes_nothing)
     (if_ok (λ done. D.observed ≡ true → ExtendsBy (puts_aside c.args.pod area.Prepared area.Garbage) old new) (λ done. (to : Area) → Moved area.Garbage ≡ Moved to → D.observed ≡ true → ExtendsBy (puts_aside_only c.args.pod area.Prepared to) old new) c.discard_prepared-answer.result
     (λ done x to is t. moved_on c.args.pod area.Prepared area.Garbage (x t) to is) c.discard_prepared-answer.ensures.aside))
 

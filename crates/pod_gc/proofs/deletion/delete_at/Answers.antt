@@ -87,7 +87,7 @@ returns-clause-by_other_process g c =
     let old = D.shown c.args.dir.now in
     let new = D.shown c.close.new.self in
     if_err (λ e. (which : Which) → e ≡ stop.Busy which → ⊥) (λ e. D.observed ≡ true → Given (MayRemove c.args.now) old (λ s. LockBusyElsewhere c.args.pod c.args.area Exclusive e old new)) c.delete_if_there-result.result
-    (λ e calm t s k may which is. absurd (calm which is)) c.delete_if_there-result.ensures.calm
+    (λ e calm t s k may which is. absurd (calm which is)) c.delete_if_there-result.ensures.never_busy
 
 pub returns-clause-done : goal.returns-clause-done
 returns-clause-done g c =
@@ -113,20 +113,20 @@ pub returns-clause-looks : goal.returns-clause-looks
 returns-clause-looks g c =
     let D = g.D.Dir in
     if_err (λ e. (which : Which) → e ≡ stop.Busy which → ⊥) (λ e. BusyByLooks D.observed c.args.pod c.args.area e (D.shown c.args.dir.now) (D.shown c.close.new.self)) c.delete_if_there-result.result
-    (λ e calm which is t. absurd (calm which is)) c.delete_if_there-result.ensures.calm
+    (λ e calm which is t. absurd (calm which is)) c.delete_if_there-result.ensures.never_busy
 
-pub returns-in_err-own-clause-still : goal.returns-in_err-own-clause-still
-returns-in_err-own-clause-still g c =
+pub returns-in_err-own-clause-takes_nothing : goal.returns-in_err-own-clause-takes_nothing
+returns-in_err-own-clause-takes_nothing g c =
     let D = g.D.Dir in
     err_all (λ e. MissedUntaken D.observed e (D.shown c.args.dir.now) (D.shown c.take.new.dir)) c.from_residual.result (λ e is t. took_looks c.args.pod c.args.area (c.take.ensures.went.extends t))
 
-pub returns-clause-still : goal.returns-clause-still
-returns-clause-still g c =
+pub returns-clause-takes_nothing : goal.returns-clause-takes_nothing
+returns-clause-takes_nothing g c =
     let D = g.D.Dir in
     let mid = D.shown c.take.new.dir in
     let late = D.shown c.delete_if_there-result.new.dir in
     if_err (λ e. MissedUntaken D.observed e mid late) (λ e. MissedUntaken D.observed e (D.shown c.args.dir.now) (D.shown c.close.new.self)) c.delete_if_there-result.result
-    (λ e x is t. took_closed t c.args.pod c.args.area c.take.ensures.went c.delete_if_there-result.ensures.worked.same c.close.ensures.called (x is t)) c.delete_if_there-result.ensures.still
+    (λ e x is t. took_closed t c.args.pod c.args.area c.take.ensures.went c.delete_if_there-result.ensures.worked.same c.close.ensures.called (x is t)) c.delete_if_there-result.ensures.takes_nothing
 
 pub returns-clause-free : goal.returns-clause-free
 returns-clause-free g c =
@@ -140,7 +140,7 @@ returns-in_err-own-clause-named g c =
 
 pub returns-clause-named : goal.returns-clause-named
 returns-clause-named g c =
-    if_err (λ e. (which : Which) → e ≡ stop.Busy which → ⊥) (λ e. (which : Which) → e ≡ stop.Busy which → which ≡ Own) c.delete_if_there-result.result (λ e calm which is. absurd (calm which is)) c.delete_if_there-result.ensures.calm
+    if_err (λ e. (which : Which) → e ≡ stop.Busy which → ⊥) (λ e. (which : Which) → e ≡ stop.Busy which → which ≡ Own) c.delete_if_there-result.result (λ e calm which is. absurd (calm which is)) c.delete_if_there-result.ensures.never_busy
 
 pub returns-in_err-own-clause-reads : goal.returns-in_err-own-clause-reads
 returns-in_err-own-clause-reads g c = unread_took c.args.pod c.args.area (garbage_rank c.args.area c.requires.garbage).0 (garbage_rank c.args.area c.requires.garbage).1 c.take.ensures.went

@@ -84,26 +84,26 @@ returns-in-Err-clause-stopped g c =
     subst (λ (x : Setback). StepWasStopped D.observed c.args.pod (IsAbsentAt c.args.pod c.args.area) x (D.shown c.args.dir.now) (D.shown c.look.new.dir)) (sym c.look_setback.ensures)
     (failed_stops c.in-Err.error (λ is. c.look.ensures.cause (c.in-Err.is ∙ ap Err is)))
 
-pub returns-in-Err-clause-calm : goal.returns-in-Err-clause-calm
-returns-in-Err-clause-calm g c which is = look_calm c.in-Err.error which (sym c.look_setback.ensures ∙ is)
+pub returns-in-Err-clause-never_busy : goal.returns-in-Err-clause-never_busy
+returns-in-Err-clause-never_busy g c which is = look_calm c.in-Err.error which (sym c.look_setback.ensures ∙ is)
 
 pub returns-in-Err-clause-known : goal.returns-in-Err-clause-known
 returns-in-Err-clause-known g c t = known_looked (c.look.ensures.known t)
 
-pub returns-in-Ok-true-clause-still : goal.returns-in-Ok-true-clause-still
-returns-in-Ok-true-clause-still g c =
+pub returns-in-Ok-true-clause-takes_nothing : goal.returns-in-Ok-true-clause-takes_nothing
+returns-in-Ok-true-clause-takes_nothing g c =
     let D = g.D.Dir in
     if_err (λ e. StoppedDeleting D.observed (pod_spot c.args.pod c.args.area) e (D.shown c.look.new.dir) (D.shown c.delete_standing.new.dir)) (λ e. MissedUntaken D.observed e (D.shown c.args.dir.now) (D.shown c.delete_standing.new.dir)) c.delete_standing.result
     (λ e x is t. let clash : true ≡ false = sym is ∙ x.there in cc) c.delete_standing.ensures.stopped
 
-pub returns-in-Ok-false-clause-still : goal.returns-in-Ok-false-clause-still
-returns-in-Ok-false-clause-still g c is t =
+pub returns-in-Ok-false-clause-takes_nothing : goal.returns-in-Ok-false-clause-takes_nothing
+returns-in-Ok-false-clause-takes_nothing g c is t =
     let l = c.look.ensures in
     let w = worked_look c.args.pod c.args.area (g.D.Dir.shown c.args.dir.now) (g.D.Dir.shown c.look.new.dir) c.pod_spot.ensures l.same l.faults l.local l.extends in
     took_looks c.args.pod c.args.area (w.extends t)
 
-pub returns-in-Err-clause-still : goal.returns-in-Err-clause-still
-returns-in-Err-clause-still g c is t =
+pub returns-in-Err-clause-takes_nothing : goal.returns-in-Err-clause-takes_nothing
+returns-in-Err-clause-takes_nothing g c is t =
     let l = c.look.ensures in
     let w = worked_look c.args.pod c.args.area (g.D.Dir.shown c.args.dir.now) (g.D.Dir.shown c.look.new.dir) c.pod_spot.ensures l.same l.faults l.local l.extends in
     took_looks c.args.pod c.args.area (w.extends t)

@@ -37,8 +37,8 @@ returns-in-Err-clause-stopped g c =
     (subst (λ (s : Spot). StoppedDeleting D.observed s (delete_setback c.in-Err.error) old new) c.pod_spot.ensures
     (delete_stops c.in-Err.error (λ is. c.delete_folder.ensures.cause (c.in-Err.is ∙ ap Err is)) (λ is t. c.delete_folder.ensures.stray (c.in-Err.is ∙ ap Err is) t)))
 
-pub returns-in-Err-clause-calm : goal.returns-in-Err-clause-calm
-returns-in-Err-clause-calm g c which is = delete_calm c.in-Err.error which (sym c.delete_setback.ensures ∙ is)
+pub returns-in-Err-clause-never_busy : goal.returns-in-Err-clause-never_busy
+returns-in-Err-clause-never_busy g c which is = delete_calm c.in-Err.error which (sym c.delete_setback.ensures ∙ is)
 
 pub returns-in-Err-clause-known : goal.returns-in-Err-clause-known
 returns-in-Err-clause-known g c t = known_tried c.pod_spot.ensures c.requires.garbage (c.in-Err.ensures.refused t)

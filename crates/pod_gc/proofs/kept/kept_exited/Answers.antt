@@ -28,7 +28,7 @@ returns-in-Ok-clause-cause g c =
 pub returns-in-Ok-clause-deed : goal.returns-in-Ok-clause-deed
 returns-in-Ok-clause-deed g c =
     let D = g.D.Dir in
-    said_deed D.observed c.args.pod area.ExitedGarbage phase.ExitedGarbage false (omega arith) refl refl (λ rest. refl) (λ s h. h) (D.shown c.args.dir.now) (D.shown c.probe.new.dir) (D.shown c.kept.new.dir) (follows_work c.probe.ensures.worked) (follows_work c.kept.ensures.worked) (λ t. c.in-Ok.ensures.told t)
+    said_deed D.observed c.args.pod area.ExitedGarbage phase.ExitedGarbage false (omega arith) refl refl (λ rest. refl) (λ s h. h) (D.shown c.args.dir.now) (D.shown c.probe.new.dir) (D.shown c.kept.new.dir) (follows_work c.probe.ensures.worked) (follows_work c.kept.ensures.worked) (λ t. c.in-Ok.ensures.answer_holds t)
     c.kept.result c.kept.ensures.said
 
 pub returns-in-Ok-clause-rests : goal.returns-in-Ok-clause-rests
@@ -86,18 +86,18 @@ returns-in-Err-clause-rests g c = subst (λ (x : Result Deed GcError). IfOk x (�
 pub returns-in-Err-clause-ready : goal.returns-in-Err-clause-ready
 returns-in-Err-clause-ready g c t now = ready_unprobed c.args.pod (c.in-Err.ensures.left t)
 
-pub returns-in-Ok-clause-calm : goal.returns-in-Ok-clause-calm
-returns-in-Ok-clause-calm g c =
+pub returns-in-Ok-clause-never_busy : goal.returns-in-Ok-clause-never_busy
+returns-in-Ok-clause-never_busy g c =
     let D = g.D.Dir in
     if_ok (λ deed. SaysThere D.observed c.args.pod area.ExitedGarbage phase.ExitedGarbage deed (D.shown c.probe.new.dir) (D.shown c.kept.new.dir)) (λ deed. (which : Which) → deed ≡ Busy which → ⊥) c.kept.result (λ deed x. said_unbusy phase.ExitedGarbage deed x.is) c.kept.ensures.said
 
-pub returns-in-Err-Busy-clause-calm : goal.returns-in-Err-Busy-clause-calm
-returns-in-Err-Busy-clause-calm g c =
+pub returns-in-Err-Busy-clause-never_busy : goal.returns-in-Err-Busy-clause-never_busy
+returns-in-Err-Busy-clause-never_busy g c =
     let D = g.D.Dir in
     if_ok (λ deed. SaysThere D.observed c.args.pod area.ExitedGarbage phase.Deleting deed (D.shown c.probe.new.dir) (D.shown c.kept-in-Err-Busy.new.dir)) (λ deed. (which : Which) → deed ≡ Busy which → ⊥) c.kept-in-Err-Busy.result (λ deed x. said_unbusy phase.Deleting deed x.is) c.kept-in-Err-Busy.ensures.said
 
-pub returns-in-Err-clause-calm : goal.returns-in-Err-clause-calm
-returns-in-Err-clause-calm g c =
+pub returns-in-Err-clause-never_busy : goal.returns-in-Err-clause-never_busy
+returns-in-Err-clause-never_busy g c =
     subst (λ (x : Result Deed GcError). IfOk x (λ deed. (which : Which) → deed ≡ Busy which → ⊥)) (sym c.deed_of.ensures)
     (if_ok (λ deed. (which : Which) → refused_lock deed ≡ Some which → ⊥) (λ deed. (which : Which) → deed ≡ Busy which → ⊥) (deed_of (Err c.in-Err.stop) Left) (λ deed calm which is. calm which (ap refused_lock is))
     (step_calm Left (λ which is. cc) (Err c.in-Err.stop) (λ which is. search (rules, is, c.in-Err.stop-is))))

@@ -37,7 +37,7 @@ names-preserved g c =
           (worked_wider (λ r is. subst (λ (l : List (List ℕ)). deals_with_pods times.now place l r ≡ true) whole (some_among times.now place (take i names) (drop (i + 1) names) name r is))
           c.deal_next.ensures.worked);
       told = λ t. subst (λ (l : List (List ℕ)). AddsTold times place l old new c.args.lines.now.items c.deal_next.new.lines.items) (sym more)
-          (adds_more old (D.shown c.names.dir) new times place (take i names) (name ∷ []) c.args.lines.now.items c.names.lines.items c.deal_next.new.lines.items inv.worked.same (inv.ready t) (inv.told t) (c.in_ok-deal_next.ensures.told t));
+          (adds_more old (D.shown c.names.dir) new times place (take i names) (name ∷ []) c.args.lines.now.items c.names.lines.items c.deal_next.new.lines.items inv.worked.same (inv.ready t) (inv.told t) (c.in_ok-deal_next.ensures.answer_holds t));
       ready = λ t. pass_more (inv.ready t) (c.deal_next.ensures.ready t);
     }
 

@@ -17,8 +17,8 @@ use Rattle.pod_gc.proofs.passes.deal_next.Goals as goal
 pub returns-in-None-clause-worked : goal.returns-in-None-clause-worked
 returns-in-None-clause-worked g c = worked_none
 
-pub returns-in-None-clause-told : goal.returns-in-None-clause-told
-returns-in-None-clause-told g c t =
+pub returns-in-None-clause-answer_holds : goal.returns-in-None-clause-answer_holds
+returns-in-None-clause-answer_holds g c t =
     let none : pod_of_text c.args.name.now ≡ None = search (rules, c.parse.ensures.is, c.as_str.ensures, c.in-None.is) in
     adds_other c.args.times c.args.place c.args.name.now c.args.lines.now.items (g.D.Dir.shown c.args.dir.now) none
 
@@ -48,8 +48,8 @@ returns-in_ok-deed-in-Some-clause-cause g c =
     let new = D.shown c.deal.new.dir in
     if_err (λ e. e ≡ fault.NoMemory) (λ e. GcCause D.observed e old new) c.push.result (λ e is. subst (λ (x : GcError). GcCause D.observed x old new) (sym is) (no_memory D.observed old new)) c.push.ensures.memory
 
-pub returns-in_ok-deed-in-Some-clause-told : goal.returns-in_ok-deed-in-Some-clause-told
-returns-in_ok-deed-in-Some-clause-told g c =
+pub returns-in_ok-deed-in-Some-clause-answer_holds : goal.returns-in_ok-deed-in-Some-clause-answer_holds
+returns-in_ok-deed-in-Some-clause-answer_holds g c =
     let D = g.D.Dir in
     let old = D.shown c.args.dir.now in
     let new = D.shown c.deal.new.dir in

@@ -9,13 +9,13 @@ use Rattle.pod_gc.specs.Causes.{GcStrayByApp}
 use Rattle.pod_gc.specs.Sweeping.{MayPassPods, MaySweepAll}
 use Rattle.pod_gc.proofs.passes.pass.Goals as goal
 
-pub returns-in-Embryo-clause-told : goal.returns-in-Embryo-clause-told
-returns-in-Embryo-clause-told g c =
+pub returns-in-Embryo-clause-answer_holds : goal.returns-in-Embryo-clause-answer_holds
+returns-in-Embryo-clause-answer_holds g c =
     let D = g.D.Dir in
-    subst (λ (a : Area). IfOk c.pass_embryo.result (λ done. D.observed ≡ true → AddsPassed c.args.times a (D.shown c.args.dir.now) (D.shown c.pass_embryo.new.dir) c.args.lines.now.items c.pass_embryo.new.lines.items)) (sym c.in-Embryo.is) c.pass_embryo.ensures.told
+    subst (λ (a : Area). IfOk c.pass_embryo.result (λ done. D.observed ≡ true → AddsPassed c.args.times a (D.shown c.args.dir.now) (D.shown c.pass_embryo.new.dir) c.args.lines.now.items c.pass_embryo.new.lines.items)) (sym c.in-Embryo.is) c.pass_embryo.ensures.answer_holds
 
-pub returns-in_default-clause-told : goal.returns-in_default-clause-told
-returns-in_default-clause-told g c =
+pub returns-in_default-clause-answer_holds : goal.returns-in_default-clause-answer_holds
+returns-in_default-clause-answer_holds g c =
     let D = g.D.Dir in
     let place = c.args.place in
     let old = D.shown c.args.dir.now in
@@ -23,7 +23,7 @@ returns-in_default-clause-told g c =
     let before = c.args.lines.now.items in
     let after = c.pass_listed.new.lines.items in
     if_ok (λ done. D.observed ≡ true → AddsShown c.args.times place old new before after) (λ done. D.observed ≡ true → AddsPassed c.args.times place old new before after) c.pass_listed.result
-    (λ done told t. adds_plain old new c.args.times place before after (λ is. c.in_default.not-Embryo is) (told t)) c.pass_listed.ensures.told
+    (λ done told t. adds_plain old new c.args.times place before after (λ is. c.in_default.not-Embryo is) (told t)) c.pass_listed.ensures.answer_holds
 
 pub returns-in_default-clause-ready : goal.returns-in_default-clause-ready
 returns-in_default-clause-ready g c t s k m = c.pass_listed.ensures.ready t s k (record { sweeps = m.sweeps; gate = λ is. absurd (c.in_default.not-Embryo is) })

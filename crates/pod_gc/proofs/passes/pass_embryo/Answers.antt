@@ -64,8 +64,8 @@ returns-in-Err-clause-cause g c =
 pub returns-in-Err-clause-ready : goal.returns-in-Err-clause-ready
 returns-in-Err-clause-ready g c t = ready_same (c.in-Err.ensures.left t)
 
-pub returns-in-Ok-clause-told : goal.returns-in-Ok-clause-told
-returns-in-Ok-clause-told g c =
+pub returns-in-Ok-clause-answer_holds : goal.returns-in-Ok-clause-answer_holds
+returns-in-Ok-clause-answer_holds g c =
     let D = g.D.Dir in
     let times = c.args.times in
     let old = D.shown c.args.dir.now in
@@ -76,10 +76,10 @@ returns-in-Ok-clause-told g c =
     let after = c.pass_listed-result.new.lines.items in
     if_ok (λ done. D.observed ≡ true → AddsShown times Embryo mid late before after) (λ done. D.observed ≡ true → AddsPassed times Embryo old new before after) c.pass_listed-result.result
     (λ done told t. adds_gate old mid late new times c.in-Ok.gate before after c.lock_area.ensures.same c.pass_listed-result.ensures.worked.same (λ s k m. c.in-Ok.ensures.taken t s k m) (c.lock_area.ensures.extends t) (c.in-Ok.ensures.free t) (told t) (c.unlock_area.ensures.extends t))
-    c.pass_listed-result.ensures.told
+    c.pass_listed-result.ensures.answer_holds
 
-pub returns-in-Err-Busy-clause-told : goal.returns-in-Err-Busy-clause-told
-returns-in-Err-Busy-clause-told g c =
+pub returns-in-Err-Busy-clause-answer_holds : goal.returns-in-Err-Busy-clause-answer_holds
+returns-in-Err-Busy-clause-answer_holds g c =
     let D = g.D.Dir in
     let times = c.args.times in
     let old = D.shown c.args.dir.now in

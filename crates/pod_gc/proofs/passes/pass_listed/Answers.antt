@@ -33,8 +33,8 @@ returns-in-Ok-clause-cause g c =
     let new = D.shown c.deal_each.new.dir in
     if_err (λ e. GcCause D.observed e mid new) (λ e. GcCause D.observed e old new) c.deal_each.result (λ e x. cause_after (follows_work (worked_area c.args.place (Ok c.in-Ok.names) c.in-Ok.ensures.called)) x) c.deal_each.ensures.cause
 
-pub returns-in-Ok-clause-told : goal.returns-in-Ok-clause-told
-returns-in-Ok-clause-told g c =
+pub returns-in-Ok-clause-answer_holds : goal.returns-in-Ok-clause-answer_holds
+returns-in-Ok-clause-answer_holds g c =
     let D = g.D.Dir in
     let times = c.args.times in
     let place = c.args.place in
@@ -47,7 +47,7 @@ returns-in-Ok-clause-told g c =
     let shown = c.as_slice.result.now in
     if_ok (λ done. D.observed ≡ true → AddsTold times place shown mid new before after) (λ done. D.observed ≡ true → AddsShown times place old new before after) c.deal_each.result
     (λ done told t. adds_shown old mid new times place names before after t c.in-Ok.ensures.called c.in-Ok.ensures.ordered (c.in-Ok.ensures.shows t) (ready_area place (Ok names) c.requires.stage c.in-Ok.ensures.called t)
-    (subst (λ (ns : List (List ℕ)). AddsTold times place ns mid new before after) c.as_slice.ensures (told t))) c.deal_each.ensures.told
+    (subst (λ (ns : List (List ℕ)). AddsTold times place ns mid new before after) c.as_slice.ensures (told t))) c.deal_each.ensures.answer_holds
 
 pub returns-in-Ok-clause-ready : goal.returns-in-Ok-clause-ready
 returns-in-Ok-clause-ready g c t = pass_more (ready_area c.args.place (Ok c.in-Ok.names) c.requires.stage c.in-Ok.ensures.called t) (c.deal_each.ensures.ready t)

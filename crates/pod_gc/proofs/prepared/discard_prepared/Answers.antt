@@ -121,20 +121,20 @@ returns-in-Err-Missing-clause-looks g c = looks_alone (g.D.Dir.shown c.args.dir.
 pub returns-in-Err-clause-looks : goal.returns-in-Err-clause-looks
 returns-in-Err-clause-looks g c which is t = c.take.ensures.went.extends t
 
-pub returns-in-Ok-clause-still : goal.returns-in-Ok-clause-still
-returns-in-Ok-clause-still g c =
+pub returns-in-Ok-clause-takes_nothing : goal.returns-in-Ok-clause-takes_nothing
+returns-in-Ok-clause-takes_nothing g c =
     let D = g.D.Dir in
     let mid = D.shown c.take.new.dir in
     let late = D.shown c.discard_under_claim-result.new.dir in
     if_err (λ e. TakesNothing D.observed mid late) (λ e. TakesNothing D.observed (D.shown c.args.dir.now) (D.shown c.close.new.self)) c.discard_under_claim-result.result
-    (λ e x t. took_closed t c.args.pod Prepared c.take.ensures.went c.discard_under_claim-result.ensures.worked.same c.close.ensures.called (x t)) c.discard_under_claim-result.ensures.still
+    (λ e x t. took_closed t c.args.pod Prepared c.take.ensures.went c.discard_under_claim-result.ensures.worked.same c.close.ensures.called (x t)) c.discard_under_claim-result.ensures.takes_nothing
 
-pub returns-in-Err-Missing-clause-still : goal.returns-in-Err-Missing-clause-still
-returns-in-Err-Missing-clause-still g c t =
+pub returns-in-Err-Missing-clause-takes_nothing : goal.returns-in-Err-Missing-clause-takes_nothing
+returns-in-Err-Missing-clause-takes_nothing g c t =
     took_more (took_looks c.args.pod Prepared (c.take.ensures.went.extends t)) c.take.ensures.went.same (took_looks c.args.pod Prepared (c.without_claim.ensures.worked.extends t))
 
-pub returns-in-Err-clause-still : goal.returns-in-Err-clause-still
-returns-in-Err-clause-still g c t = took_looks c.args.pod Prepared (c.take.ensures.went.extends t)
+pub returns-in-Err-clause-takes_nothing : goal.returns-in-Err-clause-takes_nothing
+returns-in-Err-clause-takes_nothing g c t = took_looks c.args.pod Prepared (c.take.ensures.went.extends t)
 
 pub returns-in-Ok-clause-aside : goal.returns-in-Ok-clause-aside
 returns-in-Ok-clause-aside g c =

@@ -69,7 +69,7 @@ returns-clause-by_other_process g c =
     let old = D.shown c.args.dir.now in
     let new = D.shown c.put_aside.new.dir in
     if_err (λ e. (which : Which) → e ≡ stop.Busy which → ⊥) (λ e. D.observed ≡ true → Given (UnderClaim c.args.pod c.args.now) old (λ s. BusyInPrepared c.args.pod e old new)) c.put_aside.result
-    (λ e calm t s k may which is. absurd (calm which is)) c.put_aside.ensures.calm
+    (λ e calm t s k may which is. absurd (calm which is)) c.put_aside.ensures.never_busy
 
 pub returns-clause-ready : goal.returns-clause-ready
 returns-clause-ready g c t = ready_under c.args.pod (c.in_ok-probe.ensures.free t) (c.put_aside.ensures.ready t)
@@ -83,19 +83,19 @@ pub returns-clause-looks : goal.returns-clause-looks
 returns-clause-looks g c =
     let D = g.D.Dir in
     if_err (λ e. (which : Which) → e ≡ stop.Busy which → ⊥) (λ e. BusyByLooks D.observed c.args.pod Prepared e (D.shown c.args.dir.now) (D.shown c.put_aside.new.dir)) c.put_aside.result
-    (λ e calm which is t. absurd (calm which is)) c.put_aside.ensures.calm
+    (λ e calm which is t. absurd (calm which is)) c.put_aside.ensures.never_busy
 
-pub returns-in_err-probe-clause-still : goal.returns-in_err-probe-clause-still
-returns-in_err-probe-clause-still g c =
+pub returns-in_err-probe-clause-takes_nothing : goal.returns-in_err-probe-clause-takes_nothing
+returns-in_err-probe-clause-takes_nothing g c =
     let D = g.D.Dir in
     err_all (λ e. TakesNothing D.observed (D.shown c.args.dir.now) (D.shown c.probe.new.dir)) c.from_residual.result (λ e t. took_looks c.args.pod Prepared (c.probe.ensures.worked.extends t))
 
-pub returns-clause-still : goal.returns-clause-still
-returns-clause-still g c =
+pub returns-clause-takes_nothing : goal.returns-clause-takes_nothing
+returns-clause-takes_nothing g c =
     let D = g.D.Dir in
     let new = D.shown c.put_aside.new.dir in
     if_err (λ e. TakesNothing D.observed (D.shown c.probe.new.dir) new) (λ e. TakesNothing D.observed (D.shown c.args.dir.now) new) c.put_aside.result
-    (λ e x t. took_more (took_looks c.args.pod Prepared (c.probe.ensures.worked.extends t)) c.probe.ensures.worked.same (x t)) c.put_aside.ensures.still
+    (λ e x t. took_more (took_looks c.args.pod Prepared (c.probe.ensures.worked.extends t)) c.probe.ensures.worked.same (x t)) c.put_aside.ensures.takes_nothing
 
 pub returns-clause-aside : goal.returns-clause-aside
 returns-clause-aside g c =
@@ -106,7 +106,7 @@ pub returns-clause-free : goal.returns-clause-free
 returns-clause-free g c =
     let D = g.D.Dir in
     ok_all (λ done. D.observed ≡ true → LockToldBetween (D.shown c.args.dir.now) (D.shown c.put_aside.new.dir) (pod_spot c.args.pod Prepared) false) c.put_aside.result
-    (λ done t. told_within grown_none refl ((follows_work c.put_aside.ensures.worked).grown t) (c.in_ok-probe.ensures.told t))
+    (λ done t. told_within grown_none refl ((follows_work c.put_aside.ensures.worked).grown t) (c.in_ok-probe.ensures.answer_holds t))
 
 pub returns-in_err-probe-clause-reads : goal.returns-in_err-probe-clause-reads
 returns-in_err-probe-clause-reads g c = unread_looks c.args.pod Prepared 1 refl c.probe.ensures.worked

@@ -35,7 +35,7 @@ places-preserved g c =
     record {
       worked = worked_more inv.worked c.pass.ensures.worked;
       swept = λ t. subst (λ (l : List Area). AddsSwept c.args.times l old new c.args.lines.now.items c.pass.new.lines.items) (sym more)
-          (swept_more old mid new c.args.times (take i places) (get_or places i Embryo) c.args.lines.now.items c.places.lines.items c.pass.new.lines.items (follows_work inv.worked) (inv.ready t) (inv.swept t) (c.in_ok-pass.ensures.told t));
+          (swept_more old mid new c.args.times (take i places) (get_or places i Embryo) c.args.lines.now.items c.places.lines.items c.pass.new.lines.items (follows_work inv.worked) (inv.ready t) (inv.swept t) (c.in_ok-pass.ensures.answer_holds t));
       ready = λ t. all_more (inv.ready t) (c.pass.ensures.ready t);
     }
 

@@ -36,7 +36,7 @@ returns-in-Ok-clause-order g c =
     let b = D.shown c.find_prepared.new.dir in
     let d = D.shown c.take_and_run.new.dir in
     if_ok (λ (own : Handle). D.observed ≡ true → TookBoth c.args.pod own b.process b.trace d.trace) (λ (own : Handle). D.observed ≡ true → TookBoth c.args.pod own a.process a.trace d.trace) c.take_and_run.result
-    (λ own f t. took_after c.find_prepared.ensures.went c.find_prepared.ensures.still c.in-Ok.ensures.found d t (f t)) c.take_and_run.ensures.order
+    (λ own f t. took_after c.find_prepared.ensures.went c.find_prepared.ensures.moves_nothing c.in-Ok.ensures.found d t (f t)) c.take_and_run.ensures.order
 
 pub returns-in-Ok-clause-set_back : goal.returns-in-Ok-clause-set_back
 returns-in-Ok-clause-set_back g c =
@@ -45,7 +45,7 @@ returns-in-Ok-clause-set_back g c =
     let b = D.shown c.find_prepared.new.dir in
     let d = D.shown c.take_and_run.new.dir in
     if_err (λ (e : Setback). ClaimWasStopped D.observed c.args.pod (IsNotInPrepared c.args.pod) e b d) (λ (e : Setback). SetBack D.observed c.args.pod e a d) c.take_and_run.result
-    (λ e f. set_back_after c.find_prepared.ensures.went c.find_prepared.ensures.still c.in-Ok.ensures.found e f) c.take_and_run.ensures.stopped
+    (λ e f. set_back_after c.find_prepared.ensures.went c.find_prepared.ensures.moves_nothing c.in-Ok.ensures.found e f) c.take_and_run.ensures.stopped
 
 pub returns-in-Ok-clause-by_other_process : goal.returns-in-Ok-clause-by_other_process
 returns-in-Ok-clause-by_other_process g c =
@@ -54,7 +54,7 @@ returns-in-Ok-clause-by_other_process g c =
     let b = D.shown c.find_prepared.new.dir in
     let d = D.shown c.take_and_run.new.dir in
     if_err (λ (e : Setback). WhereObservedKnew D.observed MayClaim b (λ s. BusyInTurn c.args.pod e b d)) (λ (e : Setback). WhereObservedKnew D.observed MayClaim a (λ s. BusyInTurn c.args.pod e a d)) c.take_and_run.result
-    (λ e f. another_after c.find_prepared.ensures.went c.find_prepared.ensures.still c.in-Ok.ensures.found c.find_prepared.ensures.known d e f) c.take_and_run.ensures.by_other_process
+    (λ e f. another_after c.find_prepared.ensures.went c.find_prepared.ensures.moves_nothing c.in-Ok.ensures.found c.find_prepared.ensures.known d e f) c.take_and_run.ensures.by_other_process
 
 pub returns-in-Ok-clause-held : goal.returns-in-Ok-clause-held
 returns-in-Ok-clause-held g c =
@@ -63,7 +63,7 @@ returns-in-Ok-clause-held g c =
     let b = D.shown c.find_prepared.new.dir in
     let d = D.shown c.take_and_run.new.dir in
     if_ok (λ (own : Handle). WhereObservedKnew D.observed MayClaim b (λ s. Knows d (with_pod c.args.pod own s))) (λ (own : Handle). WhereObservedKnew D.observed MayClaim a (λ s. HasPod c.args.pod own s d)) c.take_and_run.result
-    (λ own f. held_after c.find_prepared.ensures.went c.find_prepared.ensures.still c.in-Ok.ensures.found c.find_prepared.ensures.known d own f) c.take_and_run.ensures.held
+    (λ own f. held_after c.find_prepared.ensures.went c.find_prepared.ensures.moves_nothing c.in-Ok.ensures.found c.find_prepared.ensures.known d own f) c.take_and_run.ensures.held
 
 pub returns-in-Ok-clause-left : goal.returns-in-Ok-clause-left
 returns-in-Ok-clause-left g c =
@@ -72,16 +72,16 @@ returns-in-Ok-clause-left g c =
     let b = D.shown c.find_prepared.new.dir in
     let d = D.shown c.take_and_run.new.dir in
     if_err (λ (e : Setback). WhereObservedKnew D.observed MayClaim b (λ s. LookedInto s d)) (λ (e : Setback). WhereObservedKnew D.observed MayClaim a (λ s. LookedInto s d)) c.take_and_run.result
-    (λ e f. left_after c.find_prepared.ensures.went c.find_prepared.ensures.still c.in-Ok.ensures.found c.find_prepared.ensures.known d f) c.take_and_run.ensures.left
+    (λ e f. left_after c.find_prepared.ensures.went c.find_prepared.ensures.moves_nothing c.in-Ok.ensures.found c.find_prepared.ensures.known d f) c.take_and_run.ensures.left
 
 pub returns-in-Err-clause-went : goal.returns-in-Err-clause-went
 returns-in-Err-clause-went g c = went_wider (omega arith) c.find_prepared.ensures.went
 
 pub returns-in-Err-clause-set_back : goal.returns-in-Err-clause-set_back
-returns-in-Err-clause-set_back g c = refused_first c.find_prepared.ensures.still c.in-Err.ensures.cause
+returns-in-Err-clause-set_back g c = refused_first c.find_prepared.ensures.moves_nothing c.in-Err.ensures.cause
 
 pub returns-in-Err-clause-by_other_process : goal.returns-in-Err-clause-by_other_process
-returns-in-Err-clause-by_other_process g c t s may k which is = absurd (c.in-Err.ensures.calm which cc)
+returns-in-Err-clause-by_other_process g c t s may k which is = absurd (c.in-Err.ensures.never_busy which cc)
 
 pub returns-in-Err-clause-left : goal.returns-in-Err-clause-left
 returns-in-Err-clause-left g c t s may k = c.find_prepared.ensures.known t s k

@@ -9,26 +9,26 @@ use Rattle.pod_locks.proofs.attempt.find_prepared.Goals as goal
 pub returns-in-Ok-Gone-clause-went : goal.returns-in-Ok-Gone-clause-went
 returns-in-Ok-Gone-clause-went g c = let r = c.read_phase.ensures in went_looked r.counted r.same r.faults r.local r.extends
 
-pub returns-in-Ok-Gone-clause-still : goal.returns-in-Ok-Gone-clause-still
-returns-in-Ok-Gone-clause-still g c t = still_looks (c.read_phase.ensures.extends t)
+pub returns-in-Ok-Gone-clause-moves_nothing : goal.returns-in-Ok-Gone-clause-moves_nothing
+returns-in-Ok-Gone-clause-moves_nothing g c t = still_looks (c.read_phase.ensures.extends t)
 
 pub returns-in-Err-clause-went : goal.returns-in-Err-clause-went
 returns-in-Err-clause-went g c = let r = c.read_phase.ensures in went_looked r.counted r.same r.faults r.local r.extends
 
-pub returns-in-Err-clause-still : goal.returns-in-Err-clause-still
-returns-in-Err-clause-still g c t = still_looks (c.read_phase.ensures.extends t)
+pub returns-in-Err-clause-moves_nothing : goal.returns-in-Err-clause-moves_nothing
+returns-in-Err-clause-moves_nothing g c t = still_looks (c.read_phase.ensures.extends t)
 
 pub returns-then-is_prepared-clause-went : goal.returns-then-is_prepared-clause-went
 returns-then-is_prepared-clause-went g c = let r = c.read_phase.ensures in went_looked r.counted r.same r.faults r.local r.extends
 
-pub returns-then-is_prepared-clause-still : goal.returns-then-is_prepared-clause-still
-returns-then-is_prepared-clause-still g c t = still_looks (c.read_phase.ensures.extends t)
+pub returns-then-is_prepared-clause-moves_nothing : goal.returns-then-is_prepared-clause-moves_nothing
+returns-then-is_prepared-clause-moves_nothing g c t = still_looks (c.read_phase.ensures.extends t)
 
 pub returns-else-is_prepared-clause-went : goal.returns-else-is_prepared-clause-went
 returns-else-is_prepared-clause-went g c = let r = c.read_phase.ensures in went_looked r.counted r.same r.faults r.local r.extends
 
-pub returns-else-is_prepared-clause-still : goal.returns-else-is_prepared-clause-still
-returns-else-is_prepared-clause-still g c t = still_looks (c.read_phase.ensures.extends t)
+pub returns-else-is_prepared-clause-moves_nothing : goal.returns-else-is_prepared-clause-moves_nothing
+returns-else-is_prepared-clause-moves_nothing g c t = still_looks (c.read_phase.ensures.extends t)
 
 pub returns-then-is_prepared-clause-found : goal.returns-then-is_prepared-clause-found
 returns-then-is_prepared-clause-found g c t =
@@ -51,8 +51,8 @@ returns-in-Err-clause-cause g c =
     subst (λ (x : ClaimError). ClaimCause D.observed c.args.pod x (D.shown c.args.dir.now) (D.shown c.read_phase.new.dir)) (sym c.look_refusal.ensures)
     (cause_failed c.args.pod c.in-Err.error (λ is. c.read_phase.ensures.cause (c.in-Err.is ∙ ap Err is)))
 
-pub returns-in-Err-clause-calm : goal.returns-in-Err-clause-calm
-returns-in-Err-clause-calm g c which is = look_calm c.args.pod c.in-Err.error which (sym c.look_refusal.ensures ∙ is)
+pub returns-in-Err-clause-never_busy : goal.returns-in-Err-clause-never_busy
+returns-in-Err-clause-never_busy g c which is = look_calm c.args.pod c.in-Err.error which (sym c.look_refusal.ensures ∙ is)
 
 pub returns-else-is_prepared-clause-owned_elsewhere : goal.returns-else-is_prepared-clause-owned_elsewhere
 returns-else-is_prepared-clause-owned_elsewhere g c =

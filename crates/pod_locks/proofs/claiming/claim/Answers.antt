@@ -119,8 +119,8 @@ returns-in-Err-clause-by_other_process g c =
     let e = rw c.in-Err-Missing.field-0-is at c.in-Err-Missing.ensures in
     subst (λ (x : ClaimError). WhereObservedKnew D.observed MayClaim a (λ s. ClaimRefusedByAnother c.args.pod x a d)) (sym c.last_refusal.ensures) (another_twice e.went e.left d c.in-Err.stop c.in-Err.ensures.by_other_process)
 
-pub returns-in-Err-clause-still : goal.returns-in-Err-clause-still
-returns-in-Err-clause-still g c =
+pub returns-in-Err-clause-moves_nothing : goal.returns-in-Err-clause-moves_nothing
+returns-in-Err-clause-moves_nothing g c =
     let e = rw c.in-Err-Missing.field-0-is at c.in-Err-Missing.ensures in
     last_still e.went (g.D.Dir.shown c.attempt-in-Err-Missing.new.dir) e.set_back c.in-Err.ensures.set_back
 

@@ -35,7 +35,7 @@ returns-in-Err-clause-stopped g c =
     let asks = c.in-Err.ensures in
     let moves = with_spots c.pod_spot-from.ensures c.pod_spot-to.ensures asks.called in
     subst (λ (x : Setback). ClaimWasStopped D.observed c.args.pod (IsNotInPrepared c.args.pod) x (D.shown c.args.dir.now) (D.shown c.close.new.self)) (sym c.set_back.ensures)
-    (stops_part (follows_taken c.take.ensures.went c.in_ok-own.ensures.still) asks.called.same (follows_call refl c.close.ensures.called)
+    (stops_part (follows_taken c.take.ensures.went c.in_ok-own.ensures.moves_nothing) asks.called.same (follows_call refl c.close.ensures.called)
     (move_stops e asks.refusals (λ is. asks.cause (ap Err is)) (λ t. still_call refl (asks.called.step t)) moves))
 
 pub returns-in-Err-clause-left : goal.returns-in-Err-clause-left

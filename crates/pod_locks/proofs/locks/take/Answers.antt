@@ -69,8 +69,8 @@ returns-in-Err-clause-stopped g c =
 pub returns-in-Err-clause-left : goal.returns-in-Err-clause-left
 returns-in-Err-clause-left g c = knows_unopened c.args.pod c.args.which c.in-Err.error (with_spot (λ s. Open s c.args.which) c.pod_spot-prepared.ensures c.in-Err.ensures.called)
 
-pub returns-in-Ok-try_lock-clause-still : goal.returns-in-Ok-try_lock-clause-still
-returns-in-Ok-try_lock-clause-still g c t = still_more (still_call refl (c.in-Ok.ensures.called.step t)) c.in-Ok.ensures.called.same (still_call refl (c.in-Ok-try_lock.ensures.called.step t))
+pub returns-in-Ok-try_lock-clause-moves_nothing : goal.returns-in-Ok-try_lock-clause-moves_nothing
+returns-in-Ok-try_lock-clause-moves_nothing g c t = still_more (still_call refl (c.in-Ok.ensures.called.step t)) c.in-Ok.ensures.called.same (still_call refl (c.in-Ok-try_lock.ensures.called.step t))
 
 pub returns-in-Err-try_lock-clause-by_other_process : goal.returns-in-Err-try_lock-clause-by_other_process
 returns-in-Err-try_lock-clause-by_other_process g c t s may k which is =

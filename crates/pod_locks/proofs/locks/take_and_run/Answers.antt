@@ -25,12 +25,12 @@ returns-in-Ok-clause-order g c =
 pub returns-in-Ok-clause-stopped : goal.returns-in-Ok-clause-stopped
 returns-in-Ok-clause-stopped g c =
     let w = went_as (locked_ok (g.D.Dir.shown c.args.dir.now).local c.args.pod Claim c.take.result c.in-Ok.claim c.in-Ok.is) c.take.ensures.went in
-    stopped_under c.run_under_claim-result.result c.in-Ok.ensures.unopened w c.run_under_claim-result.ensures.unopened c.close.ensures.called (follows_taken w c.in-Ok.ensures.still) c.run_under_claim-result.ensures.went.same (follows_call refl c.close.ensures.called) c.run_under_claim-result.ensures.stopped
+    stopped_under c.run_under_claim-result.result c.in-Ok.ensures.unopened w c.run_under_claim-result.ensures.unopened c.close.ensures.called (follows_taken w c.in-Ok.ensures.moves_nothing) c.run_under_claim-result.ensures.went.same (follows_call refl c.close.ensures.called) c.run_under_claim-result.ensures.stopped
 
 pub returns-in-Ok-clause-by_other_process : goal.returns-in-Ok-clause-by_other_process
 returns-in-Ok-clause-by_other_process g c =
     let w = went_as (locked_ok (g.D.Dir.shown c.args.dir.now).local c.args.pod Claim c.take.result c.in-Ok.claim c.in-Ok.is) c.take.ensures.went in
-    another_under c.run_under_claim-result.result c.in-Ok.ensures.unopened w c.run_under_claim-result.ensures.unopened c.close.ensures.called c.in-Ok.ensures.held (follows_taken w c.in-Ok.ensures.still) c.run_under_claim-result.ensures.went.same (follows_call refl c.close.ensures.called) c.run_under_claim-result.ensures.by_other_process
+    another_under c.run_under_claim-result.result c.in-Ok.ensures.unopened w c.run_under_claim-result.ensures.unopened c.close.ensures.called c.in-Ok.ensures.held (follows_taken w c.in-Ok.ensures.moves_nothing) c.run_under_claim-result.ensures.went.same (follows_call refl c.close.ensures.called) c.run_under_claim-result.ensures.by_other_process
     (λ t. alone_had grown_none refl (grown_more (grown_by (c.run_under_claim-result.ensures.went.extends t)) (grown_call (c.close.ensures.called.step t))) (c.in-Ok.ensures.alone t))
 
 pub returns-in-Ok-clause-held : goal.returns-in-Ok-clause-held

@@ -67,8 +67,8 @@ returns-in-Err-answer-clause-named g c which is = lock_named Own c.in-Err-answer
 pub returns-in-Err-clause-named : goal.returns-in-Err-clause-named
 returns-in-Err-clause-named g c which is = absurd (never_busy c.in-Err.error which (sym c.set_back.ensures ∙ is))
 
-pub returns-in-Ok-answer-clause-told : goal.returns-in-Ok-answer-clause-told
-returns-in-Ok-answer-clause-told g c = told_probed c.args.pod c.args.area (with_spot (λ s. Open s Own) c.pod_spot.ensures c.in-Ok.ensures.called) c.close.ensures.called c.in-Ok-answer.ensures.called
+pub returns-in-Ok-answer-clause-answer_holds : goal.returns-in-Ok-answer-clause-answer_holds
+returns-in-Ok-answer-clause-answer_holds g c = told_probed c.args.pod c.args.area (with_spot (λ s. Open s Own) c.pod_spot.ensures c.in-Ok.ensures.called) c.close.ensures.called c.in-Ok-answer.ensures.called
 
 pub returns-in-Err-answer-clause-owned : goal.returns-in-Err-answer-clause-owned
 returns-in-Err-answer-clause-owned g c which is =

@@ -31,11 +31,11 @@ returns-in-Err-clause-stopped g c =
 pub returns-in-Err-clause-ready : goal.returns-in-Err-clause-ready
 returns-in-Err-clause-ready g c = ready_unmoved c.args.pod c.args.from c.args.to c.in-Err.error (with_spots c.pod_spot.ensures c.pod_spot-2.ensures c.in-Err.ensures.called)
 
-pub returns-in-Err-clause-calm : goal.returns-in-Err-clause-calm
-returns-in-Err-clause-calm g c which is = never_busy c.in-Err.error which (sym c.set_back.ensures ∙ is)
+pub returns-in-Err-clause-never_busy : goal.returns-in-Err-clause-never_busy
+returns-in-Err-clause-never_busy g c which is = never_busy c.in-Err.error which (sym c.set_back.ensures ∙ is)
 
-pub returns-in-Err-clause-still : goal.returns-in-Err-clause-still
-returns-in-Err-clause-still g c t = took_call refl ((with_spots c.pod_spot.ensures c.pod_spot-2.ensures c.in-Err.ensures.called).step t)
+pub returns-in-Err-clause-takes_nothing : goal.returns-in-Err-clause-takes_nothing
+returns-in-Err-clause-takes_nothing g c t = took_call refl ((with_spots c.pod_spot.ensures c.pod_spot-2.ensures c.in-Err.ensures.called).step t)
 
 pub returns-in-Err-clause-lawful : goal.returns-in-Err-clause-lawful
 returns-in-Err-clause-lawful g c stage =

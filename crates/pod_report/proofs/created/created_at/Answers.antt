@@ -12,8 +12,8 @@ returns-in-Err-Missing-clause-only g c =
     let e = rw c.in-Err-Missing.field-0-is at c.in-Err-Missing.ensures in
     looks_directory c.args.pod c.args.area [] (Err Missing) c.pod_spot.result c.pod_spot.ensures c.requires.stage e.called
 
-pub returns-in-Err-Missing-clause-told : goal.returns-in-Err-Missing-clause-told
-returns-in-Err-Missing-clause-told g c t =
+pub returns-in-Err-Missing-clause-answer_holds : goal.returns-in-Err-Missing-clause-answer_holds
+returns-in-Err-Missing-clause-answer_holds g c t =
     let e = rw c.in-Err-Missing.field-0-is at c.in-Err-Missing.ensures in
     marks_missing c.args.pod c.args.area c.pod_spot.result (g.D.Dir.shown c.args.dir.now) (g.D.Dir.shown c.items_of.new.dir) c.pod_spot.ensures t e.called
 

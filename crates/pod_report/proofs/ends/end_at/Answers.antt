@@ -26,8 +26,8 @@ returns-in-Err-clause-only g c =
     let D = g.D.Dir in
     asks_wider (visits_inspect c.args.pod) (looks_file c.args.pod c.args.area c.args.path.now c.requires.stage (subst (λ (x : Spot). OnlyReads D.observed (inner_at x c.args.path.now) (D.shown c.args.dir.now) (D.shown c.read_whole.new.dir)) c.pod_spot.ensures c.read_whole.ensures.only))
 
-pub returns-in-Ok-Some-clause-told : goal.returns-in-Ok-Some-clause-told
-returns-in-Ok-Some-clause-told g c =
+pub returns-in-Ok-Some-clause-answer_holds : goal.returns-in-Ok-Some-clause-answer_holds
+returns-in-Ok-Some-clause-answer_holds g c =
     let D = g.D.Dir in
     let old = D.shown c.args.dir.now in
     let new = D.shown c.read_whole.new.dir in
@@ -38,8 +38,8 @@ returns-in-Ok-Some-clause-told g c =
     if_ok (λ found. MatchOption found (IsNoStatus bytes) (λ n. IsStatusText n bytes)) (λ found. D.observed ≡ true → (app : List ℕ) → c.args.path.now ≡ status_path app → TellsEnd c.args.pod c.args.area app found old.process old.trace new.trace) c.status_in.result
     (λ found is t app path. end_told c.args.pod c.args.area app bytes found is (subst (λ (p : List ℕ). HeldBetween old new (TellsFile (inner_at (pod_spot c.args.pod c.args.area) p) (IsPiece 0 5 bytes))) path (told t))) c.status_in.ensures.read
 
-pub returns-in-Ok-None-clause-told : goal.returns-in-Ok-None-clause-told
-returns-in-Ok-None-clause-told g c t app path =
+pub returns-in-Ok-None-clause-answer_holds : goal.returns-in-Ok-None-clause-answer_holds
+returns-in-Ok-None-clause-answer_holds g c t app path =
     let D = g.D.Dir in
     let old = D.shown c.args.dir.now in
     let new = D.shown c.read_whole.new.dir in

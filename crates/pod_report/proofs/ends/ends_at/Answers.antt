@@ -15,23 +15,23 @@ items_of-requires-clause-path g c = status_path
 pub returns-in-Ok-clause-only : goal.returns-in-Ok-clause-only
 returns-in-Ok-clause-only g c = asks_more (looks_directory c.args.pod c.args.area status_directory (Ok c.in-Ok.items) c.pod_spot.result c.pod_spot.ensures c.requires.stage c.in-Ok.ensures.called) c.ends_of.ensures.only
 
-pub returns-in-Ok-clause-told : goal.returns-in-Ok-clause-told
-returns-in-Ok-clause-told g c =
+pub returns-in-Ok-clause-answer_holds : goal.returns-in-Ok-clause-answer_holds
+returns-in-Ok-clause-answer_holds g c =
     let D = g.D.Dir in
     let old = D.shown c.args.dir.now in
     let mid = D.shown c.items_of.new.dir in
     let new = D.shown c.ends_of.new.dir in
     let first = looks_directory c.args.pod c.args.area status_directory (Ok c.in-Ok.items) c.pod_spot.result c.pod_spot.ensures c.requires.stage c.in-Ok.ensures.called in
     if_ok (λ ends. D.observed ≡ true → TellsEachEnd c.args.pod c.args.area (item_names c.as_slice.result.now) ends.items mid.process mid.trace new.trace) (λ ends. D.observed ≡ true → TellsEnds c.args.pod c.args.area ends.items old.process old.trace new.trace) c.ends_of.result
-    (λ ends tells t. ends_shown c.args.pod c.args.area c.pod_spot.result c.in-Ok.items c.as_slice.result.now ends.items old mid new c.pod_spot.ensures c.as_slice.ensures t first c.ends_of.ensures.only c.in-Ok.ensures.ordered (c.in-Ok.ensures.shows t) (tells t)) c.ends_of.ensures.told
+    (λ ends tells t. ends_shown c.args.pod c.args.area c.pod_spot.result c.in-Ok.items c.as_slice.result.now ends.items old mid new c.pod_spot.ensures c.as_slice.ensures t first c.ends_of.ensures.only c.in-Ok.ensures.ordered (c.in-Ok.ensures.shows t) (tells t)) c.ends_of.ensures.answer_holds
 
 pub returns-in-Err-Missing-clause-only : goal.returns-in-Err-Missing-clause-only
 returns-in-Err-Missing-clause-only g c =
     let e = rw c.in-Err-Missing.field-0-is at c.in-Err-Missing.ensures in
     looks_directory c.args.pod c.args.area status_directory (Err Missing) c.pod_spot.result c.pod_spot.ensures c.requires.stage e.called
 
-pub returns-in-Err-Missing-clause-told : goal.returns-in-Err-Missing-clause-told
-returns-in-Err-Missing-clause-told g c t =
+pub returns-in-Err-Missing-clause-answer_holds : goal.returns-in-Err-Missing-clause-answer_holds
+returns-in-Err-Missing-clause-answer_holds g c t =
     let e = rw c.in-Err-Missing.field-0-is at c.in-Err-Missing.ensures in
     ends_missing c.args.pod c.args.area c.pod_spot.result c.new.result.items (g.D.Dir.shown c.args.dir.now) (g.D.Dir.shown c.items_of.new.dir) c.pod_spot.ensures c.new.ensures.items t e.called
 

@@ -21,5 +21,5 @@ items-preserved g c =
           let a = c.items.invariant.only.extends t in
           let b = c.add_end.ensures.only.extends t in
           each_taken c.args.pod c.args.area items i item c.items.ends.items c.add_end.new.ends.items old.trace mid.trace new.trace a.more b.more a.grown b.grown (c.items.invariant.told t) more
-          (subst (λ (me : ℕ). AddsAppEnd c.args.pod c.args.area item.name c.items.ends.items c.add_end.new.ends.items me mid.trace new.trace) c.items.invariant.only.same (c.in_ok-add_end.ensures.told t));
+          (subst (λ (me : ℕ). AddsAppEnd c.args.pod c.args.area item.name c.items.ends.items c.add_end.new.ends.items me mid.trace new.trace) c.items.invariant.only.same (c.in_ok-add_end.ensures.answer_holds t));
     }

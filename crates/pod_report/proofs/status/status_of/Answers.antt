@@ -39,8 +39,8 @@ returns-in-Ok-Gone-clause-only g c = asks_more c.rounds.invariant.only c.inspect
 pub returns-in-Err-clause-only : goal.returns-in-Err-clause-only
 returns-in-Err-clause-only g c = asks_more c.rounds.invariant.only c.inspect.ensures.only
 
-pub returns-in-Ok-Met-clause-told : goal.returns-in-Ok-Met-clause-told
-returns-in-Ok-Met-clause-told g c t conforming =
+pub returns-in-Ok-Met-clause-answer_holds : goal.returns-in-Ok-Met-clause-answer_holds
+returns-in-Ok-Met-clause-answer_holds g c t conforming =
     let D = g.D.Dir in
     let e = rw c.in-Ok-Met.field-0-is at c.in-Ok-Met.ensures in
     status_after c.args.pod (D.shown c.args.dir.now) (D.shown c.rounds.dir) (D.shown c.inspect.new.dir) t c.rounds.invariant.only c.in-Ok-Met.status (e.round t conforming)

@@ -17,8 +17,8 @@ returns-in-Ok-None-clause-only g c = asks_wider (visits_survey c.args.pod) c.lin
 pub returns-in-Err-clause-only : goal.returns-in-Err-clause-only
 returns-in-Err-clause-only g c = asks_wider (visits_survey c.args.pod) c.line_of.ensures.only
 
-pub returns-in-Ok-Some-clause-told : goal.returns-in-Ok-Some-clause-told
-returns-in-Ok-Some-clause-told g c =
+pub returns-in-Ok-Some-clause-answer_holds : goal.returns-in-Ok-Some-clause-answer_holds
+returns-in-Ok-Some-clause-answer_holds g c =
     let D = g.D.Dir in
     let old = D.shown c.args.dir.now in
     let new = D.shown c.line_of.new.dir in
@@ -26,10 +26,10 @@ returns-in-Ok-Some-clause-told g c =
     let before = c.args.lines.now.items in
     let after = c.push.new.lines.items in
     if_ok (λ done. after ≡ before ++ c.in-Ok-Some.line ∷ []) (λ done. D.observed ≡ true → IsConforming new.trace → AddsPodLine c.args.pod before after old new) c.push.result
-    (λ done is t conforming. line_added c.args.pod before after c.in-Ok-Some.line old new is (e.told t conforming)) c.push.ensures.items
+    (λ done is t conforming. line_added c.args.pod before after c.in-Ok-Some.line old new is (e.answer_holds t conforming)) c.push.ensures.items
 
-pub returns-in-Ok-None-clause-told : goal.returns-in-Ok-None-clause-told
-returns-in-Ok-None-clause-told g c t conforming = let e = rw c.in-Ok-None.field-0-is at c.in-Ok-None.ensures in inl (refl, e.told t conforming)
+pub returns-in-Ok-None-clause-answer_holds : goal.returns-in-Ok-None-clause-answer_holds
+returns-in-Ok-None-clause-answer_holds g c t conforming = let e = rw c.in-Ok-None.field-0-is at c.in-Ok-None.ensures in inl (refl, e.answer_holds t conforming)
 
 pub returns-in-Ok-Some-clause-seen : goal.returns-in-Ok-Some-clause-seen
 returns-in-Ok-Some-clause-seen g c =

@@ -17,5 +17,5 @@ pods-preserved g c =
           let a = c.pods.invariant.only.extends t in
           let b = c.add_line.ensures.only.extends t in
           tells_taken c.args.pods.now c.pods.pod-index _ c.pods.lines.items c.add_line.new.lines.items old mid new c.pods.invariant.only.same a.more b.more a.grown b.grown
-          (c.pods.invariant.told t (conforming_before mid new t c.add_line.ensures.only conforming)) c.pods-test.true (c.in_ok-add_line.ensures.told t conforming);
+          (c.pods.invariant.told t (conforming_before mid new t c.add_line.ensures.only conforming)) c.pods-test.true (c.in_ok-add_line.ensures.answer_holds t conforming);
     }

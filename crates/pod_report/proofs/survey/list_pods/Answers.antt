@@ -23,8 +23,8 @@ returns-in-Ok-clause-snapshot g c =
     let mid = D.shown c.listed_pods.new.dir in
     let new = D.shown c.lines_of.new.dir in
     if_ok (λ lines. D.observed ≡ true → IsConforming new.trace → TellsPods c.deref.result.now lines.items mid new) (λ lines. D.observed ≡ true → IsConforming new.trace → IsSnapshotBetween old new lines.items) c.lines_of.result
-    (λ lines tells t conforming. (list_tells c.in-Ok.pods.items c.deref.result.now lines.items old mid new t (asks_looks lists_survey c.listed_pods.ensures.only) c.lines_of.ensures.only conforming c.in-Ok.ensures.rise (c.in-Ok.ensures.gone t) (c.in-Ok.ensures.still t) c.deref.ensures.value (tells t conforming)).snapshot)
-    c.lines_of.ensures.told
+    (λ lines tells t conforming. (list_tells c.in-Ok.pods.items c.deref.result.now lines.items old mid new t (asks_looks lists_survey c.listed_pods.ensures.only) c.lines_of.ensures.only conforming c.in-Ok.ensures.rise (c.in-Ok.ensures.gone t) (c.in-Ok.ensures.standing t) c.deref.ensures.value (tells t conforming)).snapshot)
+    c.lines_of.ensures.answer_holds
 
 pub returns-in-Ok-clause-standing : goal.returns-in-Ok-clause-standing
 returns-in-Ok-clause-standing g c =
@@ -33,8 +33,8 @@ returns-in-Ok-clause-standing g c =
     let mid = D.shown c.listed_pods.new.dir in
     let new = D.shown c.lines_of.new.dir in
     if_ok (λ lines. D.observed ≡ true → IsConforming new.trace → TellsPods c.deref.result.now lines.items mid new) (λ lines. D.observed ≡ true → IsConforming new.trace → LinesStanding old new lines.items) c.lines_of.result
-    (λ lines tells t conforming. (list_tells c.in-Ok.pods.items c.deref.result.now lines.items old mid new t (asks_looks lists_survey c.listed_pods.ensures.only) c.lines_of.ensures.only conforming c.in-Ok.ensures.rise (c.in-Ok.ensures.gone t) (c.in-Ok.ensures.still t) c.deref.ensures.value (tells t conforming)).standing)
-    c.lines_of.ensures.told
+    (λ lines tells t conforming. (list_tells c.in-Ok.pods.items c.deref.result.now lines.items old mid new t (asks_looks lists_survey c.listed_pods.ensures.only) c.lines_of.ensures.only conforming c.in-Ok.ensures.rise (c.in-Ok.ensures.gone t) (c.in-Ok.ensures.standing t) c.deref.ensures.value (tells t conforming)).standing)
+    c.lines_of.ensures.answer_holds
 
 pub returns-in-Ok-clause-quiet : goal.returns-in-Ok-clause-quiet
 returns-in-Ok-clause-quiet g c =
@@ -43,8 +43,8 @@ returns-in-Ok-clause-quiet g c =
     let mid = D.shown c.listed_pods.new.dir in
     let new = D.shown c.lines_of.new.dir in
     if_ok (λ lines. D.observed ≡ true → IsConforming new.trace → TellsPods c.deref.result.now lines.items mid new) (λ lines. D.observed ≡ true → IsConforming new.trace → ListsPodsQuietly old new lines.items) c.lines_of.result
-    (λ lines tells t conforming. (list_tells c.in-Ok.pods.items c.deref.result.now lines.items old mid new t (asks_looks lists_survey c.listed_pods.ensures.only) c.lines_of.ensures.only conforming c.in-Ok.ensures.rise (c.in-Ok.ensures.gone t) (c.in-Ok.ensures.still t) c.deref.ensures.value (tells t conforming)).quiet)
-    c.lines_of.ensures.told
+    (λ lines tells t conforming. (list_tells c.in-Ok.pods.items c.deref.result.now lines.items old mid new t (asks_looks lists_survey c.listed_pods.ensures.only) c.lines_of.ensures.only conforming c.in-Ok.ensures.rise (c.in-Ok.ensures.gone t) (c.in-Ok.ensures.standing t) c.deref.ensures.value (tells t conforming)).quiet)
+    c.lines_of.ensures.answer_holds
 
 pub returns-in-Ok-clause-seen : goal.returns-in-Ok-clause-seen
 returns-in-Ok-clause-seen g c =

@@ -15,7 +15,7 @@ returns-in-Some-clause-quiet g c t conforming quiet idle =
     let old = D.shown c.args.dir.now in
     let new = D.shown c.visit_pod.new.dir in
     let e = rw c.in-Ok-Some.field-0-is at c.in-Ok-Some.ensures in
-    let told = e.told t conforming in
+    let told = e.answer_holds t conforming in
     rw (c.in-Some.manifest-is) (manifest_before conforming (extends_wider (λ r h. survey_calm r (visits_survey c.args.pod r h)) (c.visit_pod.ensures.only.extends t)) quiet idle c.args.pod (pod_data c.in-Some.manifest) (subst (λ (m : Option PodManifest). ToldManifest c.args.pod m old.process old.trace new.trace) c.in-Some.is told.manifest))
 
 pub returns-in-None-clause-quiet : goal.returns-in-None-clause-quiet
@@ -24,13 +24,13 @@ returns-in-None-clause-quiet g c t conforming quiet idle =
     let old = D.shown c.args.dir.now in
     let new = D.shown c.visit_pod.new.dir in
     let e = rw c.in-Ok-Some.field-0-is at c.in-Ok-Some.ensures in
-    let told = e.told t conforming in
+    let told = e.answer_holds t conforming in
     lack_before conforming (extends_wider (λ r h. survey_calm r (visits_survey c.args.pod r h)) (c.visit_pod.ensures.only.extends t)) quiet idle c.args.pod (subst (λ (m : Option PodManifest). ToldManifest c.args.pod m old.process old.trace new.trace) c.in-None.is told.manifest)
 
 pub returns-in-Ok-None-clause-quiet : goal.returns-in-Ok-None-clause-quiet
 returns-in-Ok-None-clause-quiet g c t conforming quiet idle =
     let e = rw c.in-Ok-None.field-0-is at c.in-Ok-None.ensures in
-    nowhere_before conforming (extends_wider (λ r h. survey_calm r (visits_survey c.args.pod r h)) (c.visit_pod.ensures.only.extends t)) quiet idle c.args.pod (e.told t conforming)
+    nowhere_before conforming (extends_wider (λ r h. survey_calm r (visits_survey c.args.pod r h)) (c.visit_pod.ensures.only.extends t)) quiet idle c.args.pod (e.answer_holds t conforming)
 
 pub returns-in-Some-clause-seen : goal.returns-in-Some-clause-seen
 returns-in-Some-clause-seen g c t =

@@ -31,14 +31,14 @@ returns-in-Ok-Gone-clause-only g c = asks_more c.rounds.invariant.only c.attempt
 pub returns-in-Err-clause-only : goal.returns-in-Err-clause-only
 returns-in-Err-clause-only g c = asks_more c.rounds.invariant.only c.attempt.ensures.only
 
-pub returns-in-Ok-Met-clause-told : goal.returns-in-Ok-Met-clause-told
-returns-in-Ok-Met-clause-told g c t conforming =
+pub returns-in-Ok-Met-clause-answer_holds : goal.returns-in-Ok-Met-clause-answer_holds
+returns-in-Ok-Met-clause-answer_holds g c t conforming =
     let D = g.D.Dir in
     let e = rw c.in-Ok-Met.field-0-is at c.in-Ok-Met.ensures in
     visit_after c.args.pod (D.shown c.args.dir.now) (D.shown c.rounds.dir) (D.shown c.attempt.new.dir) t c.rounds.invariant.only c.in-Ok-Met.visit (e.round t conforming)
 
-pub returns-in-Ok-Gone-clause-told : goal.returns-in-Ok-Gone-clause-told
-returns-in-Ok-Gone-clause-told g c t conforming =
+pub returns-in-Ok-Gone-clause-answer_holds : goal.returns-in-Ok-Gone-clause-answer_holds
+returns-in-Ok-Gone-clause-answer_holds g c t conforming =
     let D = g.D.Dir in
     let e = rw c.in-Ok-Gone.field-0-is at c.in-Ok-Gone.ensures in
     gone_after c.args.pod (D.shown c.args.dir.now) (D.shown c.rounds.dir) (D.shown c.attempt.new.dir) t c.rounds.invariant.only (e.round t conforming)

@@ -32,7 +32,7 @@ pub returns-in-Ok-its_pod-clause-acts : goal.returns-in-Ok-its_pod-clause-acts
 returns-in-Ok-its_pod-clause-acts g c =
     let D = g.D.Dir in
     acted_whole D.observed c.args.line.now c.args.now c.args.draw.now c.args.intent (D.shown c.args.dir.now) (D.shown c.begin.new.self) c.requires.said c.requires.fresh c.in-Ok.ensures.called (D.shown c.its_pod.new.dir) c.its_pod.ensures.comes
-    c.in-Ok-its_pod.pod c.in-Ok-its_pod.ensures.finds (D.shown c.act-answer.new.dir) (D.shown c.finish.new.self) _ _ _ _ c.act-answer.result c.requires.uses c.act-answer.ensures.ran c.act-answer.ensures.keeps c.act-answer.ensures.came
+    c.in-Ok-its_pod.pod c.in-Ok-its_pod.ensures.finds (D.shown c.act-answer.new.dir) (D.shown c.finish.new.self) _ _ _ _ c.act-answer.result c.requires.uses c.act-answer.ensures.ran c.act-answer.ensures.keeps c.act-answer.ensures.apps_told
     c.act-answer.ensures.spawn_cause c.finish.ensures.called c.finish.ensures.faultless
 
 pub returns-in-Err-its_pod-clause-makers : goal.returns-in-Err-its_pod-clause-makers

@@ -16,7 +16,7 @@ returns-in-None-clause-acts g c =
     let line = c.args.line.now in
     let apart = c.in-None.ensures.none refl in
     acted_apart D.observed line c.args.now c.args.draw.now (D.shown c.args.dir.now) (D.shown c.act.new.dir) _ _ _ _ c.act.result (sym c.in-None.ensures.intent) apart (ap (dir_at D) (c.act.ensures.apart (same_uses line c.args.draw.now.uuid ∙ apart)))
-    c.act.ensures.ran (well_apart line c.args.now c.args.draw.now _ _ c.act.result apart c.act.ensures.came) c.act.ensures.spawn_cause
+    c.act.ensures.ran (well_apart line c.args.now c.args.draw.now _ _ c.act.result apart c.act.ensures.apps_told) c.act.ensures.spawn_cause
 
 pub returns-in-None-clause-serves : goal.returns-in-None-clause-serves
 returns-in-None-clause-serves g c l d none = links_apart c.args.line.now c.args.now c.args.draw.now c.act.result _ _ _ _ (sym c.in-None.ensures.intent) (c.act.ensures.serves l d none)

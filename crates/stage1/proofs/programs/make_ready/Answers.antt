@@ -14,7 +14,7 @@ returns-in-Ok-clause-asked g c =
     let S = g.S.Spawner in
     let old = S.shown c.args.spawner.now in
     let new = S.shown c.ready.new.self in
-    asks_one (ready_request c.args.app.now) Done c.ready.ensures.kept (λ t. subst (λ (l : List ℕ). Tells old (Ready c.args.app.now.root l) Done new) c.as_slice.ensures.value (c.in-Ok.ensures.told t)) (λ t. tt) (λ t. tt)
+    asks_one (ready_request c.args.app.now) Done c.ready.ensures.kept (λ t. subst (λ (l : List ℕ). Tells old (Ready c.args.app.now.root l) Done new) c.as_slice.ensures.value (c.in-Ok.ensures.recorded t)) (λ t. tt) (λ t. tt)
 
 pub returns-in-Err-clause-refused : goal.returns-in-Err-clause-refused
 returns-in-Err-clause-refused g c =
@@ -22,7 +22,7 @@ returns-in-Err-clause-refused g c =
     let old = S.shown c.args.spawner.now in
     let new = S.shown c.ready.new.self in
     let e = c.in-Err.error in
-    record { error = e; asked = asks_one (ready_request c.args.app.now) (Refused e) c.ready.ensures.kept (λ t. subst (λ (l : List ℕ). Tells old (Ready c.args.app.now.root l) (Refused e) new) c.as_slice.ensures.value (c.in-Err.ensures.told t)) (λ t. tt) (λ t. tt) }
+    record { error = e; asked = asks_one (ready_request c.args.app.now) (Refused e) c.ready.ensures.kept (λ t. subst (λ (l : List ℕ). Tells old (Ready c.args.app.now.root l) (Refused e) new) c.as_slice.ensures.value (c.in-Err.ensures.recorded t)) (λ t. tt) (λ t. tt) }
 
 pub returns-in-Err-clause-cause : goal.returns-in-Err-clause-cause
 returns-in-Err-clause-cause g c =

@@ -17,7 +17,7 @@ returns-in-Ok-clause-asked g c =
     let old = S.shown c.args.spawner.now in
     let new = S.shown c.start.new.self in
     let app = c.args.app.now in
-    asks_one (start_request app c.args.argv.now) (Started c.in-Ok.child) c.start.ensures.kept (λ t. subst (λ (d : List ℕ). Tells old (Start app.root c.args.argv.now app.launch.environment d) (Started c.in-Ok.child) new) c.as_str.ensures (c.in-Ok.ensures.told t)) (λ t. tt) c.in-Ok.ensures.fresh
+    asks_one (start_request app c.args.argv.now) (Started c.in-Ok.child) c.start.ensures.kept (λ t. subst (λ (d : List ℕ). Tells old (Start app.root c.args.argv.now app.launch.environment d) (Started c.in-Ok.child) new) c.as_str.ensures (c.in-Ok.ensures.recorded t)) (λ t. tt) c.in-Ok.ensures.fresh
 
 pub returns-in-Ok-clause-started : goal.returns-in-Ok-clause-started
 returns-in-Ok-clause-started g c t =
@@ -25,7 +25,7 @@ returns-in-Ok-clause-started g c t =
     let old = S.shown c.args.spawner.now in
     let new = S.shown c.start.new.self in
     let app = c.args.app.now in
-    subst (λ (l : List SpawnCall). StartedIn app.root c.in-Ok.child l) (sym (c.in-Ok.ensures.told t).noted) (started_now old.calls app.root c.args.argv.now app.launch.environment c.as_str.result.now c.in-Ok.child)
+    subst (λ (l : List SpawnCall). StartedIn app.root c.in-Ok.child l) (sym (c.in-Ok.ensures.recorded t).noted) (started_now old.calls app.root c.args.argv.now app.launch.environment c.as_str.result.now c.in-Ok.child)
 
 pub returns-in-Err-clause-refused : goal.returns-in-Err-clause-refused
 returns-in-Err-clause-refused g c =
@@ -34,7 +34,7 @@ returns-in-Err-clause-refused g c =
     let new = S.shown c.start.new.self in
     let app = c.args.app.now in
     let e = c.in-Err.error in
-    record { error = e; asked = asks_one (start_request app c.args.argv.now) (Refused e) c.start.ensures.kept (λ t. subst (λ (d : List ℕ). Tells old (Start app.root c.args.argv.now app.launch.environment d) (Refused e) new) c.as_str.ensures (c.in-Err.ensures.told t)) (λ t. tt) (λ t. tt) }
+    record { error = e; asked = asks_one (start_request app c.args.argv.now) (Refused e) c.start.ensures.kept (λ t. subst (λ (d : List ℕ). Tells old (Start app.root c.args.argv.now app.launch.environment d) (Refused e) new) c.as_str.ensures (c.in-Err.ensures.recorded t)) (λ t. tt) (λ t. tt) }
 
 pub returns-in-Err-clause-cause : goal.returns-in-Err-clause-cause
 returns-in-Err-clause-cause g c =

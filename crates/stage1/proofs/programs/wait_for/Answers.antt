@@ -8,10 +8,10 @@ use Rattle.stage1.proofs.Causes.{spawn_cause}
 use Rattle.stage1.proofs.programs.wait_for.Goals as goal
 
 pub returns-in-Ok-clause-asked : goal.returns-in-Ok-clause-asked
-returns-in-Ok-clause-asked g c = asks_one (wait_request c.args.child) (Ended c.in-Ok.status) c.wait.ensures.kept c.in-Ok.ensures.told c.in-Ok.ensures.status (λ t. tt)
+returns-in-Ok-clause-asked g c = asks_one (wait_request c.args.child) (Ended c.in-Ok.status) c.wait.ensures.kept c.in-Ok.ensures.recorded c.in-Ok.ensures.status (λ t. tt)
 
 pub returns-in-Err-clause-refused : goal.returns-in-Err-clause-refused
-returns-in-Err-clause-refused g c = record { error = c.in-Err.error; asked = asks_one (wait_request c.args.child) (Refused c.in-Err.error) c.wait.ensures.kept c.in-Err.ensures.told (λ t. tt) (λ t. tt) }
+returns-in-Err-clause-refused g c = record { error = c.in-Err.error; asked = asks_one (wait_request c.args.child) (Refused c.in-Err.error) c.wait.ensures.kept c.in-Err.ensures.recorded (λ t. tt) (λ t. tt) }
 
 pub returns-in-Err-clause-cause : goal.returns-in-Err-clause-cause
 returns-in-Err-clause-cause g c =

@@ -46,4 +46,4 @@ returns-clause-follows c =
     let new : Memory = record { trace = c.end_step-ended.new.past.items; process = c.self.inside.process; faults = c.raised_by_end-self-inside.result; calls = c.saturating_add-self-inside.result; numbered = c.saturating_add-self-inside-2.result; local = local_of c.self.inside.own; pending = c.inside_come-came.new.pending.items; failing = c.self.inside.failing.items; stop = c.self.inside.stop; killed = c.self.inside.killed } in
     subst (λ (x : Memory). Listed x c.args.request c.end_step-ended.result.reply new ⊎ (CutOff x c.args.request c.end_step-ended.result.reply new ⊎ RanOut x c.args.request c.end_step-ended.result.reply new)) c.self.view_is
     (listing_by m c.args.request c.end_step-ended.result.reply c.fails_next-fails.result c.end_step-ended.result.cut c.inside_come-came.result c.begin_step-begun.new.past.items c.inside_come-came.new.past.items c.end_step-ended.new.past.items c.begin_step-begun.new.pending.items c.inside_come-came.new.pending.items c.raised_by_end-self-inside.result c.saturating_add-self-inside.result c.saturating_add-self-inside-2.result c.requires.asks
-    (rw c.deref.ensures.value at c.fails_next-fails.ensures) c.in-Ok.ensures.grown c.in-Ok.ensures.steps c.inside_come-came.ensures.interlude.meanwhile c.inside_come-came.ensures.first c.inside_come-came.ensures.later c.end_step-ended.ensures.ends c.inside_come-came.ensures.came c.inside_come-came.ensures.left (ap (λ (r : Reserved Event). r.items) c.end_step-ended.ensures.grown) c.end_step-ended.ensures.cut c.end_step-ended.ensures.whole c.raised_by_end-self-inside.ensures c.saturating_add-self-inside.ensures c.saturating_add-self-inside-2.ensures)
+    (rw c.deref.ensures.value at c.fails_next-fails.ensures) c.in-Ok.ensures.grown c.in-Ok.ensures.steps c.inside_come-came.ensures.interlude.meanwhile c.inside_come-came.ensures.first c.inside_come-came.ensures.later c.end_step-ended.ensures.ends c.inside_come-came.ensures.arrived c.inside_come-came.ensures.left (ap (λ (r : Reserved Event). r.items) c.end_step-ended.ensures.grown) c.end_step-ended.ensures.cut c.end_step-ended.ensures.whole c.raised_by_end-self-inside.ensures c.saturating_add-self-inside.ensures c.saturating_add-self-inside-2.ensures)

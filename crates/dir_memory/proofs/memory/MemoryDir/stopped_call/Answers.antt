@@ -20,5 +20,5 @@ returns-clause-follows c =
     let new : Memory = record { trace = c.end.new.self.items; process = c.self.inside.process; faults = c.saturating_add-self-inside-3.result; calls = c.saturating_add-self-inside.result; numbered = c.saturating_add-self-inside-2.result; local = local_of c.self.inside.own; pending = c.steps_come-came.new.pending.items; failing = c.self.inside.failing.items; stop = c.self.inside.stop; killed = true } in
     subst (λ (x : Memory). RanOut x c.args.request (Refused Failed 0) new ⊎ CallerWasKilled x c.args.request (Refused Failed 0) new) c.self.view_is
     (inr (stopped_by m c.args.request c.is_listing.result c.steps_come-came.new.past.items c.end.new.self.items c.steps_come-came.new.pending.items c.saturating_add-self-inside-3.result c.saturating_add-self-inside.result c.saturating_add-self-inside-2.result
-    (subst (λ (x : Memory). is_stopped x c.args.request ≡ true) (sym c.self.view_is) c.requires.stopped) c.is_listing.ensures c.in-Ok.ensures.came c.in-Ok.ensures.left c.end.ensures.grown
+    (subst (λ (x : Memory). is_stopped x c.args.request ≡ true) (sym c.self.view_is) c.requires.stopped) c.is_listing.ensures c.in-Ok.ensures.arrived c.in-Ok.ensures.left c.end.ensures.grown
     (over_by c.end.new.self c.self.inside.process (local_of c.self.inside.own) 0 kept) c.saturating_add-self-inside-3.ensures c.saturating_add-self-inside.ensures c.saturating_add-self-inside-2.ensures))
