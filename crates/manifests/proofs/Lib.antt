@@ -4,3 +4,7 @@ pub mod SameData
 pub mod WhitelistSteps
 pub mod Parts
 pub mod Manifests
+pub mod LeftOut
+pub mod PartsAgain
+pub mod WhitelistAgain
+pub mod ManifestsAgain

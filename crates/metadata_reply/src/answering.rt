@@ -5,7 +5,7 @@ ghost use Rattle.serde_json.specs.Written.{compact_text};
 ghost use Rattle.ac_types.specs.Ids.{id_text};
 ghost use Rattle.dir_model.specs.Pods.{pod_text};
 ghost use Rattle.manifests.specs.PodData.{pod_data, runtime_app_data};
-ghost use Rattle.manifest_writing.specs.PodObject.{pod_object};
+ghost use Rattle.manifests.specs.PodObject.{pod_object};
 ghost use Rattle.metadata_request.specs.declared.request.Body.TheVariants.{Got};
 ghost use Rattle.metadata_reply.specs.Annotations.{annotations_text};
 ghost use Rattle.metadata_reply.specs.Answers.{found, method_text, app_annotations, reply_at, asked, answer_of, ViewHasApp, LacksApp};
@@ -21,8 +21,7 @@ use crate::target::{path_of, token_of};
 use crate::view::{ImageBytes, PodView};
 use ac_types::{NoMemory, ReadError, Text};
 use dir_model::PodId;
-use manifest_writing::pod_bytes;
-use manifests::{RuntimeApp, read_image};
+use manifests::{RuntimeApp, pod_bytes, read_image};
 use metadata_request::{Body, Request};
 use std::alloc::Global;
 

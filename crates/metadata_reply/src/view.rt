@@ -2,7 +2,7 @@
 ghost use Rattle.std.specs.Prelude.{◌≡◌, false};
 ghost use Rattle.serde_json.specs.Written.{has_float};
 ghost use Rattle.manifests.specs.PodData.{pod_data};
-ghost use Rattle.manifest_writing.specs.PodObject.{pod_object};
+ghost use Rattle.manifests.specs.PodObject.{pod_object};
 
 use ac_types::{NoMemory, Sequence, TryCopy};
 use dir_model::{Bytes, PodId};

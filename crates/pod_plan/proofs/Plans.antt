@@ -4,7 +4,7 @@ use Rattle.serde_json.specs.Written.{compact_text}
 use Rattle.ac_types.specs.declared.image_ref.ImageRef.{ImageRef}
 use Rattle.manifests.specs.PodData.{pod_data}
 use Rattle.manifests.specs.ManifestRules.{IsPodManifest}
-use Rattle.manifest_writing.specs.PodObject.{pod_object}
+use Rattle.manifests.specs.PodObject.{pod_object}
 use Rattle.dep_match.specs.declared.stored.Stored.{Stored}
 use Rattle.dir_trait.specs.DirCalls.{DirAt}
 use Rattle.dir_trait.specs.Effects.{OnlyAsksAndKeeps}

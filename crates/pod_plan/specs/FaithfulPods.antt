@@ -5,7 +5,7 @@ use Rattle.ac_types.specs.declared.image_ref.ImageRef.{ImageRef}
 use Rattle.ac_types.specs.declared.store_key.StoreKey.{StoreKey}
 use Rattle.manifests.specs.PodData.{PodData, RuntimeAppData, pod_data}
 use Rattle.manifests.specs.ManifestRules.{IsPodManifest}
-use Rattle.manifest_writing.specs.PodObject.{pod_object}
+use Rattle.manifests.specs.PodObject.{pod_object}
 use Rattle.serde_json.specs.Written.{compact_text}
 use Rattle.dep_match.specs.declared.dep_tree.DepNode.{DepNode}
 use Rattle.dep_match.specs.declared.stored.Stored.{Stored}

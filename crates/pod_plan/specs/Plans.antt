@@ -7,7 +7,7 @@ use Rattle.ac_types.specs.Ids.{id_text}
 use Rattle.manifests.specs.declared.runtime_app.RuntimeApp.{RuntimeApp}
 use Rattle.manifests.specs.PodData.{pod_data}
 use Rattle.manifests.specs.ManifestRules.{IsPodManifest}
-use Rattle.manifest_writing.specs.PodObject.{pod_object}
+use Rattle.manifests.specs.PodObject.{pod_object}
 use Rattle.dep_match.specs.declared.stored.Stored.{Stored}
 use Rattle.folder_building.specs.declared.plan.PlanEntry.{PlanEntry}
 use Rattle.pod_manifest.specs.Wishes.{Wishes, AreWishes}

@@ -4,7 +4,7 @@ ghost use Rattle.serde_json.specs.Written.{compact_text};
 ghost use Rattle.ac_types.specs.Ids.{id_text};
 ghost use Rattle.manifests.specs.PodData.{pod_data};
 ghost use Rattle.manifests.specs.ManifestRules.{IsPodManifest};
-ghost use Rattle.manifest_writing.specs.PodObject.{pod_object};
+ghost use Rattle.manifests.specs.PodObject.{pod_object};
 ghost use Rattle.folder_building.specs.Plans.{is_plan};
 ghost use Rattle.pod_plan.specs.PodPlans.{ComesInTurn, MakesWhole};
 ghost use Rattle.pod_plan.specs.Plans.{apps_of, folders, IsChoiceReady, ArePlanParts, IsPlanOf};
@@ -19,7 +19,7 @@ use dep_match::Stored;
 use dir_trait::{Bytes, Name};
 use folder_building::PlanEntry;
 use image_reading::spot_of;
-use manifest_writing::pod_bytes;
+use manifests::pod_bytes;
 use std::alloc::Global;
 
 /// The name of an image's folder.

@@ -2,7 +2,7 @@
 use Rattle.std.specs.Prelude.{ℕ, List}
 use Rattle.serde_json.specs.Written.{compact_text}
 use Rattle.manifests.specs.PodData.{PodData}
-use Rattle.manifest_writing.specs.PodObject.{pod_object}
+use Rattle.manifests.specs.PodObject.{pod_object}
 
 -- its JSON without spaces
 unfoldable pub manifest_text : PodData → List ℕ

@@ -5,8 +5,7 @@ ghost use Rattle.manifests.specs.PodData.{pod_data};
 ghost use Rattle.pod_report.specs.ManifestText.{manifest_text};
 
 use ac_types::NoMemory;
-use manifest_writing::pod_bytes;
-use manifests::PodManifest;
+use manifests::{PodManifest, pod_bytes};
 use std::alloc::Global;
 
 /// The text of a pod's manifest: its JSON without spaces. Refused only where memory ran out.

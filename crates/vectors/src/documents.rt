@@ -1,8 +1,7 @@
 // Manifests as bytes: read, refused, and written again.
 use crate::fields::print_fault;
 use ac_types::ReadError;
-use manifest_writing::{image_bytes, pod_bytes};
-use manifests::{Document, read_document, read_image, read_pod};
+use manifests::{Document, image_bytes, pod_bytes, read_document, read_image, read_pod};
 use scripts::Page;
 
 /// Prints whether something was taken, or the number and the path of its first fault.

@@ -1,5 +1,5 @@
 use Rattle.manifests.specs.PodData.{pod_data}
-use Rattle.manifest_writing.proofs.ManifestsAgain.{pod_is_whole}
+use Rattle.manifests.proofs.ManifestsAgain.{pod_is_whole}
 use Rattle.metadata_reply.proofs.view.PodView.of.Goals as goal
 
 pub invariant_of-result : goal.invariant_of-result

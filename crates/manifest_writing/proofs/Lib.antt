@@ -1,4 +1,0 @@
-pub mod LeftOut
-pub mod PartsAgain
-pub mod WhitelistAgain
-pub mod ManifestsAgain
