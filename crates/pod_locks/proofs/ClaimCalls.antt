@@ -29,7 +29,8 @@ use Rattle.dir_model.proofs.Spots.{spot_self}
 use Rattle.dir_trait.specs.DirCalls.{DirAt, DirCall}
 use Rattle.pod_locks.specs.ClaimRequests.{in_prepared, in_run, claims}
 use Rattle.pod_locks.specs.ClaimHolding.{and_prepared_lock}
-use Rattle.pod_locks.specs.ClaimSetbacks.{claim_setback_of, claim_lock_setback}
+use Rattle.pod_locks.specs.ClaimSetbacks.{claim_setback_of, claim_step_setback}
+use Rattle.pod_locks.specs.Setbacks.{step_setback_of, step_lock_setback}
 use Rattle.pod_locks.specs.Work.{WentClaiming, MovedNothing}
 use Rattle.pod_locks.specs.ClaimCauses.{CannotOpen, IsNotInPrepared, ClaimWasStopped}
 use Rattle.pod_locks.proofs.Traces.{one_deed}
@@ -117,7 +118,7 @@ Quiet observed old new = observed ≡ true → MovedNothing old.process old.trac
 
 -- the lock was refused
 pub lock_stops : {observed : Bool} {pod : PodId} {Missed : DirState → Type 0} {old new : DirAt} (which : Which) (h : Handle) (e : DirError) → may_refuse (TryLock h Exclusive) e ≡ true
-    → (e ≡ Failed → Rose old.faults new.faults) → Quiet observed old new → ClaimWasStopped observed pod Missed (claim_lock_setback pod which e) old new
+    → (e ≡ Failed → Rose old.faults new.faults) → Quiet observed old new → ClaimWasStopped observed pod Missed (claim_step_setback pod (step_lock_setback which e)) old new
 lock_stops which h Locked may rose still = record { still = still; fault = λ is. cc; missing = λ is. cc; manifest = λ is. cc; barred = λ is. cc; named = λ other w is. cc; there = λ is. cc; right = λ p is. cc }
 lock_stops which h Failed may rose still = record { still = still; fault = λ is. rose refl; missing = λ is. cc; manifest = λ is. cc; barred = λ is. cc; named = λ other w is. cc; there = λ is. cc; right = λ p is. cc }
 lock_stops which h dir.NoMemory may rose still = record { still = still; fault = λ is. cc; missing = λ is. cc; manifest = λ is. cc; barred = λ is. cc; named = λ other w is. cc; there = λ is. cc; right = λ p is. cc }
@@ -127,7 +128,7 @@ lock_stops which h NotEmpty may rose still = cc
 
 -- it couldn't be opened
 pub open_stops : {observed : Bool} {pod : PodId} {which : Which} {old new : DirAt} (e : DirError) → may_refuse (Open (in_prepared pod) which) e ≡ true
-    → (e ≡ Failed → Rose old.faults new.faults) → Quiet observed old new → DirCall observed old (Open (in_prepared pod) which) (Refused e 0) new → ClaimWasStopped observed pod (CannotOpen pod which) (claim_setback_of e) old new
+    → (e ≡ Failed → Rose old.faults new.faults) → Quiet observed old new → DirCall observed old (Open (in_prepared pod) which) (Refused e 0) new → ClaimWasStopped observed pod (CannotOpen pod which) (claim_step_setback pod (step_setback_of e)) old new
 open_stops {observed} {pod} {which} Missing may rose still x = record { still = still; fault = λ is. cc; missing = λ is t. missed_open pod which (x.step t); manifest = λ is. cc; barred = λ is. cc; named = λ other w is. cc; there = λ is. cc; right = λ p is. cc }
 open_stops Failed may rose still x = record { still = still; fault = λ is. rose refl; missing = λ is. cc; manifest = λ is. cc; barred = λ is. cc; named = λ other w is. cc; there = λ is. cc; right = λ p is. cc }
 open_stops dir.NoMemory may rose still x = record { still = still; fault = λ is. cc; missing = λ is. cc; manifest = λ is. cc; barred = λ is. cc; named = λ other w is. cc; there = λ is. cc; right = λ p is. cc }

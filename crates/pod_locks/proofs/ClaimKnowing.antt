@@ -23,7 +23,10 @@ use Rattle.pod_locks.specs.ClaimRequests.{in_prepared, in_run}
 use Rattle.pod_locks.specs.ClaimHolding.{on_prepared_lock, and_held, HasClaim, MayTakePrepared, is_own_lock, with_prepared_lock, with_pod}
 use Rattle.pod_locks.specs.declared.claim_error.ClaimError.TheVariants.{Busy}
 use Rattle.pod_locks.specs.declared.claim_setback.Setback.TheVariants as setback
-use Rattle.pod_locks.specs.ClaimSetbacks.{claim_lock_setback}
+use Rattle.pod_locks.specs.declared.setback.Setback.{Setback as StepSetback}
+use Rattle.pod_locks.specs.declared.setback.Setback.TheVariants as step
+use Rattle.pod_locks.specs.ClaimSetbacks.{claim_step_setback}
+use Rattle.pod_locks.specs.Setbacks.{step_setback_of, step_lock_setback}
 use Rattle.pod_locks.specs.ClaimCauses.{ClaimBusyElsewhere, PreparedHeldByAnother}
 use Rattle.pod_locks.specs.Work.{WhereObservedKnew}
 use Rattle.pod_locks.proofs.ClaimOpposed.{held_step}
@@ -75,10 +78,10 @@ looked_none {d} {s} k = record { known = s; looked = looked_same s; knows = k }
 
 -- the lock was refused: another process held it
 pub busy_elsewhere : {observed : Bool} {h : Handle} {old mid late new : DirAt} (pod : PodId) (which : Which) (e : DirError) → DirCall observed old (Open (in_prepared pod) which) (Opened h) mid
-    → DirCall observed mid (TryLock h Exclusive) (Refused e 0) late → DirCall observed late (Close h) Done new → WhereObservedKnew observed (MayTakePrepared pod which) old (λ z. ClaimBusyElsewhere pod (claim_lock_setback pod which e) old new)
+    → DirCall observed mid (TryLock h Exclusive) (Refused e 0) late → DirCall observed late (Close h) Done new → WhereObservedKnew observed (MayTakePrepared pod which) old (λ z. ClaimBusyElsewhere pod (claim_step_setback pod (step_lock_setback which e)) old new)
 busy_elsewhere {observed} {h} {old} {mid} {late} {new} pod which e x y w t z may k other is = by e is y
   where
-    by : (e : DirError) → claim_lock_setback pod which e ≡ setback.Refused (Busy pod other) → DirCall observed mid (TryLock h Exclusive) (Refused e 0) late → PreparedHeldByAnother pod other old.process old.trace new.trace
+    by : (e : DirError) → claim_step_setback pod (step_lock_setback which e) ≡ setback.Refused (Busy pod other) → DirCall observed mid (TryLock h Exclusive) (Refused e 0) late → PreparedHeldByAnother pod other old.process old.trace new.trace
     by Locked is y =
         let same : which ≡ other = cc in
         let can = can_take pod which z may in
@@ -91,3 +94,22 @@ busy_elsewhere {observed} {h} {old} {mid} {late} {new} pod which e x y w t z may
     by NotEmpty is y = cc
     by Failed is y = cc
     by dir.NoMemory is y = cc
+
+-- a lock that couldn't be opened isn't told as busy
+pub never_opened_busy : (pod : PodId) (which : Which) (e : DirError) → claim_step_setback pod (step_setback_of e) ≡ setback.Refused (Busy pod which) → ⊥
+never_opened_busy pod which Missing is = cc
+never_opened_busy pod which Exists is = cc
+never_opened_busy pod which NotEmpty is = cc
+never_opened_busy pod which Locked is = cc
+never_opened_busy pod which Failed is = cc
+never_opened_busy pod which dir.NoMemory is = cc
+
+-- the lock that is told as busy is the one that the step names
+pub busy_named : (pod other : PodId) (which named : Which) (stop : StepSetback) → ((w : Which) → stop ≡ step.Busy w → w ≡ which)
+    → claim_step_setback pod stop ≡ setback.Refused (Busy other named) → named ≡ which
+busy_named pod other which named (step.Busy w) own is = let same : named ≡ w = cc in same ∙ own w refl
+busy_named pod other which named step.Missing own is = cc
+busy_named pod other which named step.NoManifest own is = cc
+busy_named pod other which named step.DirFault own is = cc
+busy_named pod other which named step.Stray own is = cc
+busy_named pod other which named step.NoMemory own is = cc

@@ -1,12 +1,13 @@
 -- What the refusals of lower calls mean to a claim.
 use Rattle.dir_model.specs.declared.pod.PodId.{PodId}
-use Rattle.dir_model.specs.declared.spot.Which.{Which}
 use Rattle.dir_model.specs.declared.request.DirError.{DirError}
 use Rattle.dir_model.specs.declared.request.DirError.TheVariants as dir
 use Rattle.phase_read.specs.declared.found.LookError.{LookError}
 use Rattle.phase_read.specs.declared.found.LookError.TheVariants as look
 use Rattle.pod_locks.specs.declared.claim_error.ClaimError.{ClaimError}
-use Rattle.pod_locks.specs.declared.claim_error.ClaimError.TheVariants.{Busy, DirFault, Stray, NoMemory}
+use Rattle.pod_locks.specs.declared.claim_error.ClaimError.TheVariants.{Busy, NoManifest, DirFault, Stray, NoMemory}
+use Rattle.pod_locks.specs.declared.setback.Setback.{Setback as StepSetback}
+use Rattle.pod_locks.specs.declared.setback.Setback.TheVariants as step
 use Rattle.pod_locks.specs.declared.claim_setback.Setback.{Setback}
 use Rattle.pod_locks.specs.declared.claim_setback.Setback.TheVariants.{Missing, Refused}
 
@@ -17,10 +18,14 @@ claim_setback_of dir.Failed = Refused DirFault
 claim_setback_of dir.NoMemory = Refused NoMemory
 claim_setback_of _ = Refused Stray
 
--- the lock was asked for
-abbrev pub claim_lock_setback : PodId → Which → DirError → Setback
-claim_lock_setback pod which dir.Locked = Refused (Busy pod which)
-claim_lock_setback pod which error = claim_setback_of error
+-- a step at the pod was set back
+abbrev pub claim_step_setback : PodId → StepSetback → Setback
+claim_step_setback pod step.Missing = Missing
+claim_step_setback pod step.NoManifest = Refused NoManifest
+claim_step_setback pod (step.Busy which) = Refused (Busy pod which)
+claim_step_setback pod step.DirFault = Refused DirFault
+claim_step_setback pod step.Stray = Refused Stray
+claim_step_setback pod step.NoMemory = Refused NoMemory
 
 -- a look at a pod gives DirFault or NoMemory
 abbrev pub look_refusal : LookError → ClaimError

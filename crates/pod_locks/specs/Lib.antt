@@ -4,6 +4,7 @@ pub mod Requests
 pub mod Holding
 pub mod Causes
 pub mod Taking
+pub mod LockTaking
 pub mod ClaimRequests
 pub mod ClaimHolding
 pub mod ClaimSetbacks

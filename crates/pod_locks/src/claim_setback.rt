@@ -2,10 +2,11 @@
 ghost use Rattle.std.specs.Prelude.{◌≡◌, true};
 ghost use Rattle.dir_files.specs.AreaLocks.{is_lock_refusal};
 ghost use Rattle.phase_read.specs.Faults.{IsLookFault};
-ghost use Rattle.pod_locks.specs.ClaimSetbacks.{claim_setback_of, claim_lock_setback, look_refusal, last_refusal};
+ghost use Rattle.pod_locks.specs.ClaimSetbacks.{claim_setback_of, claim_step_setback, look_refusal, last_refusal};
 
 use crate::claim_error::ClaimError;
-use dir_trait::{DirError, PodId, Which};
+use crate::setback::Setback as StepSetback;
+use dir_trait::{DirError, PodId};
 use phase_read::LookError;
 
 /// What sets an attempt back.
@@ -17,7 +18,7 @@ pub(crate) enum Setback {
     Refused(ClaimError),
 }
 
-/// What it means that the directory refused to open a lock or to move the pod.
+/// What it means that the directory refused to move the pod.
 pub(crate) fn set_back(error: DirError) -> Setback
     ensures { result ≡ claim_setback_of error }
 {
@@ -29,13 +30,17 @@ pub(crate) fn set_back(error: DirError) -> Setback
     }
 }
 
-/// What it means that it refused a lock.
-pub(crate) fn lock_setback(pod: PodId, which: Which, error: DirError) -> Setback
-    ensures { result ≡ claim_lock_setback pod which error }
+/// What it means that a step at the pod was set back.
+pub(crate) fn step_setback(pod: PodId, stop: StepSetback) -> Setback
+    ensures { result ≡ claim_step_setback pod stop }
 {
-    match error {
-        DirError::Locked => Setback::Refused(ClaimError::Busy(pod, which)),
-        _ => set_back(error),
+    match stop {
+        StepSetback::Missing => Setback::Missing,
+        StepSetback::NoManifest => Setback::Refused(ClaimError::NoManifest),
+        StepSetback::Busy(which) => Setback::Refused(ClaimError::Busy(pod, which)),
+        StepSetback::DirFault => Setback::Refused(ClaimError::DirFault),
+        StepSetback::Stray => Setback::Refused(ClaimError::Stray),
+        StepSetback::NoMemory => Setback::Refused(ClaimError::NoMemory),
     }
 }
 

@@ -12,14 +12,20 @@ ghost use Rattle.pod_locks.specs.ClaimCauses.{ClaimWasStopped, ClaimStopsAlone, 
 ghost use Rattle.pod_locks.specs.Claims.{HasPod};
 
 use crate::claim_error::ClaimError;
-use crate::claim_setback::{Setback, lock_setback, look_refusal, set_back};
+use crate::claim_setback::{Setback, look_refusal, set_back, step_setback};
 use crate::place::pod_spot;
-use dir_trait::{Area, Dir, Handle, Mode, PodId, Which};
+use crate::steps::take;
+use dir_trait::{Area, Dir, Handle, PodId, Which};
 use phase_read::look;
 use std::alloc::Global;
 
-// Opens a lock of the pod in prepared and takes it.
-fn take<D: Dir>(alloc: Global, dir: &mut D, pod: PodId, which: Which) -> Result<Handle, Setback>
+// Takes a lock of the pod in prepared.
+fn take_prepared<D: Dir>(
+    alloc: Global,
+    dir: &mut D,
+    pod: PodId,
+    which: Which,
+) -> Result<Handle, Setback>
     requires active { IsActive (D.shown dir.old).local }
     ensures went { WentClaiming D.observed 3 pod (and_locked (D.shown dir.old).local pod which result) (D.shown dir.old) (D.shown dir.new) }
     ensures reads { ReadsAtMost 0 D.observed pod (D.shown dir.old) (D.shown dir.new) }
@@ -37,16 +43,9 @@ fn take<D: Dir>(alloc: Global, dir: &mut D, pod: PodId, which: Which) -> Result<
         (λ s. Knows (D.shown dir.new) (with_prepared_lock pod which handle s))) }
     ensures left { IfErr result (λ e. WhereObservedKnew D.observed (MayTakePrepared pod which) (D.shown dir.old) (λ s. Knows (D.shown dir.new) s)) }
 {
-    let prepared = pod_spot(pod, Area::Prepared);
-    match dir.open(alloc, prepared, which) {
-        Ok(handle) => match dir.try_lock(alloc, handle, Mode::Exclusive) {
-            Ok(()) => Ok(handle),
-            Err(error) => {
-                dir.close(handle);
-                Err(lock_setback(pod, which, error))
-            }
-        },
-        Err(error) => Err(set_back(error)),
+    match take(alloc, dir, pod, Area::Prepared, which) {
+        Ok(handle) => Ok(handle),
+        Err(stop) => Err(step_setback(pod, stop)),
     }
 }
 
@@ -67,7 +66,7 @@ fn run_under_claim<D: Dir>(alloc: Global, dir: &mut D, pod: PodId) -> Result<Han
         (λ s. Knows (D.shown dir.new) (with_pod pod own s))) }
     ensures left { IfErr result (λ e. WhereObservedKnew D.observed (HasClaim pod) (D.shown dir.old) (λ s. Knows (D.shown dir.new) s)) }
 {
-    let own = take(alloc, dir, pod, Which::Own)?;
+    let own = take_prepared(alloc, dir, pod, Which::Own)?;
     let from = pod_spot(pod, Area::Prepared);
     let to = pod_spot(pod, Area::Run);
     match dir.move_folder(alloc, from, to) {
@@ -114,7 +113,7 @@ pub(crate) fn take_and_run<D: Dir>(
         (λ s. Knows (D.shown dir.new) (with_pod pod own s))) }
     ensures left { IfErr result (λ e. WhereObservedKnew D.observed MayClaim (D.shown dir.old) (λ s. LookedInto s (D.shown dir.new))) }
 {
-    match take(alloc, dir, pod, Which::Claim) {
+    match take_prepared(alloc, dir, pod, Which::Claim) {
         Ok(claim) => {
             let result = run_under_claim(alloc, dir, pod);
             dir.close(claim);

@@ -15,6 +15,7 @@ ghost use Rattle.pod_locks.specs.Requests.{looks_at, peeks_at, moves_pod};
 ghost use Rattle.pod_locks.specs.Holding.{and_taken, with_pod_lock, MayLook, MayTakeLock, MayMove, LooksFree, KeepsReady};
 ghost use Rattle.pod_locks.specs.Causes.{StepWasStopped, NeverStray, CannotOpenAt, IsAbsentAt, LockBusyElsewhere, FreeIfObserved, Did};
 ghost use Rattle.pod_locks.specs.Taking.{TakesNothing};
+ghost use Rattle.pod_locks.specs.LockTaking.{TakesLock};
 
 use crate::place::pod_spot;
 use crate::setback::{Setback, lock_setback, set_back};
@@ -65,6 +66,7 @@ pub fn take<D: Dir>(
     ensures went { LeavesOpen D.observed (looks_at pod area) (and_taken (D.shown dir.old).local pod area which result) (D.shown dir.old) (D.shown dir.new) }
     ensures unopened { IfOk result (λ handle. IsUnopened (D.shown dir.old).local handle) }
     ensures stopped { IfErr result (λ e. StepWasStopped D.observed pod (CannotOpenAt pod area which) e (D.shown dir.old) (D.shown dir.new)) }
+    ensures calls { TakesLock D.observed (pod_spot pod area) which result (D.shown dir.old) (D.shown dir.new) }
     ensures never { IfErr result (λ e. e ≡ Setback.Stray → ⊥) }
     ensures named { IfErr result (λ e. (other : Which) → e ≡ Setback.Busy other → other ≡ which) }
     ensures by_other_process { IfErr result (λ e. D.observed ≡ true → Given (MayTakeLock pod area which) (D.shown dir.old)

@@ -1,7 +1,9 @@
-use Rattle.std.proofs.Common.{Err, sym, ap, subst, ◌∙◌}
+use Rattle.std.proofs.Common.{◌≡◌, true, inl, inr, Err, sym, ap, subst, ◌∙◌}
 use Rattle.dir_model.specs.declared.spot.Mode.TheVariants.{Exclusive}
 use Rattle.dir_model.specs.declared.request.Request.TheVariants.{Open}
+use Rattle.dir_model.specs.declared.spot.Spot.{Spot}
 use Rattle.dir_model.specs.Local.{Local, IsUnlocked}
+use Rattle.dir_model.specs.Replies.{may_refuse}
 use Rattle.dir_model.specs.Locks.{target_of}
 use Rattle.dir_model.proofs.Holdings.{unlocked_new}
 use Rattle.dir_trait.proofs.Calls.{with_spot}
@@ -72,3 +74,35 @@ returns-in-Err-try_lock-clause-never g c is = lock_never c.args.which c.in-Ok.ha
 
 pub returns-in-Err-clause-never : goal.returns-in-Err-clause-never
 returns-in-Err-clause-never g c is = open_never c.pod_spot.result c.args.which c.in-Err.error c.in-Err.ensures.refusals (sym c.set_back.ensures ∙ is)
+
+pub returns-in-Ok-try_lock-clause-calls : goal.returns-in-Ok-try_lock-clause-calls
+returns-in-Ok-try_lock-clause-calls g c = record {
+  between = g.D.Dir.shown c.«open».new.self;
+  unopened = c.in-Ok.ensures.unopened;
+  opened = with_spot (λ s. Open s c.args.which) c.pod_spot.ensures c.in-Ok.ensures.called;
+  locked = c.in-Ok-try_lock.ensures.called;
+}
+
+pub returns-in-Err-try_lock-clause-calls : goal.returns-in-Err-try_lock-clause-calls
+returns-in-Err-try_lock-clause-calls g c = inr (record {
+  handle = c.in-Ok.handle;
+  between = g.D.Dir.shown c.«open».new.self;
+  late = g.D.Dir.shown c.try_lock.new.self;
+  error = c.in-Err-try_lock.error;
+  unopened = c.in-Ok.ensures.unopened;
+  may = c.in-Err-try_lock.ensures.refusals;
+  cause = λ is. c.in-Err-try_lock.ensures.cause (ap Err is);
+  opened = with_spot (λ s. Open s c.args.which) c.pod_spot.ensures c.in-Ok.ensures.called;
+  locked = c.in-Err-try_lock.ensures.called;
+  closed = c.close.ensures.called;
+  stop_is = c.lock_setback.ensures;
+})
+
+pub returns-in-Err-clause-calls : goal.returns-in-Err-clause-calls
+returns-in-Err-clause-calls g c = inl (record {
+  error = c.in-Err.error;
+  may = subst (λ (s : Spot). may_refuse (Open s c.args.which) c.in-Err.error ≡ true) c.pod_spot.ensures c.in-Err.ensures.refusals;
+  cause = λ is. c.in-Err.ensures.cause (ap Err is);
+  opened = with_spot (λ s. Open s c.args.which) c.pod_spot.ensures c.in-Err.ensures.called;
+  stop_is = c.set_back.ensures;
+})
