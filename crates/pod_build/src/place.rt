@@ -1,18 +1,8 @@
-// Where a pod stands.
+// From where a pod is moved.
 ghost use Rattle.std.specs.Prelude.{◌≡◌};
-ghost use Rattle.pod_build.specs.MakingRequests.{area_before, pod_at};
+ghost use Rattle.pod_build.specs.MakingRequests.{area_before};
 
-use dir_trait::{Area, PodId, Spot};
-
-/// Where the pod with this draw stands in an area.
-pub(crate) fn pod_at(area: Area, draw: PodId) -> Spot
-    ensures { result ≡ pod_at area draw }
-{
-    Spot {
-        area,
-        name: draw.name(),
-    }
-}
+use dir_trait::Area;
 
 /// From which area the maker moves the pod to this one. It leaves embryo once.
 pub(crate) fn area_before(to: Area) -> Area

@@ -8,13 +8,12 @@ mod claim_setback;
 mod claiming;
 mod locks;
 mod owned;
-mod place;
 mod setback;
 mod steps;
 
 pub use claim_error::ClaimError;
 pub use claiming::claim;
 pub use owned::Owned;
-pub use place::pod_spot;
+pub use phase_read::pod_spot;
 pub use setback::{Setback, delete_setback, look_setback, set_back};
 pub use steps::{probe, put_aside, take};

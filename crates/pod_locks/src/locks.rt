@@ -13,10 +13,9 @@ ghost use Rattle.pod_locks.specs.Claims.{HasPod};
 
 use crate::claim_error::ClaimError;
 use crate::claim_setback::{Setback, look_refusal, set_back, step_setback};
-use crate::place::pod_spot;
 use crate::steps::take;
 use dir_trait::{Area, Dir, Handle, PodId, Which};
-use phase_read::look;
+use phase_read::{look, pod_spot};
 use std::alloc::Global;
 
 // Takes a lock of the pod in prepared.

@@ -17,9 +17,9 @@ ghost use Rattle.pod_locks.specs.Causes.{StepWasStopped, NeverStray, CannotOpenA
 ghost use Rattle.pod_locks.specs.Taking.{TakesNothing};
 ghost use Rattle.pod_locks.specs.LockTaking.{TakesLock};
 
-use crate::place::pod_spot;
 use crate::setback::{Setback, lock_setback, set_back};
 use dir_trait::{Area, Dir, Handle, Mode, PodId, Which};
+use phase_read::pod_spot;
 use std::alloc::Global;
 
 /// Opens the pod's own lock at a place, takes it shared, and gives it up: so nobody held it exclusively,

@@ -9,10 +9,10 @@ ghost use Rattle.pod_report.specs.Outside.{IsReportFailure};
 ghost use Rattle.pod_report.specs.Requests.{OnlyAsksFor, inspects};
 
 use crate::error::{ReportError, read_fault};
-use crate::place::pod_spot;
 use dir_files::items_of;
 use dir_trait::{Area, Dir, DirError, Item, PodId};
 use marks::{created_moment, later};
+use phase_read::pod_spot;
 use std::alloc::Global;
 
 fn greatest(items: &[Item]) -> Option<u64>

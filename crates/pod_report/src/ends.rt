@@ -12,11 +12,11 @@ ghost use Rattle.pod_report.specs.Requests.{OnlyAsksFor, inspects};
 
 use crate::digits::status_in;
 use crate::error::{ReportError, read_fault};
-use crate::place::pod_spot;
 use crate::whole::read_whole;
 use ac_types::Sequence;
 use dir_files::items_of;
 use dir_trait::{Area, Dir, DirError, FileName, Item, PodId};
+use phase_read::pod_spot;
 use std::alloc::{AllocError, Global};
 
 // One byte more than the longest text of a status has, so that a longer one is told from it.

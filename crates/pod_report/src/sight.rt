@@ -11,12 +11,11 @@ ghost use Rattle.pod_report.specs.Requests.{OnlyAsksFor, visits};
 ghost use Rattle.pod_report.specs.Sights.{IsKnownSight, IsSightOf, SeesNoFile, Sees};
 
 use crate::error::{ReportError, look_fault};
-use crate::place::pod_spot;
 use crate::whole::read_whole;
 use ac_types::ReadError;
 use dir_trait::{Area, Dir, PodId};
 use manifests::{MOST_OF_MANIFEST, PodManifest, read_pod};
-use phase_read::look;
+use phase_read::{look, pod_spot};
 use std::alloc::Global;
 
 /// What is seen of a pod's manifest at one place.
