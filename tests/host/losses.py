@@ -11,8 +11,10 @@ import random
 import re
 import shutil
 import signal
+import socket
 import subprocess
 import sys
+import threading
 import time
 
 import wholeness
@@ -24,6 +26,15 @@ FAILS = {"brk": "retval=0"}
 # How many calls of one kind are tried of a command that makes more.
 MOST = 16
 STATUSES = set(range(21)) - {3, 13}
+# How a pod and an app with a volume are asked for.
+VOLUME = ["--volume=data,kind=empty", "--mount=volume=data,target=/data"]
+# Over these everything that is old goes at once.
+NO_TIME = ["--grace-period=0", "--expire-prepared=0"]
+# How many connections a metadata service takes before it ends.
+CONNECTIONS = 3
+NO_TOKEN = "0" * 32
+# Stands for an address at which nobody listens yet.
+ADDRESS = "ADDRESS"
 APP = """#!/bin/sh
 echo here >sentinel
 sleep 0.02
@@ -90,6 +101,10 @@ class World:
     def said(self):
         return (wholeness.read(self.data + ".out").decode(), wholeness.read(self.data + ".err").decode())
 
+    def tokens(self, pods):
+        """The token of each of these pods in run, with the pod."""
+        return {wholeness.read(f"{self.area('run')}/{pod}/token").decode().strip(): pod for pod in pods}
+
     def call(self, *words):
         done = subprocess.run([self.program, *words], env=self.env, stdin=subprocess.DEVNULL, capture_output=True, timeout=60)
         return done.returncode, done.stdout.decode(), done.stderr.decode()
@@ -129,6 +144,52 @@ class World:
         names = os.listdir(f"{self.area(area)}/{pod}")
         cut = area == "exited-garbage" and not any(name.startswith("marked-") for name in names)
         return cut or any(name.endswith(f"-{OLD:020}") for name in names)
+
+
+class Clients(threading.Thread):
+    """Asks a metadata service for the uuids of pods by their tokens, one after the other, until the service has ended."""
+
+    def __init__(self, address, pods):
+        super().__init__(daemon=True)
+        self.place = (address.split(":")[0], int(address.split(":")[1]))
+        # The token by which is asked, and the pod that has it, if one has.
+        self.asked = [*pods.items(), (NO_TOKEN, None)]
+        self.replies = []
+        self.ended = threading.Event()
+
+    def ask(self, token):
+        with socket.create_connection(self.place, timeout=5) as link:
+            link.sendall(f"GET /{token}/acMetadata/v1/pod/uuid HTTP/1.1\r\nHost: here\r\nMetadata-Flavor: AppContainer\r\n\r\n".encode())
+            told = b""
+            while piece := link.recv(4096):
+                told += piece
+        return told.decode(errors="replace")
+
+    def run(self):
+        number = 0
+        while not self.ended.is_set():
+            token, pod = self.asked[number % len(self.asked)]
+            try:
+                self.replies.append((pod, self.ask(token)))
+                number += 1
+            except OSError:
+                time.sleep(0.005)
+
+    def faults(self, pods):
+        """Replies that tell of another pod, or of one where none has the token, or something else than what was asked."""
+        found = []
+        for pod, reply in self.replies:
+            told = {known for known in pods if known in reply}
+            body = reply.partition("\r\n\r\n")[2]
+            if told - {pod} or (reply.startswith("HTTP/1.1 200 ") and not (pod and pod.startswith(body))):
+                found.append((pod, reply))
+        return found
+
+
+def free_address():
+    with socket.socket() as link:
+        link.bind(("127.0.0.1", 0))
+        return f"127.0.0.1:{link.getsockname()[1]}"
 
 
 class Bundles:
@@ -181,20 +242,29 @@ def may_follow(command, target, pod, phase, old):
 class Trial:
     """One command on a world: what stood before, and the checks of what stands afterwards."""
 
-    def __init__(self, tally, world, bundles, words, name):
-        self.tally, self.world, self.bundles, self.words, self.name = tally, world, bundles, words, name
+    def __init__(self, tally, world, bundles, words, name, living=()):
+        self.tally, self.world, self.bundles, self.name = tally, world, bundles, name
+        self.words = [free_address() if word == ADDRESS else word for word in words]
         self.command = " ".join(words[:2]) if words[0] == "image" else words[0]
         self.target = words[-1]
         self.writes_fail = False
         self.images = world.images()
         self.phases = world.phases()
-        self.old = {pod for pod, area in world.pods().items() if world.old(pod, area)}
+        self.old = {pod for pod, area in world.pods().items() if NO_TIME[0] in words or world.old(pod, area)}
+        self.clients = Clients(self.words[1], world.tokens(living)) if self.command == "metadata-service" else None
+
+    def start(self, front=()):
+        process = self.world.start(self.words, front)
+        if self.clients:
+            self.clients.start()
+        return process
 
     def check(self, holds, what, told=""):
         self.tally.check(holds, f"{self.name}: {what}", told)
 
     def judge(self, status):
         """The status is None where the command was killed. Answers in a word what came of it."""
+        self.status = status
         out, err = self.world.said()
         whole = out if out.endswith("\n") or not out else out[:out.rfind("\n") + 1]
         phases = self.world.phases()
@@ -202,14 +272,23 @@ class Trial:
         new = [(pod, phase) for pod, phase in phases.items() if pod not in self.phases]
         self.judge_new(new)
         self.judge_images()
+        self.judge_replies()
         done = status in (0, 16) or bool(status is None and whole)
         if done:
             self.judge_done(whole, phases, new)
         if status is not None:
-            self.check(status in STATUSES, "a status that is told", f"{status} {err}")
+            own = {13} if self.command == "metadata-service" else set()
+            self.check(status in STATUSES | own, "a status that is told", f"{status} {err}")
             told = (err != "") == (status not in (0, 16))
             self.check(told or self.writes_fail, "a message with a refusal", f"{status} '{err}'")
         return self.outcome(phases, new)
+
+    def judge_replies(self):
+        if self.clients:
+            self.clients.ended.set()
+            self.clients.join(timeout=20)
+            faults = self.clients.faults(set(self.phases))
+            self.check(not self.clients.is_alive() and not faults, "no reply tells of another pod", faults)
 
     def judge_pods(self, phases):
         for pod, before in self.phases.items():
@@ -250,6 +329,11 @@ class Trial:
             self.check(phases[self.target] == "exited", "what was run has exited", phases[self.target])
         if self.command == "rm":
             self.check(self.target not in phases, "what was removed is gone", phases.get(self.target))
+        if self.command == "list":
+            self.judge_list(out, phases)
+        if self.command == "cat-manifest":
+            held = wholeness.read(f"{self.world.area(self.world.pods()[self.target])}/{self.target}/pod")
+            self.check(json.loads(out) == json.loads(held), "what was printed is the pod's manifest", out)
         if self.command == "image import":
             self.check(out.strip() in self.world.images(), "what was imported is listed", out)
         if self.command == "image rm":
@@ -258,6 +342,13 @@ class Trial:
             for line in out.splitlines():
                 pod, deed = line.split(" ", maxsplit=1)
                 self.check(deed != "deleted" or pod not in phases, "what was deleted is gone", line)
+
+    def judge_list(self, out, phases):
+        """Each line is of a pod with its phase. A list that was printed whole has a line of each pod."""
+        lines = dict(line.split("\t")[:2] for line in out.splitlines())
+        wrong = {pod: phase for pod, phase in lines.items() if phase != phases.get(pod)}
+        self.check(not wrong, "each line is of a pod with its phase", wrong)
+        self.check(self.status != 0 or lines.keys() == phases.keys(), "a list that was printed whole has each pod", lines)
 
     def outcome(self, phases, new):
         if self.command in NEW:
@@ -351,13 +442,19 @@ class Life:
         if command == "gc":
             self.pod_in(AREAS)
             self.world.age({pod for pod in sorted(self.world.pods()) if self.random.random() < 0.5})
-        return [*command.split(), *(["example.com/app"] if command in NEW else [])]
+            return ["gc", *(NO_TIME if self.random.random() < 0.3 else [])]
+        if command == "cat-manifest":
+            return ["cat-manifest", self.pod_in(["prepared", "run"])]
+        if command == "metadata-service":
+            return ["metadata-service", ADDRESS, str(CONNECTIONS)]
+        options = VOLUME if command in NEW and self.random.random() < 0.5 else []
+        return [*command.split(), *options, *(["example.com/app"] if command in NEW else [])]
 
     def kill(self, command, name):
         """Whether the command was killed before its end."""
-        trial = Trial(self.tally, self.world, self.bundles, self.words(command), name)
+        trial = Trial(self.tally, self.world, self.bundles, self.words(command), name, self.living)
         begun = time.monotonic()
-        process = self.world.start(trial.words)
+        process = trial.start()
         longest = self.durations.get(command)
         if longest is not None:
             time.sleep(self.random.uniform(0, longest))
@@ -383,7 +480,7 @@ class Life:
         self.tally.check(lost == "", "no app of a living pod lost a file", lost)
 
 
-COMMANDS = ["image import", "image rm", "image gc", "prepare", "run", "run-prepared", "rm", "gc"]
+COMMANDS = ["image import", "image rm", "image gc", "prepare", "run", "run-prepared", "rm", "gc", "list", "cat-manifest", "metadata-service"]
 
 
 def random_kills(tally, program, work, seed, count):
@@ -441,8 +538,11 @@ class Stage:
     def commands(self):
         keys = sorted(self.bundles.paths)
         return [["image", "import", self.bundles.paths[keys[3]]], ["image", "rm", keys[2]], ["image", "gc"],
-                ["prepare", "example.com/app"], ["run", "example.com/app"], ["run-prepared", self.prepared],
-                ["rm", self.prepared], ["rm", self.exited], ["rm", self.aborted], ["gc"]]
+                ["prepare", "example.com/app"], ["prepare", *VOLUME, "example.com/app"], ["run", "example.com/app"],
+                ["run", *VOLUME, "example.com/app"], ["run-prepared", self.prepared],
+                ["run-prepared", "--metadata=127.0.0.1:1", self.prepared], ["rm", self.prepared], ["rm", self.exited],
+                ["rm", self.aborted], ["gc"], ["gc", *NO_TIME], ["list"], ["cat-manifest", self.prepared],
+                ["metadata-service", ADDRESS, str(CONNECTIONS)]]
 
     def trial(self, words, name, front):
         """The command on a copy, beside a pod that this process runs. Answers what came of it."""
@@ -453,9 +553,9 @@ class Stage:
         handle = os.open(live, os.O_RDONLY)
         fcntl.flock(handle, fcntl.LOCK_EX)
         try:
-            trial = Trial(self.tally, copy, self.bundles, words, name)
+            trial = Trial(self.tally, copy, self.bundles, words, name, [self.live])
             trial.writes_fail = "inject=write:error" in " ".join(front)
-            status = copy.start(words, front).wait(timeout=60)
+            status = trial.start(front).wait(timeout=60)
             if status != 0 and trial.command in ("run", "run-prepared"):
                 time.sleep(OUTLIVES)
             came = trial.judge(None if status in (-signal.SIGKILL, 128 + signal.SIGKILL) else status)
