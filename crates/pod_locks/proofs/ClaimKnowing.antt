@@ -1,5 +1,5 @@
 -- What a process knows after each part of a claim.
-use Rattle.std.proofs.Common.{◌≡◌, ℕ, Bool, true, None, refl, sym, ap, subst}
+use Rattle.std.proofs.Common.{◌≡◌, ℕ, Bool, true, None, refl, sym, ap, subst, ◌∙◌}
 use Rattle.dir_model.specs.declared.pod.PodId.{PodId}
 use Rattle.dir_model.specs.declared.spot.Handle.{Handle}
 use Rattle.dir_model.specs.declared.spot.Mode.TheVariants.{Exclusive}
