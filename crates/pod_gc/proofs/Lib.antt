@@ -1,3 +1,4 @@
+pub mod Dead
 pub mod CallKinds
 pub mod Stages
 pub mod Closing

@@ -3,7 +3,8 @@ use Rattle.std.proofs.Common.{◌≡◌, ◌⊎◌, inl, inr, ◌==◌, ◌&&◌
 use Rattle.std.specs.List.{list_any}
 use Rattle.std.proofs.lemmas.Bool.{eqb-true}
 use Rattle.plain_laws.proofs.Texts.{same_bytes}
-use Rattle.dir_model.specs.declared.area.Area.TheVariants.{Run, ExitedGarbage}
+use Rattle.dir_model.specs.declared.area.Area.{Area}
+use Rattle.dir_model.specs.declared.area.Area.TheVariants.{Prepare, Run, ExitedGarbage, Garbage}
 use Rattle.dir_model.specs.declared.event.Event.{Event}
 use Rattle.dir_model.specs.declared.intent.Intent.{Intent}
 use Rattle.dir_model.specs.declared.item.Inner.{Inner}
@@ -57,10 +58,11 @@ use Rattle.pod_locks.specs.Requests.{moves_pod}
 use Rattle.pod_locks.specs.Causes.{StepWasStopped, IsAbsentAt}
 use Rattle.pod_locks.proofs.Calls.{Follows}
 use Rattle.pod_gc.specs.RemovalCauses.{IsMarkedIn, IsMarkedBetween, MarkedFirst}
-use Rattle.pod_gc.specs.RemovalRequests.{marks_at}
+use Rattle.pod_gc.specs.RemovalRequests.{may_lie_dead, marks_at}
+use Rattle.pod_gc.specs.Requests.{goes_to}
 use Rattle.pod_gc.specs.RemovalHolding.{MayRemove, MayMark, Marked}
 use Rattle.pod_gc.proofs.MarkNames.{marked_directly, marked_plain}
-use Rattle.pod_gc.proofs.Stages.{looks_exited, spares as spares_it}
+use Rattle.pod_gc.proofs.Stages.{looks_dead, ready_aborted, spares as spares_it}
 
 abbrev pub mark_of : PodId → ℕ → Inner
 mark_of pod now = record { spot = pod_spot pod Run; path = marked_mark now }
@@ -273,14 +275,22 @@ moves_exited {now} {s} pod may m =
     (ap (λ (z : Standing). is_open_on (target.Own (pod_spot pod Run)) z.holdings) m.standing ∙ off Own (pod_spot pod Run) s.standing.holdings may.apart)
     m.keeps.bare
 
-pub ready_exited : {now : ℕ} {a b c d : DirAt} (pod : PodId) → Given (MayLook pod Run) a (λ s. LooksFree pod Run s b) → Given (MayMark pod now) b (λ s. Marked pod s c) → Given (MayMove pod Run ExitedGarbage) c (λ s. KeepsReady s d)
+ready_exited : {now : ℕ} {a b c d : DirAt} (pod : PodId) → Given (MayLook pod Run) a (λ s. LooksFree pod Run s b) → Given (MayMark pod now) b (λ s. Marked pod s c) → Given (MayMove pod Run ExitedGarbage) c (λ s. KeepsReady s d)
     → Given (MayRemove now) a (λ s. KeepsReady s d)
 ready_exited pod free marked moves_pod s k may =
-    let m = marked (with_look pod Run s) (free s k (looks_exited pod may)) (marks_exited pod may) in
+    let m = marked (with_look pod Run s) (free s k (looks_dead pod Run refl may)) (marks_exited pod may) in
     let x = moves_pod m.known m.knows (moves_exited pod may m) in
     record { known = x.known; keeps = record { intent = x.keeps.intent ∙ m.keeps.intent; holdings = x.keeps.holdings ∙ m.keeps.holdings; kept = x.keeps.kept ∙ m.keeps.kept; bare = x.keeps.bare }; knows = x.knows }
 
-pub ready_unmarked : {now : ℕ} {a b c : DirAt} (pod : PodId) → Given (MayLook pod Run) a (λ s. LooksFree pod Run s b) → Given (MayMark pod now) b (λ s. KeepsReady s c) → Given (MayRemove now) a (λ s. KeepsReady s c)
-ready_unmarked pod free left s k may =
-    let x = left (with_look pod Run s) (free s k (looks_exited pod may)) (marks_exited pod may) in
+pub ready_unmarked : {now : ℕ} {a b c : DirAt} (pod : PodId) (place : Area) → place ≡ Run → Given (MayLook pod place) a (λ s. LooksFree pod place s b) → Given (MayMark pod now) b (λ s. KeepsReady s c) → Given (MayRemove now) a (λ s. KeepsReady s c)
+ready_unmarked pod Run is free left s k may =
+    let x = left (with_look pod Run s) (free s k (looks_dead pod Run refl may)) (marks_exited pod may) in
     record { known = x.known; keeps = record { intent = x.keeps.intent; holdings = x.keeps.holdings; kept = x.keeps.kept; bare = x.keeps.bare }; knows = x.knows }
+ready_unmarked pod _ is free left s k may = cc
+
+-- a dead pod, which was marked in run alone
+pub ready_dead : {now : ℕ} {a b c d : DirAt} (pod : PodId) (place : Area) → may_lie_dead place ≡ true → Given (MayLook pod place) a (λ s. LooksFree pod place s b) → (place ≡ Run → Given (MayMark pod now) b (λ s. Marked pod s c)) → ((place ≡ Run → ⊥) → c ≡ b)
+    → Given (MayMove pod place (goes_to place)) c (λ s. KeepsReady s d) → Given (MayRemove now) a (λ s. KeepsReady s d)
+ready_dead {now} {a} {b} {c} {d} pod Prepare dead free marked still moves = ready_aborted pod free (subst (λ (x : DirAt). Given (MayMove pod Prepare Garbage) x (λ s. KeepsReady s d)) (still (λ is. cc)) moves)
+ready_dead pod Run dead free marked still moves = ready_exited pod free (marked refl) moves
+ready_dead pod _ dead free marked still moves = cc

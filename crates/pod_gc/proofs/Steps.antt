@@ -42,8 +42,9 @@ use Rattle.pod_locks.specs.Requests.{looks_at, moves_pod, peeks_at}
 use Rattle.pod_locks.specs.Holding.{MayLook, LooksFree, with_look, KeepsReady}
 use Rattle.pod_locks.specs.Causes.{StepWasStopped, IsAbsentAt, Did, WasStrayStep, LockBusyElsewhere, PodHeldByAnother, FreeOfOthers, FreeIfObserved}
 use Rattle.pod_locks.proofs.Calls.{Follows, stray_part}
-use Rattle.pod_gc.specs.RemovalRequests.{is_garbage_place, removes}
+use Rattle.pod_gc.specs.RemovalRequests.{is_garbage_place, may_lie_dead, removes}
 use Rattle.pod_gc.specs.RemovalHolding.{MayRemove}
+use Rattle.pod_gc.proofs.Dead.{at_dead, dead_rank}
 use Rattle.pod_gc.proofs.CallKinds.{looks_remove}
 use Rattle.pod_gc.proofs.Stages.{same_ready}
 use Rattle.pod_gc.proofs.Rounds.{may_kept, looked_keeps}
@@ -60,7 +61,7 @@ use Rattle.phase_read.proofs.Stages.{pod_spot_only}
 use Rattle.pod_gc.specs.declared.gc_error.GcError.{GcError}
 use Rattle.pod_gc.specs.declared.line.Deed.{Deed}
 use Rattle.pod_gc.specs.declared.line.Deed.TheVariants.{Moved, Deleted, Kept, Busy, Left}
-use Rattle.pod_gc.specs.Requests.{deals_with_pod, lists_marks, goes_to, moves_pods, lets_be}
+use Rattle.pod_gc.specs.Requests.{deals_with_pod, lists_marks, goes_to, moves_pods, owned_phase, lets_be}
 use Rattle.pod_gc.specs.Causes.{deed_of, look_fault, GcCause}
 use Rattle.pod_gc.specs.declared.ages.Times.{Times}
 use Rattle.pod_gc.specs.Ages.{Showed, is_young}
@@ -88,6 +89,12 @@ pub gone_garbage : (pod : PodId) (a : Area) → is_garbage_place a ≡ true → 
 gone_garbage pod area.ExitedGarbage place s h = h
 gone_garbage pod area.Garbage place s h = h
 gone_garbage pod _ place s h = cc
+
+pub dead_gone : (pod : PodId) (a : Area) → may_lie_dead a ≡ true → (s : DirState) → IsAbsentAt pod a s → IsGoneFrom pod a s
+dead_gone pod = at_dead (λ a. (s : DirState) → IsAbsentAt pod a s → IsGoneFrom pod a s) (λ s h. h) (λ s h. h)
+
+pub dead_moves : (a : Area) → may_lie_dead a ≡ true → moves_pods a ≡ true
+dead_moves = at_dead (λ a. moves_pods a ≡ true) refl refl
 
 pub garbage_unprepared : (a : Area) → is_garbage_place a ≡ true → a ≡ area.Prepared → ⊥
 garbage_unprepared area.ExitedGarbage place is = cc
@@ -210,6 +217,21 @@ module _ (observed : Bool) (pod : PodId) (place : Area) (p : Phase) (owned : Boo
       by d (inl kept) y t = subst (λ (z : Deed). DeedCause pod place z old.process old.trace new.trace) (sym kept) (cause_kept pod place p fits (λ conforming. kept_phase pod place p owned stage is (told t) ab.same (y.there kept t) conforming)
           (λ rest. subst (λ (b : Bool). LockTold old.process old.trace new.trace (pod_spot pod place) b) (rests rest) (told_within grown_none refl (bc.grown t) (told t))))
       by d (inr left) y t = subst (λ (z : Deed). DeedCause pod place z old.process old.trace new.trace) (sym left) (cause_left (at_part (ab.grown t) ab.same grown_none (at_weaker (IsGoneFrom pod place) only (y.gone left t))))
+
+-- where it may lie dead, its owner was preparing or running it
+module _ (observed : Bool) (pod : PodId) (place : Area) (p : Phase) (dead : may_lie_dead place ≡ true) (its : p ≡ owned_phase place) where
+  owned_in : phase_in place true ≡ Some p
+  owned_in = at_dead (λ a. phase_in a true ≡ Some (owned_phase a)) refl refl place dead ∙ ap Some (sym its)
+
+  owned_stays : lets_be place p ≡ true
+  owned_stays = ap (lets_be place) its ∙ at_dead (λ a. lets_be a (owned_phase a) ≡ true) refl refl place dead
+
+  owned_works : is_resting p ≡ true → true ≡ false
+  owned_works rest = sym rest ∙ (ap is_resting its ∙ at_dead (λ a. is_resting (owned_phase a) ≡ false) refl refl place dead)
+
+  pub said_dead : (old mid new : DirAt) → Follows observed old mid → Follows observed mid new → (observed ≡ true → LockToldBetween old mid (pod_spot pod place) true) → (r : Result Deed GcError) → IfOk r (λ deed. SaysThere observed pod place p deed mid new)
+      → IfOk r (λ deed. observed ≡ true → DeedCause pod place deed old.process old.trace new.trace)
+  said_dead old mid new ab bc told = said_deed observed pod place p true (dead_rank place dead) owned_in owned_stays owned_works (dead_gone pod place dead) old mid new ab bc told
 
 never_busy : (d : Deed) (p : Phase) → (d ≡ Kept p) ⊎ (d ≡ Left) → (which : Which) → d ≡ Busy which → ⊥
 never_busy d p (inl kept) which is = let e : Kept p ≡ Busy which = sym kept ∙ is in cc

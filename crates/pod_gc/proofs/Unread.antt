@@ -27,8 +27,9 @@ use Rattle.pod_locks.specs.declared.setback.Setback.{Setback}
 use Rattle.pod_locks.specs.declared.setback.Setback.TheVariants as stop
 use Rattle.pod_locks.specs.Requests.{looks_at, moves_pod}
 use Rattle.pod_locks.specs.Taking.{takes_away, TookNothing}
-use Rattle.pod_gc.specs.RemovalRequests.{is_garbage_place, marks_at, deletes_in, puts_aside, aside, area_of_phase}
+use Rattle.pod_gc.specs.RemovalRequests.{is_garbage_place, may_lie_dead, marks_at, deletes_in, puts_aside, aside, area_of_phase}
 use Rattle.pod_gc.specs.Removals.{removal_round_of}
+use Rattle.pod_gc.proofs.Dead.{dead_later}
 use Rattle.pod_gc.specs.Found.{is_moved, PutAway, WasMissed, FoundAnd}
 
 -- reads
@@ -54,6 +55,9 @@ deletes_unread pod a n is r asked = refl
 
 pub unread_looks : {observed : Bool} {a b : DirAt} (pod : PodId) (area : Area) (n : ℕ) → rank area ≡ suc n → OnlyAsks observed (looks_at pod area) a b → ReadsAtMost 0 observed pod a b
 unread_looks pod area n is w = unread_by (looks_unread pod area n is) (λ t. w.extends t)
+
+pub unread_dead : {observed : Bool} {a b : DirAt} (pod : PodId) (area : Area) → may_lie_dead area ≡ true → OnlyAsks observed (looks_at pod area) a b → ReadsAtMost 0 observed pod a b
+unread_dead pod area dead w = let later = dead_later area dead in unread_looks pod area later.0 later.1 w
 
 pub unread_took : {observed : Bool} {l : Local} {a b : DirAt} (pod : PodId) (area : Area) (n : ℕ) → rank area ≡ suc n → LeavesOpen observed (looks_at pod area) l a b → ReadsAtMost 0 observed pod a b
 unread_took pod area n is w = unread_by (looks_unread pod area n is) (λ t. w.extends t)

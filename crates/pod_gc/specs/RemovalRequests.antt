@@ -41,6 +41,12 @@ is_garbage_place ExitedGarbage = true
 is_garbage_place Garbage = true
 is_garbage_place _ = false
 
+-- the places where a pod lies dead once nobody holds its own lock: an aborted prepare, or an exited pod
+abbrev pub may_lie_dead : Area → Bool
+may_lie_dead Prepare = true
+may_lie_dead Run = true
+may_lie_dead _ = false
+
 -- it is marked in run with the moment
 abbrev pub marks_at : PodId → ℕ → Request → Bool
 marks_at pod now (MakeFileIn inner) = spot_eq (pod_spot pod Run) inner.spot && bytes_eq inner.path (marked_mark now)

@@ -51,7 +51,7 @@ may_be_busy ExitedGarbage = true
 may_be_busy Garbage = true
 may_be_busy _ = false
 
--- whence to where a pass moves a pod
+-- the garbage place where a pod goes from an area
 abbrev pub goes_to : Area → Area
 goes_to Run = ExitedGarbage
 goes_to _ = Garbage
@@ -62,6 +62,11 @@ moves_pods Prepare = true
 moves_pods Prepared = true
 moves_pods Run = true
 moves_pods _ = false
+
+-- the phase of a pod whose own lock is held, where it may lie dead
+abbrev pub owned_phase : Area → Phase
+owned_phase Run = phase.Running
+owned_phase _ = phase.Preparing
 
 -- the phases for which a pass lets a pod be
 abbrev pub lets_be : Area → Phase → Bool

@@ -13,7 +13,7 @@ ghost use Rattle.pod_gc.specs.RemovalCauses.{StoppedFound, BusyAny, HasDeletedPo
 ghost use Rattle.pod_gc.specs.Removals.{removal_round_of, WentRound, RoundCause, RoundByApp, RemovalRefusedByAnother};
 ghost use Rattle.pod_gc.specs.Found.{RoundWent, RoundRefused, PutAwayIfObserved, TakenAwayIfObserved, MissedAtItsArea, MissedThereOrAside, RefusedAtItsArea, RefusedThereOrAside};
 
-use crate::aside::{discard_aborted, retire_exited};
+use crate::aside::put_dead_aside;
 use crate::deletion::delete_at;
 use crate::prepared::discard_prepared;
 use crate::remove_error::{RemoveError, refusal};
@@ -81,9 +81,9 @@ fn put_away<D: Dir>(
     ensures ready { D.observed ≡ true → Given (MayRemovePod pod now) (D.shown dir.old) (λ s. KeepsReady s (D.shown dir.new)) }
 {
     match phase {
-        Phase::AbortedPrepare => discard_aborted(alloc, dir, pod, now),
+        Phase::AbortedPrepare => put_dead_aside(alloc, dir, pod, Area::Prepare, now),
         Phase::Prepared => discard_prepared(alloc, dir, pod, now),
-        Phase::Exited => retire_exited(alloc, dir, pod, now),
+        Phase::Exited => put_dead_aside(alloc, dir, pod, Area::Run, now),
         _ => Ok(()),
     }
 }

@@ -9,18 +9,19 @@ ghost use Rattle.dir_model.specs.Areas.{is_stage};
 ghost use Rattle.dir_trait.specs.Local.{IsActive};
 ghost use Rattle.dir_trait.specs.Effects.{OnlyAsks, Given};
 ghost use Rattle.pod_locks.specs.Holding.{KeepsReady};
-ghost use Rattle.pod_gc.specs.RemovalRequests.{is_garbage_place, removes};
+ghost use Rattle.pod_gc.specs.RemovalRequests.{is_garbage_place, may_lie_dead, removes};
 ghost use Rattle.pod_gc.specs.RemovalHolding.{MayRemove};
-ghost use Rattle.pod_gc.specs.Requests.{deals_with_pod};
+ghost use Rattle.pod_gc.specs.Requests.{deals_with_pod, owned_phase};
 ghost use Rattle.pod_gc.specs.Causes.{GcCause, GcNeverStray, GcStrayByApp};
 ghost use Rattle.pod_gc.specs.Ages.{is_young, is_ripe};
 ghost use Rattle.pod_gc.specs.Deeds.{DeedCause, refused_lock, LeavesIfObserved, MarksFirst, LetBe, WaitsOr, RestsBy, WaitsBy, RestedByAge, WaitedByAge, Dealt};
 
 use crate::ages::{Times, is_ripe, is_young, marked_at};
+use crate::aside::goes_to;
 use crate::gc_error::GcError;
 use crate::kept::{kept, kept_exited};
 use crate::line::{Deed, deed_of};
-use crate::{delete_at, discard_aborted, discard_prepared, retire_exited};
+use crate::{delete_at, discard_prepared, put_dead_aside};
 use dir_trait::{Area, Dir, Phase, PodId};
 use pod_locks::{Setback, put_aside};
 use std::alloc::Global;
@@ -40,21 +41,41 @@ fn deal_embryo<D: Dir>(alloc: Global, dir: &mut D, pod: PodId) -> Result<Deed, G
     deed_of(answer, Deed::Moved(Area::Garbage))
 }
 
-// An aborted prepare goes to garbage. Whose own lock is held is still being prepared.
-fn deal_prepare<D: Dir>(alloc: Global, dir: &mut D, pod: PodId, now: u64) -> Result<Deed, GcError>
+// The phase of a pod whose own lock is held, where it may lie dead once nobody holds that.
+fn owned_phase(area: Area) -> Phase
+    ensures { result ≡ owned_phase area }
+{
+    match area {
+        Area::Run => Phase::Running,
+        _ => Phase::Preparing,
+    }
+}
+
+// An aborted prepare goes to garbage, and an exited pod is marked and goes to exited-garbage. Whose own
+// lock is held is still being prepared, or still runs.
+fn deal_dead<D: Dir>(
+    alloc: Global,
+    dir: &mut D,
+    pod: PodId,
+    area: Area,
+    now: u64,
+) -> Result<Deed, GcError>
     requires active { IsActive (D.shown dir.old).local }
-    ensures worked { OnlyAsks D.observed (deals_with_pod pod now area.Prepare) (D.shown dir.old) (D.shown dir.new) }
+    requires dead { may_lie_dead area ≡ true }
+    ensures worked { OnlyAsks D.observed (deals_with_pod pod now area) (D.shown dir.old) (D.shown dir.new) }
     ensures cause { IfErr result (λ e. GcCause D.observed e (D.shown dir.old) (D.shown dir.new)) }
     ensures lawful { IfErr result (λ e. GcNeverStray D.observed e (D.shown dir.new)) }
-    ensures deed { IfOk result (λ deed. D.observed ≡ true → DeedCause pod area.Prepare deed (D.shown dir.old).process (D.shown dir.old).trace (D.shown dir.new).trace) }
-    ensures by_other_process { IfOk result (λ deed. LeavesIfObserved D.observed (MayRemove now) pod area.Prepare deed (D.shown dir.old) (D.shown dir.new)) }
-    ensures left_untouched { IfOk result (λ deed. LetBe D.observed pod area.Prepare deed (D.shown dir.old) (D.shown dir.new)) }
+    ensures deed { IfOk result (λ deed. D.observed ≡ true → DeedCause pod area deed (D.shown dir.old).process (D.shown dir.old).trace (D.shown dir.new).trace) }
+    ensures by_other_process { IfOk result (λ deed. LeavesIfObserved D.observed (MayRemove now) pod area deed (D.shown dir.old) (D.shown dir.new)) }
+    ensures marked { IfOk result (λ deed. area ≡ Area.Run → D.observed ≡ true → MarksFirst pod now deed (D.shown dir.old) (D.shown dir.new)) }
+    ensures left_untouched { IfOk result (λ deed. LetBe D.observed pod area deed (D.shown dir.old) (D.shown dir.new)) }
     ensures ready { D.observed ≡ true → Given (MayRemove now) (D.shown dir.old) (λ s. KeepsReady s (D.shown dir.new)) }
 {
-    match discard_aborted(alloc, dir, pod, now) {
-        Ok(()) => Ok(Deed::Moved(Area::Garbage)),
-        Err(Setback::Busy(_)) => kept(alloc, dir, pod, Area::Prepare, Phase::Preparing),
-        Err(stop) => deed_of(Err(stop), Deed::Moved(Area::Garbage)),
+    let moved = Deed::Moved(goes_to(area));
+    match put_dead_aside(alloc, dir, pod, area, now) {
+        Ok(()) => Ok(moved),
+        Err(Setback::Busy(_)) => kept(alloc, dir, pod, area, owned_phase(area)),
+        Err(stop) => deed_of(Err(stop), moved),
     }
 }
 
@@ -104,25 +125,6 @@ fn deal_prepared<D: Dir>(
     match marked_at(alloc, dir, pod, Area::Prepared, b"created-")? {
         Some(created) => deal_waiting(alloc, dir, pod, created, times),
         None => Ok(Deed::Left),
-    }
-}
-
-// An exited pod is marked and goes to exited-garbage. Whose own lock is held still runs.
-fn deal_run<D: Dir>(alloc: Global, dir: &mut D, pod: PodId, now: u64) -> Result<Deed, GcError>
-    requires active { IsActive (D.shown dir.old).local }
-    ensures worked { OnlyAsks D.observed (deals_with_pod pod now area.Run) (D.shown dir.old) (D.shown dir.new) }
-    ensures cause { IfErr result (λ e. GcCause D.observed e (D.shown dir.old) (D.shown dir.new)) }
-    ensures lawful { IfErr result (λ e. GcNeverStray D.observed e (D.shown dir.new)) }
-    ensures deed { IfOk result (λ deed. D.observed ≡ true → DeedCause pod area.Run deed (D.shown dir.old).process (D.shown dir.old).trace (D.shown dir.new).trace) }
-    ensures by_other_process { IfOk result (λ deed. LeavesIfObserved D.observed (MayRemove now) pod area.Run deed (D.shown dir.old) (D.shown dir.new)) }
-    ensures marked { IfOk result (λ deed. D.observed ≡ true → MarksFirst pod now deed (D.shown dir.old) (D.shown dir.new)) }
-    ensures left_untouched { IfOk result (λ deed. LetBe D.observed pod area.Run deed (D.shown dir.old) (D.shown dir.new)) }
-    ensures ready { D.observed ≡ true → Given (MayRemove now) (D.shown dir.old) (λ s. KeepsReady s (D.shown dir.new)) }
-{
-    match retire_exited(alloc, dir, pod, now) {
-        Ok(()) => Ok(Deed::Moved(Area::ExitedGarbage)),
-        Err(Setback::Busy(_)) => kept(alloc, dir, pod, Area::Run, Phase::Running),
-        Err(stop) => deed_of(Err(stop), Deed::Moved(Area::ExitedGarbage)),
     }
 }
 
@@ -217,9 +219,8 @@ pub(crate) fn deal<D: Dir>(
 {
     match area {
         Area::Embryo => deal_embryo(alloc, dir, pod),
-        Area::Prepare => deal_prepare(alloc, dir, pod, times.now),
+        Area::Prepare | Area::Run => deal_dead(alloc, dir, pod, area, times.now),
         Area::Prepared => deal_prepared(alloc, dir, pod, times),
-        Area::Run => deal_run(alloc, dir, pod, times.now),
         Area::ExitedGarbage => deal_exited_garbage(alloc, dir, pod, times),
         Area::Garbage => deal_garbage(alloc, dir, pod, Area::Garbage, times.now),
         _ => unreachable!(),

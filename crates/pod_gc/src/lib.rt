@@ -18,7 +18,7 @@ mod remove_error;
 mod sweeping;
 
 pub use ages::Times;
-pub use aside::{discard_aborted, retire_exited};
+pub use aside::put_dead_aside;
 pub use deletion::delete_at;
 pub use gc_error::GcError;
 pub use line::{Deed, GcLine};

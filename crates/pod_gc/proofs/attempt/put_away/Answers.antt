@@ -30,20 +30,20 @@ pub returns-in-AbortedPrepare-clause-stopped : goal.returns-in-AbortedPrepare-cl
 returns-in-AbortedPrepare-clause-stopped g c =
     let D = g.D.Dir in
     let old = D.shown c.args.dir.now in
-    let new = D.shown c.discard_aborted.new.dir in
-    if_err (λ e. StepWasStopped D.observed c.args.pod (IsAbsentAt c.args.pod Prepare) e old new) (λ e. StoppedFound D.observed c.args.pod c.args.phase e old new) c.discard_aborted.result
-    (λ e x. found_here c.args.phase Prepare (ap area_of_phase c.in-AbortedPrepare.is) x) c.discard_aborted.ensures.stopped
+    let new = D.shown c.put_dead_aside.new.dir in
+    if_err (λ e. StepWasStopped D.observed c.args.pod (IsAbsentAt c.args.pod Prepare) e old new) (λ e. StoppedFound D.observed c.args.pod c.args.phase e old new) c.put_dead_aside.result
+    (λ e x. found_here c.args.phase Prepare (ap area_of_phase c.in-AbortedPrepare.is) x) c.put_dead_aside.ensures.stopped
 
 pub returns-in-AbortedPrepare-clause-by_other_process : goal.returns-in-AbortedPrepare-clause-by_other_process
 returns-in-AbortedPrepare-clause-by_other_process g c =
     let D = g.D.Dir in
     let old = D.shown c.args.dir.now in
-    let new = D.shown c.discard_aborted.new.dir in
-    if_err (λ e. D.observed ≡ true → Given (MayRemove c.args.now) old (λ s. LockBusyElsewhere c.args.pod Prepare Shared e old new)) (λ e. D.observed ≡ true → Given (MayRemovePod c.args.pod c.args.now) old (λ s. BusyAny c.args.pod e old new)) c.discard_aborted.result
-    (λ e busy t s k m. busy_at e Prepare Shared old new refl (busy t s k m.may)) c.discard_aborted.ensures.by_other_process
+    let new = D.shown c.put_dead_aside.new.dir in
+    if_err (λ e. D.observed ≡ true → Given (MayRemove c.args.now) old (λ s. LockBusyElsewhere c.args.pod Prepare Shared e old new)) (λ e. D.observed ≡ true → Given (MayRemovePod c.args.pod c.args.now) old (λ s. BusyAny c.args.pod e old new)) c.put_dead_aside.result
+    (λ e busy t s k m. busy_at e Prepare Shared old new refl (busy t s k m.may)) c.put_dead_aside.ensures.by_other_process
 
 pub returns-in-AbortedPrepare-clause-ready : goal.returns-in-AbortedPrepare-clause-ready
-returns-in-AbortedPrepare-clause-ready g c t = ready_any c.args.pod (c.discard_aborted.ensures.ready t)
+returns-in-AbortedPrepare-clause-ready g c t = ready_any c.args.pod (c.put_dead_aside.ensures.ready t)
 
 pub returns-in-Prepared-clause-stopped : goal.returns-in-Prepared-clause-stopped
 returns-in-Prepared-clause-stopped g c =
@@ -68,20 +68,20 @@ pub returns-in-Exited-clause-stopped : goal.returns-in-Exited-clause-stopped
 returns-in-Exited-clause-stopped g c =
     let D = g.D.Dir in
     let old = D.shown c.args.dir.now in
-    let new = D.shown c.retire_exited.new.dir in
-    if_err (λ e. StepWasStopped D.observed c.args.pod (IsAbsentAt c.args.pod Run) e old new) (λ e. StoppedFound D.observed c.args.pod c.args.phase e old new) c.retire_exited.result
-    (λ e x. found_here c.args.phase Run (ap area_of_phase c.in-Exited.is) x) c.retire_exited.ensures.stopped
+    let new = D.shown c.put_dead_aside.new.dir in
+    if_err (λ e. StepWasStopped D.observed c.args.pod (IsAbsentAt c.args.pod Run) e old new) (λ e. StoppedFound D.observed c.args.pod c.args.phase e old new) c.put_dead_aside.result
+    (λ e x. found_here c.args.phase Run (ap area_of_phase c.in-Exited.is) x) c.put_dead_aside.ensures.stopped
 
 pub returns-in-Exited-clause-by_other_process : goal.returns-in-Exited-clause-by_other_process
 returns-in-Exited-clause-by_other_process g c =
     let D = g.D.Dir in
     let old = D.shown c.args.dir.now in
-    let new = D.shown c.retire_exited.new.dir in
-    if_err (λ e. D.observed ≡ true → Given (MayRemove c.args.now) old (λ s. LockBusyElsewhere c.args.pod Run Shared e old new)) (λ e. D.observed ≡ true → Given (MayRemovePod c.args.pod c.args.now) old (λ s. BusyAny c.args.pod e old new)) c.retire_exited.result
-    (λ e busy t s k m. busy_at e Run Shared old new refl (busy t s k m.may)) c.retire_exited.ensures.by_other_process
+    let new = D.shown c.put_dead_aside.new.dir in
+    if_err (λ e. D.observed ≡ true → Given (MayRemove c.args.now) old (λ s. LockBusyElsewhere c.args.pod Run Shared e old new)) (λ e. D.observed ≡ true → Given (MayRemovePod c.args.pod c.args.now) old (λ s. BusyAny c.args.pod e old new)) c.put_dead_aside.result
+    (λ e busy t s k m. busy_at e Run Shared old new refl (busy t s k m.may)) c.put_dead_aside.ensures.by_other_process
 
 pub returns-in-Exited-clause-ready : goal.returns-in-Exited-clause-ready
-returns-in-Exited-clause-ready g c t = ready_any c.args.pod (c.retire_exited.ensures.ready t)
+returns-in-Exited-clause-ready g c t = ready_any c.args.pod (c.put_dead_aside.ensures.ready t)
 
 pub returns-in_default-clause-worked : goal.returns-in_default-clause-worked
 returns-in_default-clause-worked g c = worked_none
@@ -93,51 +93,51 @@ pub returns-in-AbortedPrepare-clause-put : goal.returns-in-AbortedPrepare-clause
 returns-in-AbortedPrepare-clause-put g c =
     let D = g.D.Dir in
     let old = D.shown c.args.dir.now in
-    let new = D.shown c.discard_aborted.new.dir in
-    subst (λ (p : Phase). IfOk c.discard_aborted.result (λ done. PutAwayIfObserved D.observed c.args.pod p old new)) (sym c.in-AbortedPrepare.is)
-    (ok_both (λ done. D.observed ≡ true → Did (MoveFolder (pod_spot c.args.pod Prepare) (pod_spot c.args.pod Garbage)) Done old.process old.trace new.trace) (λ done. D.observed ≡ true → ExtendsBy (puts_aside c.args.pod Prepare Garbage) old new) (λ done. PutAwayIfObserved D.observed c.args.pod kind.AbortedPrepare old new) c.discard_aborted.result
-    (λ done did only t. put_aborted c.args.pod old.process old.trace new.trace (did t) (only t)) c.discard_aborted.ensures.done c.discard_aborted.ensures.aside)
+    let new = D.shown c.put_dead_aside.new.dir in
+    subst (λ (p : Phase). IfOk c.put_dead_aside.result (λ done. PutAwayIfObserved D.observed c.args.pod p old new)) (sym c.in-AbortedPrepare.is)
+    (ok_both (λ done. D.observed ≡ true → Did (MoveFolder (pod_spot c.args.pod Prepare) (pod_spot c.args.pod Garbage)) Done old.process old.trace new.trace) (λ done. D.observed ≡ true → ExtendsBy (puts_aside c.args.pod Prepare Garbage) old new) (λ done. PutAwayIfObserved D.observed c.args.pod kind.AbortedPrepare old new) c.put_dead_aside.result
+    (λ done did only t. put_aborted c.args.pod old.process old.trace new.trace (did t) (only t)) c.put_dead_aside.ensures.done c.put_dead_aside.ensures.aside)
 
 pub returns-in-AbortedPrepare-clause-missed : goal.returns-in-AbortedPrepare-clause-missed
 returns-in-AbortedPrepare-clause-missed g c =
     let D = g.D.Dir in
     let old = D.shown c.args.dir.now in
-    let new = D.shown c.discard_aborted.new.dir in
-    err_both (λ e. StepWasStopped D.observed c.args.pod (IsAbsentAt c.args.pod Prepare) e old new) (λ e. TakesNothing D.observed old new) (λ e. MissedAtItsArea D.observed c.args.pod c.args.phase e old new) c.discard_aborted.result
-    (λ e x still. missed_here old new c.args.phase Prepare (ap area_of_phase c.in-AbortedPrepare.is) x.missing still) c.discard_aborted.ensures.stopped c.discard_aborted.ensures.takes_nothing
+    let new = D.shown c.put_dead_aside.new.dir in
+    err_both (λ e. StepWasStopped D.observed c.args.pod (IsAbsentAt c.args.pod Prepare) e old new) (λ e. TakesNothing D.observed old new) (λ e. MissedAtItsArea D.observed c.args.pod c.args.phase e old new) c.put_dead_aside.result
+    (λ e x still. missed_here old new c.args.phase Prepare (ap area_of_phase c.in-AbortedPrepare.is) x.missing still) c.put_dead_aside.ensures.stopped c.put_dead_aside.ensures.takes_nothing
 
 pub returns-in-AbortedPrepare-clause-refused : goal.returns-in-AbortedPrepare-clause-refused
 returns-in-AbortedPrepare-clause-refused g c =
     let D = g.D.Dir in
     let old = D.shown c.args.dir.now in
-    let new = D.shown c.discard_aborted.new.dir in
-    err_both (λ e. (which : Which) → e ≡ stop.Busy which → which ≡ Own) (λ e. D.observed ≡ true → Given (MayRemove c.args.now) old (λ s. LockBusyElsewhere c.args.pod Prepare Shared e old new)) (λ e. D.observed ≡ true → Given (MayRemovePod c.args.pod c.args.now) old (λ s. RefusedAtItsArea c.args.pod c.args.phase e old new)) c.discard_aborted.result
-    (λ e named busy t s k m. refused_own old new c.args.phase Prepare (ap area_of_phase c.in-AbortedPrepare.is) (λ q. let clash : kind.AbortedPrepare ≡ kind.Prepared = sym c.in-AbortedPrepare.is ∙ q in cc) named (busy t s k m.may)) c.discard_aborted.ensures.named c.discard_aborted.ensures.by_other_process
+    let new = D.shown c.put_dead_aside.new.dir in
+    err_both (λ e. (which : Which) → e ≡ stop.Busy which → which ≡ Own) (λ e. D.observed ≡ true → Given (MayRemove c.args.now) old (λ s. LockBusyElsewhere c.args.pod Prepare Shared e old new)) (λ e. D.observed ≡ true → Given (MayRemovePod c.args.pod c.args.now) old (λ s. RefusedAtItsArea c.args.pod c.args.phase e old new)) c.put_dead_aside.result
+    (λ e named busy t s k m. refused_own old new c.args.phase Prepare (ap area_of_phase c.in-AbortedPrepare.is) (λ q. let clash : kind.AbortedPrepare ≡ kind.Prepared = sym c.in-AbortedPrepare.is ∙ q in cc) named (busy t s k m.may)) c.put_dead_aside.ensures.named c.put_dead_aside.ensures.by_other_process
 
 pub returns-in-Exited-clause-put : goal.returns-in-Exited-clause-put
 returns-in-Exited-clause-put g c =
     let D = g.D.Dir in
     let old = D.shown c.args.dir.now in
-    let new = D.shown c.retire_exited.new.dir in
-    subst (λ (p : Phase). IfOk c.retire_exited.result (λ done. PutAwayIfObserved D.observed c.args.pod p old new)) (sym c.in-Exited.is)
-    (ok_both (λ done. D.observed ≡ true → Did (MoveFolder (pod_spot c.args.pod Run) (pod_spot c.args.pod ExitedGarbage)) Done old.process old.trace new.trace) (λ done. D.observed ≡ true → ExtendsBy (puts_aside c.args.pod Run ExitedGarbage) old new) (λ done. PutAwayIfObserved D.observed c.args.pod kind.Exited old new) c.retire_exited.result
-    (λ done did only t. put_exited c.args.pod old.process old.trace new.trace (did t) (only t)) c.retire_exited.ensures.done c.retire_exited.ensures.aside)
+    let new = D.shown c.put_dead_aside.new.dir in
+    subst (λ (p : Phase). IfOk c.put_dead_aside.result (λ done. PutAwayIfObserved D.observed c.args.pod p old new)) (sym c.in-Exited.is)
+    (ok_both (λ done. D.observed ≡ true → Did (MoveFolder (pod_spot c.args.pod Run) (pod_spot c.args.pod ExitedGarbage)) Done old.process old.trace new.trace) (λ done. D.observed ≡ true → ExtendsBy (puts_aside c.args.pod Run ExitedGarbage) old new) (λ done. PutAwayIfObserved D.observed c.args.pod kind.Exited old new) c.put_dead_aside.result
+    (λ done did only t. put_exited c.args.pod old.process old.trace new.trace (did t) (only t)) c.put_dead_aside.ensures.done c.put_dead_aside.ensures.aside)
 
 pub returns-in-Exited-clause-missed : goal.returns-in-Exited-clause-missed
 returns-in-Exited-clause-missed g c =
     let D = g.D.Dir in
     let old = D.shown c.args.dir.now in
-    let new = D.shown c.retire_exited.new.dir in
-    err_both (λ e. StepWasStopped D.observed c.args.pod (IsAbsentAt c.args.pod Run) e old new) (λ e. TakesNothing D.observed old new) (λ e. MissedAtItsArea D.observed c.args.pod c.args.phase e old new) c.retire_exited.result
-    (λ e x still. missed_here old new c.args.phase Run (ap area_of_phase c.in-Exited.is) x.missing still) c.retire_exited.ensures.stopped c.retire_exited.ensures.takes_nothing
+    let new = D.shown c.put_dead_aside.new.dir in
+    err_both (λ e. StepWasStopped D.observed c.args.pod (IsAbsentAt c.args.pod Run) e old new) (λ e. TakesNothing D.observed old new) (λ e. MissedAtItsArea D.observed c.args.pod c.args.phase e old new) c.put_dead_aside.result
+    (λ e x still. missed_here old new c.args.phase Run (ap area_of_phase c.in-Exited.is) x.missing still) c.put_dead_aside.ensures.stopped c.put_dead_aside.ensures.takes_nothing
 
 pub returns-in-Exited-clause-refused : goal.returns-in-Exited-clause-refused
 returns-in-Exited-clause-refused g c =
     let D = g.D.Dir in
     let old = D.shown c.args.dir.now in
-    let new = D.shown c.retire_exited.new.dir in
-    err_both (λ e. (which : Which) → e ≡ stop.Busy which → which ≡ Own) (λ e. D.observed ≡ true → Given (MayRemove c.args.now) old (λ s. LockBusyElsewhere c.args.pod Run Shared e old new)) (λ e. D.observed ≡ true → Given (MayRemovePod c.args.pod c.args.now) old (λ s. RefusedAtItsArea c.args.pod c.args.phase e old new)) c.retire_exited.result
-    (λ e named busy t s k m. refused_own old new c.args.phase Run (ap area_of_phase c.in-Exited.is) (λ q. let clash : kind.Exited ≡ kind.Prepared = sym c.in-Exited.is ∙ q in cc) named (busy t s k m.may)) c.retire_exited.ensures.named c.retire_exited.ensures.by_other_process
+    let new = D.shown c.put_dead_aside.new.dir in
+    err_both (λ e. (which : Which) → e ≡ stop.Busy which → which ≡ Own) (λ e. D.observed ≡ true → Given (MayRemove c.args.now) old (λ s. LockBusyElsewhere c.args.pod Run Shared e old new)) (λ e. D.observed ≡ true → Given (MayRemovePod c.args.pod c.args.now) old (λ s. RefusedAtItsArea c.args.pod c.args.phase e old new)) c.put_dead_aside.result
+    (λ e named busy t s k m. refused_own old new c.args.phase Run (ap area_of_phase c.in-Exited.is) (λ q. let clash : kind.Exited ≡ kind.Prepared = sym c.in-Exited.is ∙ q in cc) named (busy t s k m.may)) c.put_dead_aside.ensures.named c.put_dead_aside.ensures.by_other_process
 
 pub returns-in-Prepared-clause-put : goal.returns-in-Prepared-clause-put
 returns-in-Prepared-clause-put g c =
@@ -177,7 +177,7 @@ returns-in_default-clause-reads g c = unread_here c.args.pod (g.D.Dir.shown c.ar
 pub returns-in-AbortedPrepare-clause-kept : goal.returns-in-AbortedPrepare-clause-kept
 returns-in-AbortedPrepare-clause-kept g c =
     let D = g.D.Dir in
-    if_err (λ e. TakesNothing D.observed (D.shown c.args.dir.now) (D.shown c.discard_aborted.new.dir)) (λ e. D.observed ≡ true → KeepsFolders (D.shown c.args.dir.now) (D.shown c.discard_aborted.new.dir)) c.discard_aborted.result (λ e still t. kept_untaken (still t)) c.discard_aborted.ensures.takes_nothing
+    if_err (λ e. TakesNothing D.observed (D.shown c.args.dir.now) (D.shown c.put_dead_aside.new.dir)) (λ e. D.observed ≡ true → KeepsFolders (D.shown c.args.dir.now) (D.shown c.put_dead_aside.new.dir)) c.put_dead_aside.result (λ e still t. kept_untaken (still t)) c.put_dead_aside.ensures.takes_nothing
 
 pub returns-in-Prepared-clause-kept : goal.returns-in-Prepared-clause-kept
 returns-in-Prepared-clause-kept g c =
@@ -187,4 +187,4 @@ returns-in-Prepared-clause-kept g c =
 pub returns-in-Exited-clause-kept : goal.returns-in-Exited-clause-kept
 returns-in-Exited-clause-kept g c =
     let D = g.D.Dir in
-    if_err (λ e. TakesNothing D.observed (D.shown c.args.dir.now) (D.shown c.retire_exited.new.dir)) (λ e. D.observed ≡ true → KeepsFolders (D.shown c.args.dir.now) (D.shown c.retire_exited.new.dir)) c.retire_exited.result (λ e still t. kept_untaken (still t)) c.retire_exited.ensures.takes_nothing
+    if_err (λ e. TakesNothing D.observed (D.shown c.args.dir.now) (D.shown c.put_dead_aside.new.dir)) (λ e. D.observed ≡ true → KeepsFolders (D.shown c.args.dir.now) (D.shown c.put_dead_aside.new.dir)) c.put_dead_aside.result (λ e still t. kept_untaken (still t)) c.put_dead_aside.ensures.takes_nothing

@@ -1,13 +1,15 @@
-use Rattle.std.proofs.Common.{◌≡◌, true, Some, sym, subst}
+use Rattle.std.proofs.Common.{◌≡◌, true, false, Some, refl, sym, subst}
 use Rattle.plain_laws.proofs.Results.{if_ok, ok_both, ok_three, if_err}
 use Rattle.dir_model.specs.declared.area.Area.{Area}
 use Rattle.dir_model.specs.declared.area.Area.TheVariants as area
 use Rattle.dir_model.specs.declared.spot.Which.{Which}
 use Rattle.folder_building.proofs.Working.{worked_wider}
+use Rattle.pod_gc.specs.RemovalRequests.{may_lie_dead}
 use Rattle.pod_gc.specs.RemovalHolding.{MayRemove}
 use Rattle.pod_gc.specs.Requests.{deals_with_pod}
 use Rattle.pod_gc.specs.Deeds.{DeedCause, refused_lock, LetBe, WaitedByAge, RestedByAge, Dealt, LeavesIfObserved, LeavesToAnother, MarksFirst}
 use Rattle.pod_gc.specs.Sweeping.{MaySweepPods, MayPassPods}
+use Rattle.pod_gc.proofs.Dead.{dead_by, dead_apart}
 use Rattle.pod_gc.proofs.Dealing.{embryo_deal, dealt_at, may_embryo, embryo_left}
 use Rattle.pod_gc.specs.Causes.{GcNeverStray, GcStrayByApp}
 use Rattle.pod_gc.proofs.deals.deal.Goals as goal
@@ -37,29 +39,25 @@ returns-in-Embryo-clause-by_other_process g c =
 pub returns-in-Embryo-clause-ready : goal.returns-in-Embryo-clause-ready
 returns-in-Embryo-clause-ready g c t s k m = c.deal_embryo.ensures.ready t c.args.times.now s k (may_embryo c.in-Embryo.is m)
 
-pub returns-in-Prepare-clause-worked : goal.returns-in-Prepare-clause-worked
-returns-in-Prepare-clause-worked g c =
-    let D = g.D.Dir in
-    subst (λ (a : Area). OnlyAsks D.observed (deals_with_pod c.args.pod c.args.times.now a) (D.shown c.args.dir.now) (D.shown c.deal_prepare.new.dir)) (sym c.in-Prepare.is) c.deal_prepare.ensures.worked
-
 pub returns-in-Prepare-clause-dealt : goal.returns-in-Prepare-clause-dealt
 returns-in-Prepare-clause-dealt g c =
     let D = g.D.Dir in
     let old = D.shown c.args.dir.now in
-    let new = D.shown c.deal_prepare.new.dir in
-    ok_both (λ deed. D.observed ≡ true → DeedCause c.args.pod area.Prepare deed old.process old.trace new.trace) (λ deed. LetBe D.observed c.args.pod area.Prepare deed old new) (λ deed. D.observed ≡ true → Dealt c.args.times c.args.pod c.args.area deed old.process old.trace new.trace) c.deal_prepare.result
-    (λ deed x y t. dealt_at c.args.times c.args.pod area.Prepare c.args.area (sym c.in-Prepare.is) deed (x t) (y t) (λ is. let e : area.Prepare ≡ area.Prepared = is in cc) (λ is. let e : area.Prepare ≡ area.ExitedGarbage = is in cc) (λ is. let e : area.Prepare ≡ area.Run = is in cc)) c.deal_prepare.ensures.deed c.deal_prepare.ensures.left_untouched
+    let new = D.shown c.deal_dead.new.dir in
+    let apart = λ (other : Area) (lives : may_lie_dead other ≡ false). dead_apart c.args.area other (dead_by c.args.area c.in-Prepare.is) lives in
+    ok_three (λ deed. D.observed ≡ true → DeedCause c.args.pod c.args.area deed old.process old.trace new.trace) (λ deed. LetBe D.observed c.args.pod c.args.area deed old new) (λ deed. c.args.area ≡ area.Run → D.observed ≡ true → MarksFirst c.args.pod c.args.times.now deed old new) (λ deed. D.observed ≡ true → Dealt c.args.times c.args.pod c.args.area deed old.process old.trace new.trace) c.deal_dead.result
+    (λ deed x y z t. record { cause = x t; let_be = y t; waited = λ is. absurd (apart area.Prepared refl is); rested = λ is. absurd (apart area.ExitedGarbage refl is); marked = λ is. z is t }) c.deal_dead.ensures.deed c.deal_dead.ensures.left_untouched c.deal_dead.ensures.marked
 
 pub returns-in-Prepare-clause-by_other_process : goal.returns-in-Prepare-clause-by_other_process
 returns-in-Prepare-clause-by_other_process g c =
     let D = g.D.Dir in
     let old = D.shown c.args.dir.now in
-    let new = D.shown c.deal_prepare.new.dir in
-    if_ok (λ deed. LeavesIfObserved D.observed (MayRemove c.args.times.now) c.args.pod area.Prepare deed old new) (λ deed. LeavesIfObserved D.observed (MayPassPods c.args.area c.args.times.now c.args.times.expire) c.args.pod c.args.area deed old new) c.deal_prepare.result
-    (λ deed x t s k m. subst (λ (a : Area). LeavesToAnother c.args.pod a deed old new) (sym c.in-Prepare.is) (x t s k m.sweeps.may)) c.deal_prepare.ensures.by_other_process
+    let new = D.shown c.deal_dead.new.dir in
+    if_ok (λ deed. LeavesIfObserved D.observed (MayRemove c.args.times.now) c.args.pod c.args.area deed old new) (λ deed. LeavesIfObserved D.observed (MayPassPods c.args.area c.args.times.now c.args.times.expire) c.args.pod c.args.area deed old new) c.deal_dead.result
+    (λ deed x t s k m. x t s k m.sweeps.may) c.deal_dead.ensures.by_other_process
 
 pub returns-in-Prepare-clause-ready : goal.returns-in-Prepare-clause-ready
-returns-in-Prepare-clause-ready g c t s k m = c.deal_prepare.ensures.ready t s k m.sweeps.may
+returns-in-Prepare-clause-ready g c t s k m = c.deal_dead.ensures.ready t s k m.sweeps.may
 
 pub returns-in-Prepared-clause-worked : goal.returns-in-Prepared-clause-worked
 returns-in-Prepared-clause-worked g c =
@@ -84,30 +82,6 @@ returns-in-Prepared-clause-by_other_process g c =
 
 pub returns-in-Prepared-clause-ready : goal.returns-in-Prepared-clause-ready
 returns-in-Prepared-clause-ready g c t s k m = c.deal_prepared.ensures.ready t s k m.sweeps
-
-pub returns-in-Run-clause-worked : goal.returns-in-Run-clause-worked
-returns-in-Run-clause-worked g c =
-    let D = g.D.Dir in
-    subst (λ (a : Area). OnlyAsks D.observed (deals_with_pod c.args.pod c.args.times.now a) (D.shown c.args.dir.now) (D.shown c.deal_run.new.dir)) (sym c.in-Run.is) c.deal_run.ensures.worked
-
-pub returns-in-Run-clause-dealt : goal.returns-in-Run-clause-dealt
-returns-in-Run-clause-dealt g c =
-    let D = g.D.Dir in
-    let old = D.shown c.args.dir.now in
-    let new = D.shown c.deal_run.new.dir in
-    ok_three (λ deed. D.observed ≡ true → DeedCause c.args.pod area.Run deed old.process old.trace new.trace) (λ deed. LetBe D.observed c.args.pod area.Run deed old new) (λ deed. D.observed ≡ true → MarksFirst c.args.pod c.args.times.now deed old new) (λ deed. D.observed ≡ true → Dealt c.args.times c.args.pod c.args.area deed old.process old.trace new.trace) c.deal_run.result
-    (λ deed x y z t. dealt_at c.args.times c.args.pod area.Run c.args.area (sym c.in-Run.is) deed (x t) (y t) (λ is. let e : area.Run ≡ area.Prepared = is in cc) (λ is. let e : area.Run ≡ area.ExitedGarbage = is in cc) (λ is. z t)) c.deal_run.ensures.deed c.deal_run.ensures.left_untouched c.deal_run.ensures.marked
-
-pub returns-in-Run-clause-by_other_process : goal.returns-in-Run-clause-by_other_process
-returns-in-Run-clause-by_other_process g c =
-    let D = g.D.Dir in
-    let old = D.shown c.args.dir.now in
-    let new = D.shown c.deal_run.new.dir in
-    if_ok (λ deed. LeavesIfObserved D.observed (MayRemove c.args.times.now) c.args.pod area.Run deed old new) (λ deed. LeavesIfObserved D.observed (MayPassPods c.args.area c.args.times.now c.args.times.expire) c.args.pod c.args.area deed old new) c.deal_run.result
-    (λ deed x t s k m. subst (λ (a : Area). LeavesToAnother c.args.pod a deed old new) (sym c.in-Run.is) (x t s k m.sweeps.may)) c.deal_run.ensures.by_other_process
-
-pub returns-in-Run-clause-ready : goal.returns-in-Run-clause-ready
-returns-in-Run-clause-ready g c t s k m = c.deal_run.ensures.ready t s k m.sweeps.may
 
 pub returns-in-ExitedGarbage-clause-worked : goal.returns-in-ExitedGarbage-clause-worked
 returns-in-ExitedGarbage-clause-worked g c =
@@ -168,8 +142,8 @@ pub returns-in-Prepare-clause-lawful : goal.returns-in-Prepare-clause-lawful
 returns-in-Prepare-clause-lawful g c =
     let D = g.D.Dir in
     let old = D.shown c.args.dir.now in
-    let new = D.shown c.deal_prepare.new.dir in
-    if_err (λ e. GcNeverStray D.observed e new) (λ e. GcStrayByApp D.observed e (MayPassPods c.args.area c.args.times.now c.args.times.expire) old new) c.deal_prepare.result (λ e never is t s k m conforming. absurd (never is t conforming)) c.deal_prepare.ensures.lawful
+    let new = D.shown c.deal_dead.new.dir in
+    if_err (λ e. GcNeverStray D.observed e new) (λ e. GcStrayByApp D.observed e (MayPassPods c.args.area c.args.times.now c.args.times.expire) old new) c.deal_dead.result (λ e never is t s k m conforming. absurd (never is t conforming)) c.deal_dead.ensures.lawful
 
 pub returns-in-Prepared-clause-lawful : goal.returns-in-Prepared-clause-lawful
 returns-in-Prepared-clause-lawful g c =
@@ -177,13 +151,6 @@ returns-in-Prepared-clause-lawful g c =
     let old = D.shown c.args.dir.now in
     let new = D.shown c.deal_prepared.new.dir in
     if_err (λ e. GcNeverStray D.observed e new) (λ e. GcStrayByApp D.observed e (MayPassPods c.args.area c.args.times.now c.args.times.expire) old new) c.deal_prepared.result (λ e never is t s k m conforming. absurd (never is t conforming)) c.deal_prepared.ensures.lawful
-
-pub returns-in-Run-clause-lawful : goal.returns-in-Run-clause-lawful
-returns-in-Run-clause-lawful g c =
-    let D = g.D.Dir in
-    let old = D.shown c.args.dir.now in
-    let new = D.shown c.deal_run.new.dir in
-    if_err (λ e. GcNeverStray D.observed e new) (λ e. GcStrayByApp D.observed e (MayPassPods c.args.area c.args.times.now c.args.times.expire) old new) c.deal_run.result (λ e never is t s k m conforming. absurd (never is t conforming)) c.deal_run.ensures.lawful
 
 pub returns-in-ExitedGarbage-clause-lawful : goal.returns-in-ExitedGarbage-clause-lawful
 returns-in-ExitedGarbage-clause-lawful g c =
