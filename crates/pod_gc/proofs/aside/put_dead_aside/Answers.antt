@@ -1,4 +1,4 @@
-use Rattle.std.proofs.Common.{◌≡◌, rules, true, false, refl, arith, ◌∙◌}
+use Rattle.std.proofs.Common.{◌≡◌, rules, true, false, refl, arith, ◌∙◌, subst}
 use Rattle.plain_laws.proofs.Results.{if_ok, if_err, err_same, ok_all, err_all}
 use Rattle.dir_model.specs.declared.area.Area.{Area}
 use Rattle.dir_model.specs.declared.area.Area.TheVariants.{Run}

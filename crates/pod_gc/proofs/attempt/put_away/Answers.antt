@@ -68,20 +68,20 @@ pub returns-in-Exited-clause-stopped : goal.returns-in-Exited-clause-stopped
 returns-in-Exited-clause-stopped g c =
     let D = g.D.Dir in
     let old = D.shown c.args.dir.now in
-    let new = D.shown c.put_dead_aside.new.dir in
-    if_err (λ e. StepWasStopped D.observed c.args.pod (IsAbsentAt c.args.pod Run) e old new) (λ e. StoppedFound D.observed c.args.pod c.args.phase e old new) c.put_dead_aside.result
-    (λ e x. found_here c.args.phase Run (ap area_of_phase c.in-Exited.is) x) c.put_dead_aside.ensures.stopped
+    let new = D.shown c.put_dead_aside-in-Exited.new.dir in
+    if_err (λ e. StepWasStopped D.observed c.args.pod (IsAbsentAt c.args.pod Run) e old new) (λ e. StoppedFound D.observed c.args.pod c.args.phase e old new) c.put_dead_aside-in-Exited.result
+    (λ e x. found_here c.args.phase Run (ap area_of_phase c.in-Exited.is) x) c.put_dead_aside-in-Exited.ensures.stopped
 
 pub returns-in-Exited-clause-by_other_process : goal.returns-in-Exited-clause-by_other_process
 returns-in-Exited-clause-by_other_process g c =
     let D = g.D.Dir in
     let old = D.shown c.args.dir.now in
-    let new = D.shown c.put_dead_aside.new.dir in
-    if_err (λ e. D.observed ≡ true → Given (MayRemove c.args.now) old (λ s. LockBusyElsewhere c.args.pod Run Shared e old new)) (λ e. D.observed ≡ true → Given (MayRemovePod c.args.pod c.args.now) old (λ s. BusyAny c.args.pod e old new)) c.put_dead_aside.result
-    (λ e busy t s k m. busy_at e Run Shared old new refl (busy t s k m.may)) c.put_dead_aside.ensures.by_other_process
+    let new = D.shown c.put_dead_aside-in-Exited.new.dir in
+    if_err (λ e. D.observed ≡ true → Given (MayRemove c.args.now) old (λ s. LockBusyElsewhere c.args.pod Run Shared e old new)) (λ e. D.observed ≡ true → Given (MayRemovePod c.args.pod c.args.now) old (λ s. BusyAny c.args.pod e old new)) c.put_dead_aside-in-Exited.result
+    (λ e busy t s k m. busy_at e Run Shared old new refl (busy t s k m.may)) c.put_dead_aside-in-Exited.ensures.by_other_process
 
 pub returns-in-Exited-clause-ready : goal.returns-in-Exited-clause-ready
-returns-in-Exited-clause-ready g c t = ready_any c.args.pod (c.put_dead_aside.ensures.ready t)
+returns-in-Exited-clause-ready g c t = ready_any c.args.pod (c.put_dead_aside-in-Exited.ensures.ready t)
 
 pub returns-in_default-clause-worked : goal.returns-in_default-clause-worked
 returns-in_default-clause-worked g c = worked_none
@@ -118,26 +118,26 @@ pub returns-in-Exited-clause-put : goal.returns-in-Exited-clause-put
 returns-in-Exited-clause-put g c =
     let D = g.D.Dir in
     let old = D.shown c.args.dir.now in
-    let new = D.shown c.put_dead_aside.new.dir in
-    subst (λ (p : Phase). IfOk c.put_dead_aside.result (λ done. PutAwayIfObserved D.observed c.args.pod p old new)) (sym c.in-Exited.is)
-    (ok_both (λ done. D.observed ≡ true → Did (MoveFolder (pod_spot c.args.pod Run) (pod_spot c.args.pod ExitedGarbage)) Done old.process old.trace new.trace) (λ done. D.observed ≡ true → ExtendsBy (puts_aside c.args.pod Run ExitedGarbage) old new) (λ done. PutAwayIfObserved D.observed c.args.pod kind.Exited old new) c.put_dead_aside.result
-    (λ done did only t. put_exited c.args.pod old.process old.trace new.trace (did t) (only t)) c.put_dead_aside.ensures.done c.put_dead_aside.ensures.aside)
+    let new = D.shown c.put_dead_aside-in-Exited.new.dir in
+    subst (λ (p : Phase). IfOk c.put_dead_aside-in-Exited.result (λ done. PutAwayIfObserved D.observed c.args.pod p old new)) (sym c.in-Exited.is)
+    (ok_both (λ done. D.observed ≡ true → Did (MoveFolder (pod_spot c.args.pod Run) (pod_spot c.args.pod ExitedGarbage)) Done old.process old.trace new.trace) (λ done. D.observed ≡ true → ExtendsBy (puts_aside c.args.pod Run ExitedGarbage) old new) (λ done. PutAwayIfObserved D.observed c.args.pod kind.Exited old new) c.put_dead_aside-in-Exited.result
+    (λ done did only t. put_exited c.args.pod old.process old.trace new.trace (did t) (only t)) c.put_dead_aside-in-Exited.ensures.done c.put_dead_aside-in-Exited.ensures.aside)
 
 pub returns-in-Exited-clause-missed : goal.returns-in-Exited-clause-missed
 returns-in-Exited-clause-missed g c =
     let D = g.D.Dir in
     let old = D.shown c.args.dir.now in
-    let new = D.shown c.put_dead_aside.new.dir in
-    err_both (λ e. StepWasStopped D.observed c.args.pod (IsAbsentAt c.args.pod Run) e old new) (λ e. TakesNothing D.observed old new) (λ e. MissedAtItsArea D.observed c.args.pod c.args.phase e old new) c.put_dead_aside.result
-    (λ e x still. missed_here old new c.args.phase Run (ap area_of_phase c.in-Exited.is) x.missing still) c.put_dead_aside.ensures.stopped c.put_dead_aside.ensures.takes_nothing
+    let new = D.shown c.put_dead_aside-in-Exited.new.dir in
+    err_both (λ e. StepWasStopped D.observed c.args.pod (IsAbsentAt c.args.pod Run) e old new) (λ e. TakesNothing D.observed old new) (λ e. MissedAtItsArea D.observed c.args.pod c.args.phase e old new) c.put_dead_aside-in-Exited.result
+    (λ e x still. missed_here old new c.args.phase Run (ap area_of_phase c.in-Exited.is) x.missing still) c.put_dead_aside-in-Exited.ensures.stopped c.put_dead_aside-in-Exited.ensures.takes_nothing
 
 pub returns-in-Exited-clause-refused : goal.returns-in-Exited-clause-refused
 returns-in-Exited-clause-refused g c =
     let D = g.D.Dir in
     let old = D.shown c.args.dir.now in
-    let new = D.shown c.put_dead_aside.new.dir in
-    err_both (λ e. (which : Which) → e ≡ stop.Busy which → which ≡ Own) (λ e. D.observed ≡ true → Given (MayRemove c.args.now) old (λ s. LockBusyElsewhere c.args.pod Run Shared e old new)) (λ e. D.observed ≡ true → Given (MayRemovePod c.args.pod c.args.now) old (λ s. RefusedAtItsArea c.args.pod c.args.phase e old new)) c.put_dead_aside.result
-    (λ e named busy t s k m. refused_own old new c.args.phase Run (ap area_of_phase c.in-Exited.is) (λ q. let clash : kind.Exited ≡ kind.Prepared = sym c.in-Exited.is ∙ q in cc) named (busy t s k m.may)) c.put_dead_aside.ensures.named c.put_dead_aside.ensures.by_other_process
+    let new = D.shown c.put_dead_aside-in-Exited.new.dir in
+    err_both (λ e. (which : Which) → e ≡ stop.Busy which → which ≡ Own) (λ e. D.observed ≡ true → Given (MayRemove c.args.now) old (λ s. LockBusyElsewhere c.args.pod Run Shared e old new)) (λ e. D.observed ≡ true → Given (MayRemovePod c.args.pod c.args.now) old (λ s. RefusedAtItsArea c.args.pod c.args.phase e old new)) c.put_dead_aside-in-Exited.result
+    (λ e named busy t s k m. refused_own old new c.args.phase Run (ap area_of_phase c.in-Exited.is) (λ q. let clash : kind.Exited ≡ kind.Prepared = sym c.in-Exited.is ∙ q in cc) named (busy t s k m.may)) c.put_dead_aside-in-Exited.ensures.named c.put_dead_aside-in-Exited.ensures.by_other_process
 
 pub returns-in-Prepared-clause-put : goal.returns-in-Prepared-clause-put
 returns-in-Prepared-clause-put g c =
@@ -187,4 +187,4 @@ returns-in-Prepared-clause-kept g c =
 pub returns-in-Exited-clause-kept : goal.returns-in-Exited-clause-kept
 returns-in-Exited-clause-kept g c =
     let D = g.D.Dir in
-    if_err (λ e. TakesNothing D.observed (D.shown c.args.dir.now) (D.shown c.put_dead_aside.new.dir)) (λ e. D.observed ≡ true → KeepsFolders (D.shown c.args.dir.now) (D.shown c.put_dead_aside.new.dir)) c.put_dead_aside.result (λ e still t. kept_untaken (still t)) c.put_dead_aside.ensures.takes_nothing
+    if_err (λ e. TakesNothing D.observed (D.shown c.args.dir.now) (D.shown c.put_dead_aside-in-Exited.new.dir)) (λ e. D.observed ≡ true → KeepsFolders (D.shown c.args.dir.now) (D.shown c.put_dead_aside-in-Exited.new.dir)) c.put_dead_aside-in-Exited.result (λ e still t. kept_untaken (still t)) c.put_dead_aside-in-Exited.ensures.takes_nothing
