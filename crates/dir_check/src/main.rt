@@ -12,10 +12,10 @@ ghost use Rattle.dir_model.specs.Paths.{is_path};
 ghost use Rattle.dir_model.specs.Local.{IsActive};
 
 use crate::calls::{lock, on_folder, on_inner};
-use crate::printed::{print_answer, print_items, print_names};
+use crate::printed::{print_answer, print_count, print_items, print_names};
 use crate::step::{Step, step_of};
 use anyhow::{Result, anyhow};
-use dir_host::{Outside, SetupError, assemble, read_words};
+use dir_host::{HostDir, Outside, SetupError, assemble, read_words};
 use dir_model::is_path;
 use dir_trait::{Dir, DirError, Draw, Intent, Kind, PodPrefix, Spot};
 use std::io::{Read, Write};
@@ -146,6 +146,7 @@ fn perform<D: Dir>(rt: &HostRuntime, dir: &mut D, step: &Step<'_>) -> Result<()>
 {
     match step {
         Step::Hold => hold(rt),
+        Step::Faults => print_count(rt, dir.faults()),
         Step::Lock {
             target,
             mode,
@@ -217,13 +218,32 @@ fn refused(_error: DirError) -> anyhow::Error {
     anyhow!("no begin")
 }
 
-fn main(rt: HostRuntime) -> Result<()> {
-    let calls = read_words(&rt).map_err(setup_fault)?;
-    let Outside { now, draw, mut dir } = assemble(&rt, process::id(rt.process())).map_err(
+/// The calls of one directory, which has finished then and still stands.
+fn play<'a>(rt: &'a HostRuntime, calls: &[String]) -> Result<HostDir<&'a HostRuntime>> {
+    let Outside { now, draw, mut dir } = assemble(rt, process::id(rt.process())).map_err(
         setup_fault,
     )?;
     dir.begin(rt.alloc(), intent(now, &draw)).map_err(refused)?;
-    let done = perform_all(&rt, &mut dir, calls.as_slice());
+    let done = perform_all(rt, &mut dir, calls);
     dir.finish();
-    done
+    done?;
+    Ok(dir)
+}
+
+/// The calls before the word `finish`, and those behind it.
+fn parted(calls: &[String]) -> (&[String], &[String]) {
+    match calls.iter().position(|call| call.as_str() == "finish") {
+        Some(at) => (&calls[..at], &calls[at + 1..]),
+        None => (calls, &[]),
+    }
+}
+
+fn main(rt: HostRuntime) -> Result<()> {
+    let calls = read_words(&rt).map_err(setup_fault)?;
+    let (first, second) = parted(calls.as_slice());
+    let _finished = play(&rt, first)?;
+    if !second.is_empty() {
+        let _other = play(&rt, second)?;
+    }
+    Ok(())
 }
