@@ -1,5 +1,6 @@
 //! Makes calls on the data folder, one a word or one a line of the standard input, and prints what each is
-//! answered: a program by which the directory of a host is tested. tests/host/directory.sh has its words.
+//! answered: a program by which the directory of a host is tested. tests/host/directory.sh has its words. What
+//! stands behind the word `finish` is asked of another directory, once the first has finished.
 #![tactic(auto)]
 
 mod calls;
@@ -218,7 +219,7 @@ fn refused(_error: DirError) -> anyhow::Error {
     anyhow!("no begin")
 }
 
-/// The calls of one directory, which has finished then and still stands.
+/// Asks one directory, which has finished then and still stands.
 fn play<'a>(rt: &'a HostRuntime, calls: &[String]) -> Result<HostDir<&'a HostRuntime>> {
     let Outside { now, draw, mut dir } = assemble(rt, process::id(rt.process())).map_err(
         setup_fault,
@@ -232,10 +233,12 @@ fn play<'a>(rt: &'a HostRuntime, calls: &[String]) -> Result<HostDir<&'a HostRun
 
 /// The calls before the word `finish`, and those behind it.
 fn parted(calls: &[String]) -> (&[String], &[String]) {
-    match calls.iter().position(|call| call.as_str() == "finish") {
-        Some(at) => (&calls[..at], &calls[at + 1..]),
-        None => (calls, &[]),
+    for place in 0..calls.len() {
+        if calls[place].as_str() == "finish" {
+            return (&calls[..place], &calls[place + 1..]);
+        }
     }
+    (calls, &[])
 }
 
 fn main(rt: HostRuntime) -> Result<()> {
@@ -243,7 +246,7 @@ fn main(rt: HostRuntime) -> Result<()> {
     let (first, second) = parted(calls.as_slice());
     let _finished = play(&rt, first)?;
     if !second.is_empty() {
-        let _other = play(&rt, second)?;
+        play(&rt, second)?;
     }
     Ok(())
 }
