@@ -281,6 +281,58 @@ RKT_DIR=$tmp/file calls 'the data folder is a file' 'Error: no data folder' 'syn
 RKT_DIR=$tmp/half calls 'an area is a file' 'Error: no data folder' 'sync run'
 RKT_DIR=$tmp/$'\xff' calls 'RKT_DIR is not UTF-8' 'Error: no data folder' 'sync run'
 
+# A file or a link in a folder's place is none.
+: >"$RKT_DIR/pods/prepare/$pod"
+calls 'a file is no folder' 'missing|exists|ok|exists|missing|ok|0' "try shared own prepare $pod" "make prepare $pod" "make embryo $pod" \
+    "move embryo $pod prepare $pod" "move prepare $pod embryo $pod" "remove embryo $pod" faults
+rm "$RKT_DIR/pods/prepare/$pod"
+ln -s ../embryo "$RKT_DIR/pods/prepare/$pod"
+calls 'a link is no folder' 'missing|0' "try shared own prepare $pod" faults
+rm "$RKT_DIR/pods/prepare/$pod"
+
+# broken NAME LINES CHANGE CALL..: the answers in a data folder that the command CHANGE breaks once its areas are made.
+broken() {
+    local name=$1 wanted=$2 change=$3 line
+    shift 3
+    rm -rf "$tmp/broken"
+    coproc holder { RKT_DIR=$tmp/broken exec "$check" 'sync run' hold "$@" 2>&1; }
+    holder_id=$holder_PID
+    exec 7<&"${holder[0]}"
+    read -r line <&7
+    $change
+    eval "exec ${holder[1]}>&-"
+    same "$name" "ok|$wanted" "$line|$(paste -sd'|' <&7)"
+    exec 7<&-
+    wait "$holder_id"
+}
+area_goes() {
+    rmdir "$tmp/broken/pods/run"
+}
+file_comes() {
+    area_goes
+    : >"$tmp/broken/pods/run"
+}
+broken 'an area that is missing' 'failed|1' area_goes "try shared own run $pod" faults
+broken 'an area that is a file' 'failed|failed|ok|failed|3' file_comes "try shared own run $pod" "make run $pod" "make embryo $pod" \
+    "move embryo $pod run $pod" faults
+
+# Each call that fails is one fault, and what is refused otherwise is none.
+asked=()
+ask_all() {
+    local area=$1 call
+    for call in "make $area $pod" "move $area $pod prepare $pod" "try shared claim $area $pod" "remove $area $pod" \
+        "try shared area $area" "list $area" "sync $area" \
+        "make-dir $area $pod " "make-file $area $pod " "remove-file $area $pod " "remove-dir $area $pod " \
+        "append $area $pod  x" "read $area $pod  2" "list $area $pod " "sync $area $pod "; do
+        asked+=("$call" faults)
+    done
+}
+ask_all run
+ask_all embryo
+missing=(missing missing missing missing missing missing missing missing)
+wanted=$(printf 'failed|%d|' {1..15}; printf '%s|15|' ok ok missing missing ok ok ok "${missing[@]}")
+broken 'each call that fails is one fault' "${wanted%|}" area_goes "${asked[@]}"
+
 # What the system is made to answer, and what it is asked.
 # made NAME WANTED PATH ANSWER CALL..: the system answers so where the call is about the path, or about any for ''.
 made() {

@@ -6,6 +6,9 @@ unset RKT_DIR
 cd "$(dirname "$0")/../.." || exit 1
 . tests/host/checks.bash
 
+# A tracer names paths without links.
+tmp=$(cd "$tmp" && pwd -P)
+
 for tool in sha512sum python3 mkfifo; do
     if ! command -v $tool >/dev/null; then
         skip "all: there is no $tool"
@@ -171,6 +174,44 @@ expect 'a link in place of a listing is none' 0 "$(key 9)" '' "$rkt" image impor
 same 'the folder is listed' '' "$(cat "$(images)/$(key 9)/tree")"
 ln -s listed "$tmp/named"
 expect 'a link that is named is followed' 0 "$(key 9)" '' "$rkt" image import "$tmp/named"
+expect 'one with a slash behind it, too' 0 "$(key 9)" '' "$rkt" image import "$tmp/named/"
+
+# What is exchanged while it is imported: the system lets the program wait two seconds behind its first call of that kind
+# about a place, which it holds open by then.
+# exchanged NAME ERR CALL PLACE COMMAND..: the command makes the exchange.
+exchanged() {
+    local name=$1 err=$2 call=$3 place=$4 import
+    shift 4
+    RKT_DIR=$tmp/faulty timeout 60 strace -qq -o "$tmp/trace" -P "$place" -e "trace=$call" \
+        -e "inject=$call:delay_exit=2000000:when=1" "$rkt" image import "$tmp/f" >"$tmp/said" 2>&1 </dev/null &
+    import=$!
+    for _ in {1..500}; do
+        [ -z "$(find /proc/[0-9]*/fd -lname "$place" 2>/dev/null)" ] || break
+        sleep 0.01
+    done
+    sleep 0.3
+    "$@"
+    wait $import
+    same "$name" "15|rkt: $err" "$?|$(cat "$tmp/said")"
+    same "$name: nothing in images" '' "$(ls "$tmp/faulty/store/images")"
+    rm -rf "$tmp/faulty" "$tmp/f"
+}
+file_for_link() { rm "$1" && : >"$1"; }
+folder_for_link() { rm "$1" && mkdir "$1"; }
+if command -v strace >/dev/null && strace -qq -o /dev/null true 2>/dev/null; then
+    bundle f f f
+    echo old >"$tmp/f/rootfs/file"
+    echo new >"$tmp/next"
+    exchanged 'a file that was replaced is read from its start' 'damaged: rootfs/file' openat "$tmp/f/rootfs/file" \
+        mv "$tmp/next" "$tmp/f/rootfs/file"
+    for change in file_for_link folder_for_link; do
+        bundle f f f
+        ln -s /etc "$tmp/f/rootfs/link"
+        exchanged "no link has a target: $change" 'bad kind: rootfs/link' getdents64 "$tmp/f/rootfs" $change "$tmp/f/rootfs/link"
+    done
+else
+    skip 'what is exchanged while it is imported: there is no strace, or it may not trace'
+fi
 
 # 20,000 files.
 bundle many d example.com/many

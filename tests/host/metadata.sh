@@ -107,6 +107,12 @@ same "it is verified" 200 "$(code -H "$flavor" --data-urlencode 'content=an orde
 same "with an empty body" 0 "$(wc -c <"$tmp/body")"
 same "other content isn't" 403 "$(code -H "$flavor" --data-urlencode 'content=an order of 6' --data-urlencode "uuid=$first" --data-urlencode "signature=$signature" "$verify")"
 same "nor is it the second pod's" 403 "$(code -H "$flavor" --data-urlencode 'content=an order of 5' --data-urlencode "uuid=$pod" --data-urlencode "signature=$signature" "$verify")"
+other=$(python3 "$clients" port)
+"$rkt" metadata-service "127.0.0.1:$other" 2 >"$tmp/other" 2>&1 &
+counted=$!
+python3 "$clients" wait "$other"
+same "nor does another service verify it, whose key is its own" 403 "$(code -H "$flavor" --data-urlencode 'content=an order of 5' --data-urlencode "uuid=$first" --data-urlencode "signature=$signature" "http://127.0.0.1:$other/${url##*/}/acMetadata/v1/pod/hmac/verify")"
+wait $counted
 same "a form without a signature is refused" 400 "$(code -H "$flavor" --data-urlencode 'content=an order of 5' --data-urlencode "uuid=$first" "$verify")"
 
 # What isn't asked as it is to be.

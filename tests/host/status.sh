@@ -258,6 +258,7 @@ if [ -c /dev/full ]; then
     streamed 'a full output that nothing is written to' 1 'rkt: usage' to_full "$rkt" frob
     streamed 'full errors' 1 '' err_full "$rkt" frob
     streamed 'full errors that nothing is written to' 0 'state=exited' err_full "$rkt" status $pod
+    streamed 'a full output for an empty text' 0 '' to_full "$rkt" image list
 else
     skip 'full streams: there is no /dev/full'
 fi
@@ -267,6 +268,27 @@ if command -v mkfifo >/dev/null; then
     streamed 'an output that nobody reads' 12 'rkt: output fault' to_nobody "$rkt" status $pod
 else
     skip 'an output that nobody reads: there is no mkfifo'
+fi
+# A file that may have 1,024 bytes takes the beginning of a text, and then no more.
+to_limited() { (trap '' XFSZ; ulimit -f 1; "$@" >"$tmp/limited"); }
+if (ulimit -f 1) 2>/dev/null; then
+    streamed 'an output that is full in mid-text' 12 'rkt: output fault' to_limited "$rkt" --help
+    same 'its beginning was written' '' "$(head -c 1024 "$tmp/out--help" | cmp - "$tmp/limited" 2>&1)"
+else
+    skip 'an output that is full in mid-text: there is no limit on files'
+fi
+# What the system is made to answer to the first write.
+answered() {
+    local answer=$1
+    shift
+    strace -qq -o "$tmp/trace" -e trace=write -e "inject=write:$answer:when=1" "$@"
+}
+if command -v strace >/dev/null && strace -qq -o /dev/null true 2>/dev/null; then
+    streamed 'a write that a signal cut short is asked again' 0 'state=exited' answered error=EINTR "$rkt" status $pod
+    streamed 'a write of two bytes goes on behind them' 0 'ate=exited' answered retval=2 "$rkt" status $pod
+    streamed 'a write that takes nothing is a fault' 12 'rkt: output fault' answered retval=0 "$rkt" status $pod
+else
+    skip 'what the system is made to answer: there is no strace, or it may not trace'
 fi
 streamed 'closed errors' 2 '' err_closed "$rkt" status 00000000-0000-4000-8000-000000000009
 

@@ -5,6 +5,9 @@ set -u
 cd "$(dirname "$0")/../.." || exit 1
 . tests/host/checks.bash
 
+# A tracer names paths without links.
+tmp=$(cd "$tmp" && pwd -P)
+
 export RKT_DIR=$tmp/data
 mkdir "$tmp/work"
 cd "$tmp/work" || exit 1
@@ -195,6 +198,12 @@ if command -v mkfifo >/dev/null; then
 else
     skip 'a pipe: there is no mkfifo'
 fi
+from_pipe() { cat pod.json | timeout 20 "$rkt" validate /dev/stdin; }
+if [ -L /dev/stdin ]; then
+    expect 'a pipe behind a link' 15 '' 'rkt: no file: /dev/stdin' from_pipe
+else
+    skip 'a pipe behind a link: there is no /dev/stdin'
+fi
 expect 'a path that is too long' 10 '' 'rkt: bundle fault' "$rkt" validate "$(repeated x 5000)"
 as_user=()
 if [ "$(id -u)" -eq 0 ]; then
@@ -208,6 +217,32 @@ if [ ${#as_user[@]} -eq 0 ] || "${as_user[@]}" "$rkt" --version >/dev/null 2>&1;
     expect 'a file that may not be read' 10 '' 'rkt: bundle fault' "${as_user[@]}" "$rkt" validate secret.json
 else
     skip 'a file that may not be read: root may read all, and there is no setpriv'
+fi
+
+# A file that another is moved over between its two pieces: what was opened is read to its end, and the next process reads
+# the other. The system lets the program wait two seconds behind its first read.
+long() {
+    printf '%s' "{$head,$(repeated ' ' 100000)\"name\":\"$1\"}"
+}
+replaced() {
+    local place=$PWD/long.json
+    long old >long.json
+    long new >new.json
+    timeout 60 strace -qq -o trace -P "$place" -e trace=pread64 -e inject=pread64:delay_exit=2000000:when=1 \
+        "$rkt" validate long.json >out 2>&1 </dev/null &
+    for _ in {1..500}; do
+        [ -z "$(find /proc/[0-9]*/fd -lname "$place" 2>/dev/null)" ] || break
+        sleep 0.01
+    done
+    mv new.json long.json
+    wait $!
+    same 'a file that is replaced is read to its end' 'valid ImageManifest old' "$(cat out)"
+    expect 'the other is read from its start' 0 'valid ImageManifest new' '' "$rkt" validate long.json
+}
+if command -v strace >/dev/null && strace -qq -o /dev/null true 2>/dev/null; then
+    replaced
+else
+    skip 'a file that is replaced: there is no strace, or it may not trace'
 fi
 
 # The words, the streams, and the data folder.

@@ -1,5 +1,6 @@
 //! Makes calls on the data folder, one a word or one a line of the standard input, and prints what each is
-//! answered: a program by which the directory of a host is tested. tests/host/directory.sh has its words.
+//! answered: a program by which the directory of a host is tested. tests/host/directory.sh has its words. What
+//! stands behind the word `finish` is asked of another directory, once the first has finished.
 #![tactic(auto)]
 
 mod calls;
@@ -12,10 +13,10 @@ ghost use Rattle.dir_model.specs.Paths.{is_path};
 ghost use Rattle.dir_model.specs.Local.{IsActive};
 
 use crate::calls::{lock, on_folder, on_inner};
-use crate::printed::{print_answer, print_items, print_names};
+use crate::printed::{print_answer, print_count, print_items, print_names};
 use crate::step::{Step, step_of};
 use anyhow::{Result, anyhow};
-use dir_host::{Outside, SetupError, assemble, read_words};
+use dir_host::{HostDir, Outside, SetupError, assemble, read_words};
 use dir_model::is_path;
 use dir_trait::{Dir, DirError, Draw, Intent, Kind, PodPrefix, Spot};
 use std::io::{Read, Write};
@@ -146,6 +147,7 @@ fn perform<D: Dir>(rt: &HostRuntime, dir: &mut D, step: &Step<'_>) -> Result<()>
 {
     match step {
         Step::Hold => hold(rt),
+        Step::Faults => print_count(rt, dir.faults()),
         Step::Lock {
             target,
             mode,
@@ -217,13 +219,34 @@ fn refused(_error: DirError) -> anyhow::Error {
     anyhow!("no begin")
 }
 
-fn main(rt: HostRuntime) -> Result<()> {
-    let calls = read_words(&rt).map_err(setup_fault)?;
-    let Outside { now, draw, mut dir } = assemble(&rt, process::id(rt.process())).map_err(
+/// Asks one directory, which has finished then and still stands.
+fn play<'a>(rt: &'a HostRuntime, calls: &[String]) -> Result<HostDir<&'a HostRuntime>> {
+    let Outside { now, draw, mut dir } = assemble(rt, process::id(rt.process())).map_err(
         setup_fault,
     )?;
     dir.begin(rt.alloc(), intent(now, &draw)).map_err(refused)?;
-    let done = perform_all(&rt, &mut dir, calls.as_slice());
+    let done = perform_all(rt, &mut dir, calls);
     dir.finish();
-    done
+    done?;
+    Ok(dir)
+}
+
+/// The calls before the word `finish`, and those behind it.
+fn parted(calls: &[String]) -> (&[String], &[String]) {
+    for place in 0..calls.len() {
+        if calls[place].as_str() == "finish" {
+            return (&calls[..place], &calls[place + 1..]);
+        }
+    }
+    (calls, &[])
+}
+
+fn main(rt: HostRuntime) -> Result<()> {
+    let calls = read_words(&rt).map_err(setup_fault)?;
+    let (first, second) = parted(calls.as_slice());
+    let _finished = play(&rt, first)?;
+    if !second.is_empty() {
+        play(&rt, second)?;
+    }
+    Ok(())
 }

@@ -10,6 +10,12 @@ pub fn print_answer(rt: &HostRuntime, answer: result::Result<(), DirError>) -> R
     Ok(())
 }
 
+/// A line for a number.
+pub fn print_count(rt: &HostRuntime, count: u64) -> Result<()> {
+    println!(rt; "{count}")?;
+    Ok(())
+}
+
 /// A line for each name, and then one for the answer.
 pub fn print_names(rt: &HostRuntime, names: result::Result<Names, DirError>) -> Result<()> {
     match names {

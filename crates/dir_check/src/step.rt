@@ -8,6 +8,8 @@ use dir_trait::{Area, Mode, Spot, Target};
 pub enum Step<'a> {
     /// Waits until the standard input ends.
     Hold,
+    /// Tells how many calls have failed.
+    Faults,
     /// Opens and asks for the lock. The handle stays open, or is closed at once.
     Lock {
         target: Target,
@@ -122,7 +124,8 @@ fn long_step<'a>(words: [&'a str; 5]) -> Option<Step<'a>> {
 /// The call that the words name.
 pub fn step_of<'a>(words: &[&'a str]) -> Option<Step<'a>> {
     match words {
-        [_] => Some(Step::Hold),
+        ["hold"] => Some(Step::Hold),
+        ["faults"] => Some(Step::Faults),
         [verb, area] => area_step(verb, area),
         [verb, area, name] => Some(Step::OnFolder {
             call: folder_call(verb)?,
