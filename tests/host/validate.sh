@@ -220,18 +220,20 @@ else
 fi
 
 # A file that another is moved over between its two pieces: what was opened is read to its end, and the next process reads
-# the other. The system lets the program wait two seconds behind its first read.
+# the other. The system lets the program wait five seconds behind its first read.
 long() {
     printf '%s' "{$head,$(repeated ' ' 100000)\"name\":\"$1\"}"
 }
 replaced() {
-    local place=$PWD/long.json
+    local place=$PWD/long.json pid
     long old >long.json
     long new >new.json
-    timeout 60 strace -qq -o trace -P "$place" -e trace=pread64 -e inject=pread64:delay_exit=2000000:when=1 \
+    timeout 60 strace -qq -o trace -P "$place" -e trace=pread64 -e inject=pread64:delay_exit=5000000:when=1 \
         "$rkt" validate long.json >out 2>&1 </dev/null &
     for _ in {1..500}; do
-        [ -z "$(find /proc/[0-9]*/fd -lname "$place" 2>/dev/null)" ] || break
+        for pid in $(pgrep -f "^$rkt validate long.json\$"); do
+            ! readlink "/proc/$pid/fd/"* 2>/dev/null | grep -qxF "$place" || break 2
+        done
         sleep 0.01
     done
     mv new.json long.json
