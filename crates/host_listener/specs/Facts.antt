@@ -19,6 +19,10 @@ abbrev pub TellsLinkFact : {A E : Type 0} → List LinkFact → (A → LinkFact)
 TellsLinkFact old fact (Ok value) new = new ≡ old ++ fact value ∷ []
 TellsLinkFact old fact (Err error) new = new ≡ old
 
+-- how many seconds a read and a write wait
+abbrev pub patience : ℕ
+patience = 10
+
 -- the connection was taken, and neither a read nor a write of it waits longer than so many seconds
 abbrev pub taken_for : ℕ → ℕ → List LinkFact
 taken_for seconds number = accepts number ∷ limits_reads number seconds ∷ limits_writes number seconds ∷ []

@@ -1,6 +1,6 @@
 // One connection of a network.
-ghost use Rattle.std.specs.Prelude.{◌≡◌, ◌<◌, ◌≤◌, ◌++◌, ◌∷◌, [], true, length, take, IfOk, option_map};
-ghost use Rattle.host_listener.specs.Facts.{accepts, receives, sends, taken_for, told_of_connection, TellsLinkFact};
+ghost use Rattle.std.specs.Prelude.{◌≡◌, ◌<◌, ◌≤◌, ◌++◌, ◌∷◌, [], true, false, Ok, length, take, is_some, IfOk, option_map};
+ghost use Rattle.host_listener.specs.Facts.{accepts, patience, receives, sends, taken_for, told_of_connection, TellsLinkFact};
 
 use crate::network::Network;
 use crate::refusals::{is_passing, refusal};
@@ -30,7 +30,7 @@ pub fn take_next<N: Network>(
     network: &mut N,
     listening: &N::Listening,
 ) -> Result<N::Stream, LinkError>
-    ensures { IfOk result (λ stream. N.observed ≡ true → N.facts network.new ≡ N.facts network.old ++ taken_for PATIENCE (N.number stream)) }
+    ensures { IfOk result (λ stream. N.observed ≡ true → N.facts network.new ≡ N.facts network.old ++ taken_for patience (N.number stream)) }
 {
     let stream = match accept_patiently(network, listening) {
         Ok(stream) => stream,
@@ -81,13 +81,14 @@ fn send_part<N: Network>(network: &mut N, stream: &mut N::Stream, piece: &[u8]) 
     Err(io::Error::from(ErrorKind::Interrupted))
 }
 
-/// Receives a part of what comes of the current connection, where there is one.
+/// Receives a part of what comes of the current connection, where there is one; else nothing.
 pub fn receive<N: Network>(
     network: &mut N,
     stream: &mut Option<N::Stream>,
     room: &mut [u8],
 ) -> Result<usize, LinkError>
     ensures most { IfOk result (λ n. n ≤ length room.new) }
+    ensures unconnected { is_some stream.old ≡ false → result ≡ Ok 0 }
     ensures same { option_map N.number stream.new ≡ option_map N.number stream.old }
     ensures recorded { IfOk result (λ n. N.observed ≡ true
         → N.facts network.new ≡ N.facts network.old ++ told_of_connection (option_map N.number stream.old) (λ number. receives number (take n room.new) ∷ [])) }
@@ -102,7 +103,7 @@ pub fn receive<N: Network>(
 }
 
 /// Sends a part of the piece, which isn't empty, to the current connection, where there is one: at least one
-/// byte.
+/// byte. Where there is none, it counts as sent.
 pub fn send<N: Network>(
     network: &mut N,
     stream: &mut Option<N::Stream>,
@@ -111,6 +112,7 @@ pub fn send<N: Network>(
     requires { 0 < length piece.now }
     ensures most { IfOk result (λ n. n ≤ length piece.now) }
     ensures some { IfOk result (λ n. 0 < n) }
+    ensures unconnected { is_some stream.old ≡ false → result ≡ Ok (length piece.now) }
     ensures same { option_map N.number stream.new ≡ option_map N.number stream.old }
     ensures recorded { IfOk result (λ n. N.observed ≡ true
         → N.facts network.new ≡ N.facts network.old ++ told_of_connection (option_map N.number stream.old) (λ number. sends number (take n piece.now) ∷ [])) }

@@ -1,8 +1,8 @@
 // The connections of a network are a `Listener`.
 ghost use Rattle.std.specs.Prelude.{◌≡◌, ◌++◌, true, IfOk};
-ghost use Rattle.host_listener.specs.Facts.{taken_for};
+ghost use Rattle.host_listener.specs.Facts.{patience, taken_for};
 
-use crate::connection::{PATIENCE, receive, send, take_next};
+use crate::connection::{receive, send, take_next};
 use crate::network::{HostNetwork, Network};
 use crate::refusals::{counted, refusal};
 use listener::{LinkError, Listener};
@@ -41,7 +41,7 @@ fn next_of<N: Network>(
     network: &mut N,
     listening: &Option<N::Listening>,
 ) -> Result<N::Stream, LinkError>
-    ensures { IfOk result (λ stream. N.observed ≡ true → N.facts network.new ≡ N.facts network.old ++ taken_for PATIENCE (N.number stream)) }
+    ensures { IfOk result (λ stream. N.observed ≡ true → N.facts network.new ≡ N.facts network.old ++ taken_for patience (N.number stream)) }
 {
     match listening {
         Some(listening) => take_next(network, listening),
@@ -50,10 +50,10 @@ fn next_of<N: Network>(
 }
 
 impl<N: Network + Drop> Listener for SystemListener<N> {
-    ghost use Rattle.std.specs.Prelude.{◌≡◌, ◌<◌, ◌≤◌, ◌++◌, ◌∷◌, true, false, [], None, length, take, is_some, option_map, IfOk, OnOk, OnErr, IsErrOf};
+    ghost use Rattle.std.specs.Prelude.{◌≡◌, ◌<◌, ◌≤◌, ◌++◌, ◌∷◌, true, false, Ok, [], None, length, take, is_some, option_map, IfOk, OnOk, OnErr, IsErrOf};
     ghost use Rattle.dir_model.specs.Causes.{Rose};
     ghost use Rattle.dir_host.specs.Counts.{Counts};
-    ghost use Rattle.host_listener.specs.Facts.{listens, receives, sends, taken_for, told_of_connection};
+    ghost use Rattle.host_listener.specs.Facts.{listens, patience, receives, sends, taken_for, told_of_connection};
 
     ghost observed = { false };
 
@@ -69,6 +69,7 @@ impl<N: Network + Drop> Listener for SystemListener<N> {
         ensures counts { Counts LinkError.Failed result self.old.faults self.new.faults }
         ensures listens { OnOk result (N.observed ≡ true → N.facts self.new.network ≡ N.facts self.old.network ++ listens address.now ∷ []) }
         ensures bound { OnOk result (is_some self.new.listening ≡ true) }
+        ensures unbound { OnErr result (self.new.listening ≡ self.old.listening) }
         ensures same { self.new.stream ≡ self.old.stream }
     {
         match self.network.listen(address) {
@@ -85,7 +86,7 @@ impl<N: Network + Drop> Listener for SystemListener<N> {
         ensures cause { IsErrOf result LinkError.Failed → Rose self.old.faults self.new.faults }
         ensures counts { Counts LinkError.Failed result self.old.faults self.new.faults }
         ensures taken { OnOk result (N.observed ≡ true
-            → N.facts self.new.network ≡ N.facts self.old.network ++ told_of_connection (option_map N.number self.new.stream) (taken_for PATIENCE)) }
+            → N.facts self.new.network ≡ N.facts self.old.network ++ told_of_connection (option_map N.number self.new.stream) (taken_for patience)) }
         ensures current { OnOk result (is_some self.new.stream ≡ true) }
         ensures refused { OnErr result (self.new.stream ≡ self.old.stream) }
     {
@@ -103,6 +104,7 @@ impl<N: Network + Drop> Listener for SystemListener<N> {
         ensures cause { IsErrOf result LinkError.Failed → Rose self.old.faults self.new.faults }
         ensures counts { Counts LinkError.Failed result self.old.faults self.new.faults }
         ensures most { IfOk result (λ n. n ≤ length room.old) }
+        ensures unconnected { is_some self.old.stream ≡ false → result ≡ Ok 0 }
         ensures received { IfOk result (λ n. N.observed ≡ true
             → N.facts self.new.network ≡ N.facts self.old.network ++ told_of_connection (option_map N.number self.old.stream) (λ number. receives number (take n room.new) ∷ [])) }
         ensures same { option_map N.number self.new.stream ≡ option_map N.number self.old.stream }
@@ -119,6 +121,7 @@ impl<N: Network + Drop> Listener for SystemListener<N> {
         ensures counts { Counts LinkError.Failed result self.old.faults self.new.faults }
         ensures most { IfOk result (λ n. n ≤ length piece.now) }
         ensures some { IfOk result (λ n. 0 < length piece.now → 0 < n) }
+        ensures unconnected { is_some self.old.stream ≡ false → result ≡ Ok (length piece.now) }
         ensures sent { IfOk result (λ n. 0 < length piece.now → N.observed ≡ true
             → N.facts self.new.network ≡ N.facts self.old.network ++ told_of_connection (option_map N.number self.old.stream) (λ number. sends number (take n piece.now) ∷ [])) }
         ensures same { option_map N.number self.new.stream ≡ option_map N.number self.old.stream }

@@ -1,5 +1,6 @@
 // What a network is asked for: one call of std each.
-ghost use Rattle.std.specs.Prelude.{◌≡◌, ◌≤◌, ℕ, List, Bool, true, length, take, IfOk};
+ghost use Rattle.std.specs.Prelude.{◌≡◌, ◌≤◌, ◌*◌, ℕ, List, Bool, true, length, take, IfOk};
+ghost use Rattle.std.specs.Duration.{as_nanos};
 ghost use Rattle.host_listener.specs.Facts.{LinkFact, listens, accepts, limits_reads, limits_writes, receives, sends, TellsLinkFact};
 
 use std::io;
@@ -68,6 +69,13 @@ impl<R: Net + Drop> HostNetwork<R> {
     }
 }
 
+// A wait of so many seconds.
+fn wait(seconds: u64) -> Duration
+    ensures { as_nanos result ≡ seconds * 1_000_000_000 }
+{
+    Duration::from_secs(seconds)
+}
+
 impl<R: Net + Drop> Network for HostNetwork<R> {
     ghost use Rattle.std.specs.Prelude.{false, []};
 
@@ -93,11 +101,11 @@ impl<R: Net + Drop> Network for HostNetwork<R> {
     }
 
     fn limit_reads(&mut self, stream: &R::Stream, seconds: u64) -> io::Result<()> {
-        stream.set_read_timeout(Some(Duration::from_secs(seconds)))
+        stream.set_read_timeout(Some(wait(seconds)))
     }
 
     fn limit_writes(&mut self, stream: &R::Stream, seconds: u64) -> io::Result<()> {
-        stream.set_write_timeout(Some(Duration::from_secs(seconds)))
+        stream.set_write_timeout(Some(wait(seconds)))
     }
 
     fn receive(&mut self, stream: &mut R::Stream, room: &mut [u8]) -> io::Result<usize> {

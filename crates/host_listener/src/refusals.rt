@@ -3,7 +3,7 @@ ghost use Rattle.std.specs.Prelude.{◌≡◌, ◌≤◌, ◌≢◌};
 ghost use Rattle.std.specs.IoError.{error_kind};
 ghost use Rattle.dir_model.specs.Causes.{Rose};
 ghost use Rattle.dir_host.specs.Counts.{CountsRefusal};
-ghost use Rattle.host_listener.specs.Refusals.{link_error};
+ghost use Rattle.host_listener.specs.Refusals.{link_error, is_passing};
 
 use listener::LinkError;
 use std::io;
@@ -20,7 +20,9 @@ pub fn refusal(error: io::Error) -> LinkError
 }
 
 /// Whether asking once more may help: a signal came between, or a peer gave up before it was taken.
-pub fn is_passing(error: &io::Error) -> bool {
+pub fn is_passing(error: &io::Error) -> bool
+    ensures { result ≡ is_passing (error_kind error.now) }
+{
     match error.kind() {
         ErrorKind::Interrupted | ErrorKind::ConnectionAborted => true,
         _ => false,
