@@ -184,6 +184,8 @@ for image in base lib reduce-worker; do
 done
 whole=0
 for n in $(seq 50); do
+    # What is killed before it has opened the file leaves what stands there.
+    : >"$tmp/line"
     "$rkt" prepare example.com/reduce-worker >"$tmp/line" 2>&1 &
     prepare=$!
     sleep "0.0$(printf '%02d' $((RANDOM % 90)))"
