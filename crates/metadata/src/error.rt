@@ -22,6 +22,7 @@ pub enum MetaError {
 
 pub(crate) fn read_fault(error: ReadError) -> MetaError
     ensures fault { result ≡ MetaError.DirFault → error ≡ ReadError.DirFault }
+    ensures memory { result ≡ MetaError.NoMemory → error ≡ ReadError.NoMemory }
     ensures link { result ≡ MetaError.LinkFault → ⊥ }
 {
     match error {
@@ -33,6 +34,7 @@ pub(crate) fn read_fault(error: ReadError) -> MetaError
 pub(crate) fn look_fault(error: LookError) -> MetaError
     requires { IsLookFault error }
     ensures fault { result ≡ MetaError.DirFault → error ≡ LookError.DirFault }
+    ensures memory { result ≡ MetaError.NoMemory → error ≡ LookError.NoMemory }
     ensures link { result ≡ MetaError.LinkFault → ⊥ }
 {
     match error {
@@ -45,6 +47,7 @@ pub(crate) fn look_fault(error: LookError) -> MetaError
 pub(crate) fn list_fault(error: DirError) -> MetaError
     requires { is_fault error ≡ true }
     ensures fault { result ≡ MetaError.DirFault → error ≡ DirError.Failed }
+    ensures memory { result ≡ MetaError.NoMemory → error ≡ DirError.NoMemory }
     ensures link { result ≡ MetaError.LinkFault → ⊥ }
 {
     match error {
@@ -56,6 +59,7 @@ pub(crate) fn list_fault(error: DirError) -> MetaError
 
 pub(crate) fn link_fault(error: LinkError) -> MetaError
     ensures fault { result ≡ MetaError.LinkFault → error ≡ LinkError.Failed }
+    ensures memory { result ≡ MetaError.NoMemory → error ≡ LinkError.NoMemory }
     ensures dir { result ≡ MetaError.DirFault → ⊥ }
     ensures refused { IsRefusedLink (Err result) }
 {
