@@ -59,6 +59,8 @@ AFTER_RM = {"aborted prepare": {"garbage", GONE}, "prepared": {"garbage", GONE},
 AFTER_GC = {"embryo": {"garbage", GONE}, "aborted prepare": {"garbage", GONE}, "exited": {"exited garbage"},
             "garbage": {GONE}}
 AFTER_GC_OLD = {"prepared": {"garbage", GONE}, "exited garbage": {GONE}}
+# Over no time at all a pod that is marked is deleted by the same sweep.
+AFTER_GC_AT_ONCE = {"exited": {GONE}}
 # What a command may leave of a pod that it makes.
 NEW = {"prepare": {"embryo", "aborted prepare", "prepared"}, "run": {"embryo", "aborted prepare", "exited"}}
 
@@ -228,14 +230,15 @@ class Bundles:
         self.digests[key] = wholeness.digest_of_bundle(folder)
 
 
-def may_follow(command, target, pod, phase, old):
+def may_follow(command, target, pod, phase, old, at_once):
     """The phases in which a command may leave a pod that it met in a phase."""
     if command == "run-prepared" and pod == target:
         return {phase, "exited"} if phase == "prepared" else {phase}
     if command == "rm" and pod == target:
         return {phase} | AFTER_RM.get(phase, set())
     if command == "gc":
-        return {phase} | AFTER_GC.get(phase, set()) | (AFTER_GC_OLD.get(phase, set()) if old else set())
+        soon = AFTER_GC_AT_ONCE.get(phase, set()) if at_once else set()
+        return {phase} | AFTER_GC.get(phase, set()) | (AFTER_GC_OLD.get(phase, set()) if old else set()) | soon
     return {phase}
 
 
@@ -293,7 +296,7 @@ class Trial:
     def judge_pods(self, phases):
         for pod, before in self.phases.items():
             after = phases.get(pod, GONE)
-            allowed = may_follow(self.command, self.target, pod, before, pod in self.old)
+            allowed = may_follow(self.command, self.target, pod, before, pod in self.old, NO_TIME[0] in self.words)
             self.check(after in allowed, "the phase of a pod", f"{pod}: {before}, then {after}")
             if after == "prepared":
                 faults = wholeness.faults_of_pod(f"{self.world.area('prepared')}/{pod}")
