@@ -10,6 +10,7 @@ use Rattle.tree_digest.specs.declared.line.ListingLine.{ListingLine}
 use Rattle.tree_digest.specs.Listings.{listing_text, Fails}
 use Rattle.bundle_image.specs.declared.refusal.BundleRefusal.{BundleRefusal}
 use Rattle.bundle_image.specs.declared.refusal.BundleRefusal.TheVariants.{NoFile, Manifest, Id, Listing}
+use Rattle.tree_digest.specs.ListingSize.{most_of_tree}
 
 -- the bytes of the bundle's file of that name
 abbrev pub bundle_file_at : BundleTree → List ℕ → List ℕ → Option (List ℕ)
@@ -74,10 +75,6 @@ FailsId tree path refusal =
 
 abbrev pub BundleHasId : BundleTree → List ℕ → Type 0
 BundleHasId tree path = (id : List ℕ) × BundleGivesId tree path id
-
--- so much of a file tells whether it is longer than a listing may be
-abbrev pub most_of_tree : ℕ
-most_of_tree = 33554433
 
 -- the listing of the file `tree`, if there is one
 abbrev pub BundleGivesTree : BundleTree → List ℕ → Option (List ListingLine) → Type 0

@@ -20,10 +20,10 @@ use Rattle.folder_contents.proofs.Spots.{in_area, one_location}
 use Rattle.image_reading.specs.Places.{image_spot}
 use Rattle.image_removal.specs.Requests.{away_spot, removes_at, sweeps_store}
 use Rattle.image_store.specs.Requests.{building_spot, imports_at}
-use Rattle.phase_read.specs.Read.{is_pod_spot, pod_spot}
+use Rattle.dir_model.specs.Spots.{pod_spot}
+use Rattle.phase_read.specs.Read.{is_pod_spot}
 use Rattle.pod_locks.specs.ClaimRequests.{in_prepared, in_run}
 use Rattle.pod_gc.specs.Requests.{sweeps as sweeps_pods}
-use Rattle.pod_build.specs.MakingRequests.{pod_at}
 use Rattle.pod_gc.specs.RemovalRequests.{removes}
 use Rattle.commands.specs.ImageGc.{is_swept_place}
 use Rattle.commands.specs.ImageList.{lists_images}
@@ -121,17 +121,17 @@ pub prepare_changes : (draw : PodId) → ChangesAt (is_making_spot draw) (prepar
 prepare_changes draw = record { moves = λ from to h. moved from to h; removes = λ spot h. let clash : false ≡ true = h in cc; fills = filled }
   where
     moved : (from to : Spot) → prepares_pod draw (MoveFolder from to) ≡ true → is_making_spot draw from ≡ true
-    moved from to h = by (spot_eq from (pod_at area.Embryo draw)) (spot_eq to (pod_at area.Prepare draw)) (spot_eq from (pod_at area.Prepare draw)) (spot_eq to (pod_at area.Prepared draw)) (spot_eq from (pod_at area.Prepared draw)) h
+    moved from to h = by (spot_eq from (pod_spot draw area.Embryo)) (spot_eq to (pod_spot draw area.Prepare)) (spot_eq from (pod_spot draw area.Prepare)) (spot_eq to (pod_spot draw area.Prepared)) (spot_eq from (pod_spot draw area.Prepared)) h
       where
         by : (a b c d e : Bool) → (((a && b) || ((c && d) || false)) || false) ≡ true → (a || (c || e)) ≡ true
         by true b c d e h = refl
         by false b true d e h = refl
         by false b false d e h = cc
 
-    there : (spot place : Spot) → ◌≡◌ {A = Option Spot} (Some spot) (Some place) → ((spot_eq spot (pod_at area.Prepare draw) || false) || false) ≡ true → is_making_spot draw place ≡ true
+    there : (spot place : Spot) → ◌≡◌ {A = Option Spot} (Some spot) (Some place) → ((spot_eq spot (pod_spot draw area.Prepare) || false) || false) ≡ true → is_making_spot draw place ≡ true
     there spot place is h =
-        at_spot (is_making_spot draw) spot place is (or_last (spot_eq spot (pod_at area.Embryo draw)) (spot_eq spot (pod_at area.Prepare draw) || spot_eq spot (pod_at area.Prepared draw))
-        (or_left (spot_eq spot (pod_at area.Prepare draw)) (spot_eq spot (pod_at area.Prepared draw)) (or_nothing _ (or_nothing _ h))))
+        at_spot (is_making_spot draw) spot place is (or_last (spot_eq spot (pod_spot draw area.Embryo)) (spot_eq spot (pod_spot draw area.Prepare) || spot_eq spot (pod_spot draw area.Prepared))
+        (or_left (spot_eq spot (pod_spot draw area.Prepare)) (spot_eq spot (pod_spot draw area.Prepared)) (or_nothing _ (or_nothing _ h))))
 
     filled : (request : Request) (spot : Spot) → changed_in request ≡ Some spot → prepares_pod draw request ≡ true → is_making_spot draw spot ≡ true
     filled (MakeDirIn i) spot is h = there i.spot spot is h
@@ -168,17 +168,17 @@ run_changes draw = record { moves = λ from to h. moved from to h; removes = λ 
     or_parts false b true d h = inr refl
     or_parts false b false d h = cc
 
-    place : (from : Spot) → (spot_eq from (pod_at area.Embryo draw) ≡ true) ⊎ (spot_eq from (pod_at area.Prepare draw) ≡ true) → is_pod_spot draw from ≡ true
-    place from (inl x) = its_place draw area.Embryo from refl (one_location from (pod_at area.Embryo draw) x)
-    place from (inr x) = its_place draw area.Prepare from refl (one_location from (pod_at area.Prepare draw) x)
+    place : (from : Spot) → (spot_eq from (pod_spot draw area.Embryo) ≡ true) ⊎ (spot_eq from (pod_spot draw area.Prepare) ≡ true) → is_pod_spot draw from ≡ true
+    place from (inl x) = its_place draw area.Embryo from refl (one_location from (pod_spot draw area.Embryo) x)
+    place from (inr x) = its_place draw area.Prepare from refl (one_location from (pod_spot draw area.Prepare) x)
 
     moved : (from to : Spot) → makes_and_runs draw (MoveFolder from to) ≡ true → is_pod_spot draw from ≡ true
-    moved from to h = place from (or_parts (spot_eq from (pod_at area.Embryo draw)) (spot_eq to (pod_at area.Prepare draw)) (spot_eq from (pod_at area.Prepare draw)) (spot_eq to (pod_at area.Run draw)) h)
+    moved from to h = place from (or_parts (spot_eq from (pod_spot draw area.Embryo)) (spot_eq to (pod_spot draw area.Prepare)) (spot_eq from (pod_spot draw area.Prepare)) (spot_eq to (pod_spot draw area.Run)) h)
 
-    made : (spot place : Spot) → ◌≡◌ {A = Option Spot} (Some spot) (Some place) → spot_eq spot (pod_at area.Prepare draw) ≡ true → is_pod_spot draw place ≡ true
-    made spot place is h = at_spot (is_pod_spot draw) spot place is (its_place draw area.Prepare spot refl (one_location spot (pod_at area.Prepare draw) h))
+    made : (spot place : Spot) → ◌≡◌ {A = Option Spot} (Some spot) (Some place) → spot_eq spot (pod_spot draw area.Prepare) ≡ true → is_pod_spot draw place ≡ true
+    made spot place is h = at_spot (is_pod_spot draw) spot place is (its_place draw area.Prepare spot refl (one_location spot (pod_spot draw area.Prepare) h))
 
-    noted : (spot place : Spot) → ◌≡◌ {A = Option Spot} (Some spot) (Some place) → (spot_eq spot (pod_at area.Prepare draw) ≡ true) ⊎ (spot_eq spot (in_run draw) ≡ true) → is_pod_spot draw place ≡ true
+    noted : (spot place : Spot) → ◌≡◌ {A = Option Spot} (Some spot) (Some place) → (spot_eq spot (pod_spot draw area.Prepare) ≡ true) ⊎ (spot_eq spot (in_run draw) ≡ true) → is_pod_spot draw place ≡ true
     noted spot place is (inl x) = made spot place is x
     noted spot place is (inr x) = at_spot (is_pod_spot draw) spot place is (its_place draw area.Run spot refl (one_location spot (in_run draw) x))
 
@@ -188,8 +188,8 @@ run_changes draw = record { moves = λ from to h. moved from to h; removes = λ 
 
     filled : (request : Request) (spot : Spot) → changed_in request ≡ Some spot → makes_and_runs draw request ≡ true → is_pod_spot draw spot ≡ true
     filled (MakeDirIn i) spot is h = made i.spot spot is (or_nothing _ (or_nothing _ h))
-    filled (MakeFileIn i) spot is h = noted i.spot spot is (either_of (spot_eq i.spot (pod_at area.Prepare draw)) (spot_eq i.spot (in_run draw)) h)
-    filled (AppendIn i piece) spot is h = noted i.spot spot is (either_of (spot_eq i.spot (pod_at area.Prepare draw)) (spot_eq i.spot (in_run draw)) h)
+    filled (MakeFileIn i) spot is h = noted i.spot spot is (either_of (spot_eq i.spot (pod_spot draw area.Prepare)) (spot_eq i.spot (in_run draw)) h)
+    filled (AppendIn i piece) spot is h = noted i.spot spot is (either_of (spot_eq i.spot (pod_spot draw area.Prepare)) (spot_eq i.spot (in_run draw)) h)
     filled (RemoveFileIn i) spot is h = cc
     filled (RemoveDirIn i) spot is h = cc
     filled request spot is h = cc

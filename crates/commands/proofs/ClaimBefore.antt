@@ -34,7 +34,7 @@ use Rattle.lifecycle.specs.Executions.{IsConforming}
 use Rattle.lifecycle.proofs.Phases.{stands_exists}
 use Rattle.lifecycle.proofs.Stays.{machine_append}
 use Rattle.phase_read.specs.Exact.{AtOwnEvent, IsNowhere}
-use Rattle.phase_read.specs.Read.{pod_spot}
+use Rattle.dir_model.specs.Spots.{pod_spot}
 use Rattle.pod_locks.specs.ClaimCauses.{IsPreparedWithoutManifest, PreparedHeldByAnother, WasWrongToClaim, is_lock}
 use Rattle.pod_locks.specs.Elsewhere.{is_owned_phase, IsOwnedElsewhere}
 use Rattle.pod_locks.specs.ClaimRequests.{in_prepared}

@@ -96,7 +96,7 @@ unclaimed_worked pod w = record { same = w.same; faults = w.faults; local = w.lo
 
 -- it keeps the local rules
 abbrev looked_at : Intent → List Spot → Seen
-looked_at intent free = record (seen_at_begin intent) { standing = record (seen_at_begin intent).standing { looked = free ++ (seen_at_begin intent).standing.looked } }
+looked_at intent free = record (seen_at_begin intent) { standing = record (seen_at_begin intent).standing { seen_unowned = free ++ (seen_at_begin intent).standing.seen_unowned } }
 
 fresh_at : (pod : PodId) (own : Handle) (intent : Intent) (free : List Spot) → RunsWithoutNotes pod (with_pod pod own (looked_at intent free))
 fresh_at pod own intent free = record { runs_it = runs_pod pod own (looked_at intent free); spares_it = never_deletes _; none = refl }

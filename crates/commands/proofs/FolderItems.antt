@@ -27,7 +27,7 @@ use Rattle.dir_laws.specs.Stretches.{Throughout, Sometime}
 use Rattle.dir_files.specs.Listed.{Stretch, ShowsInside, ShowsDirectory}
 use Rattle.gate_reading.proofs.PlainPaths.{plain_own}
 use Rattle.lifecycle.proofs.Numbers.{one_spot}
-use Rattle.phase_read.specs.Read.{pod_spot}
+use Rattle.dir_model.specs.Spots.{pod_spot}
 use Rattle.pod_locks.specs.Work.{Grew}
 use Rattle.pod_gc.specs.Ages.{moment_among}
 use Rattle.pod_gc.specs.Requests.{lists_marks}

@@ -24,7 +24,7 @@ use Rattle.dir_files.specs.AreaLocks.{is_taking_area, closes}
 use Rattle.lifecycle.specs.Executions.{IsConforming}
 use Rattle.lifecycle.proofs.Draws.{conforming_left}
 use Rattle.lifecycle.proofs.Stays.{one_folder}
-use Rattle.phase_read.specs.Read.{pod_spot}
+use Rattle.dir_model.specs.Spots.{pod_spot}
 use Rattle.pod_locks.specs.Work.{Grew}
 use Rattle.pod_locks.proofs.Traces.{grown_none, grown_more, grown_by}
 use Rattle.pod_gc.specs.declared.ages.Times.{Times}

@@ -19,7 +19,7 @@ use Rattle.dir_model.proofs.Spots.{spot_self}
 use Rattle.lifecycle.specs.Executions.{IsConforming}
 use Rattle.lifecycle.proofs.Places.{none_stands, moved_there}
 use Rattle.lifecycle.proofs.Step.{stands_from}
-use Rattle.phase_read.specs.Read.{pod_spot}
+use Rattle.dir_model.specs.Spots.{pod_spot}
 use Rattle.pod_locks.specs.Work.{Grew}
 use Rattle.pod_locks.proofs.Traces.{grown_more}
 use Rattle.pod_locks.specs.Causes.{Did}

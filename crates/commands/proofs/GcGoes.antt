@@ -24,7 +24,7 @@ use Rattle.dir_model.specs.Trace.{moved, state_after, namespace_replied}
 use Rattle.dir_model.proofs.Lists.{and_right, all_both, all_weaker}
 use Rattle.lifecycle.specs.Executions.{IsConforming}
 use Rattle.lifecycle.proofs.Places.{spot_turn}
-use Rattle.phase_read.specs.Read.{pod_spot}
+use Rattle.dir_model.specs.Spots.{pod_spot}
 use Rattle.pod_locks.specs.Work.{Grew}
 use Rattle.pod_locks.proofs.Traces.{grown_none, grown_more, grown_by, grown_call}
 use Rattle.pod_locks.specs.Causes.{Did}

@@ -22,7 +22,7 @@ use Rattle.dir_model.specs.Trees.{has_file}
 use Rattle.dir_model.proofs.Lists.{any_fewer}
 use Rattle.dir_model.proofs.Moments.{at_grown, at_weaker}
 use Rattle.lifecycle.specs.Executions.{IsConforming}
-use Rattle.phase_read.specs.Read.{pod_spot}
+use Rattle.dir_model.specs.Spots.{pod_spot}
 use Rattle.pod_locks.specs.ClaimCauses.{is_lock}
 use Rattle.pod_locks.specs.Work.{Grew}
 use Rattle.pod_locks.proofs.Times.{at_part}

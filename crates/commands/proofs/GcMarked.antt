@@ -24,7 +24,7 @@ use Rattle.dir_model.proofs.Lists.{all_both, all_weaker}
 use Rattle.dir_model.proofs.Moments.{some_number}
 use Rattle.dir_rules.specs.Marks.{marked_mark}
 use Rattle.lifecycle.specs.Executions.{IsConforming}
-use Rattle.phase_read.specs.Read.{pod_spot}
+use Rattle.dir_model.specs.Spots.{pod_spot}
 use Rattle.pod_locks.specs.Work.{Grew}
 use Rattle.pod_locks.proofs.Traces.{grown_more, grown_by}
 use Rattle.pod_gc.specs.RemovalCauses.{MarkedFirst}

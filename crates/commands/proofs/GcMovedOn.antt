@@ -16,7 +16,7 @@ use Rattle.dir_model.specs.Trace.{state_after}
 use Rattle.dir_model.proofs.Lists.{and_left, and_right}
 use Rattle.dir_rules.specs.Standing.{is_in}
 use Rattle.lifecycle.specs.Executions.{IsConforming}
-use Rattle.phase_read.specs.Read.{pod_spot}
+use Rattle.dir_model.specs.Spots.{pod_spot}
 use Rattle.pod_locks.specs.Work.{Grew}
 use Rattle.pod_gc.specs.RemovalRequests.{is_garbage_place}
 use Rattle.pod_gc.specs.declared.ages.Times.{Times}

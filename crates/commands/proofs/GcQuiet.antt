@@ -39,7 +39,7 @@ use Rattle.lifecycle.specs.Executions.{IsConforming}
 use Rattle.lifecycle.proofs.Draws.{conforming_left}
 use Rattle.lifecycle.proofs.Step.{stands_from}
 use Rattle.lifecycle.proofs.Places.{none_stands, moved_away, moved_elsewhere, removed_there, removed_elsewhere}
-use Rattle.phase_read.specs.Read.{pod_spot}
+use Rattle.dir_model.specs.Spots.{pod_spot}
 use Rattle.phase_read.proofs.Exact.{event_within}
 use Rattle.pod_locks.specs.Work.{Grew}
 use Rattle.pod_locks.proofs.Times.{at_part}

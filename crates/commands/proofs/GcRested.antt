@@ -23,7 +23,7 @@ use Rattle.lifecycle.specs.Executions.{IsConforming}
 use Rattle.lifecycle.proofs.Draws.{conforming_left}
 use Rattle.lifecycle.proofs.Phases.{stands_exists}
 use Rattle.phase_read.specs.Exact.{AtOwnEvent, IsInPhase}
-use Rattle.phase_read.specs.Read.{pod_spot}
+use Rattle.dir_model.specs.Spots.{pod_spot}
 use Rattle.phase_read.proofs.Exact.{event_within}
 use Rattle.metadata.proofs.Views.{event_so}
 use Rattle.pod_locks.specs.Work.{Grew}

@@ -9,7 +9,7 @@ use Rattle.dir_model.specs.Calls.{Extends}
 use Rattle.dir_model.specs.Quiet.{Quiet}
 use Rattle.dir_model.specs.State.{stands}
 use Rattle.dir_model.specs.Trace.{state_after}
-use Rattle.phase_read.specs.Read.{pod_spot}
+use Rattle.dir_model.specs.Spots.{pod_spot}
 use Rattle.pod_locks.specs.Work.{Grew}
 use Rattle.pod_locks.proofs.Traces.{grown_more, grown_by}
 use Rattle.pod_gc.specs.declared.ages.Times.{Times}

@@ -18,7 +18,7 @@ use Rattle.dir_model.specs.Trees.{has_file}
 use Rattle.dir_model.proofs.Moments.{some_number}
 use Rattle.dir_rules.specs.Standing.{is_in}
 use Rattle.lifecycle.specs.Executions.{IsConforming}
-use Rattle.phase_read.specs.Read.{pod_spot}
+use Rattle.dir_model.specs.Spots.{pod_spot}
 use Rattle.pod_locks.specs.Work.{Grew}
 use Rattle.pod_gc.specs.RemovalRequests.{is_garbage_place}
 use Rattle.pod_gc.specs.declared.ages.Times.{Times}

@@ -31,7 +31,7 @@ use Rattle.lifecycle.specs.Executions.{IsConforming}
 use Rattle.lifecycle.proofs.Draws.{conforming_left}
 use Rattle.lifecycle.proofs.Places.{moved_elsewhere, removed_elsewhere}
 use Rattle.lifecycle.proofs.Stays.{one_folder}
-use Rattle.phase_read.specs.Read.{pod_spot}
+use Rattle.dir_model.specs.Spots.{pod_spot}
 use Rattle.pod_locks.specs.Work.{Grew}
 use Rattle.pod_locks.proofs.Times.{at_part}
 use Rattle.pod_locks.proofs.Traces.{grown_none, grown_more, grown_by}

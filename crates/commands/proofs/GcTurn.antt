@@ -22,7 +22,7 @@ use Rattle.dir_model.specs.State.{DirState, empty_state, stands}
 use Rattle.dir_model.specs.Trace.{state_after, state_next, states_next, namespace_replied}
 use Rattle.dir_model.proofs.Chains.{states_next-append}
 use Rattle.dir_model.proofs.Lists.{or_last, all_left, all_right, same_rest}
-use Rattle.phase_read.specs.Read.{pod_spot}
+use Rattle.dir_model.specs.Spots.{pod_spot}
 use Rattle.pod_locks.specs.Work.{Grew}
 use Rattle.pod_locks.proofs.Traces.{grown_none, grown_more, grown_by}
 use Rattle.pod_locks.specs.Taking.{takes_away, TookNothing}

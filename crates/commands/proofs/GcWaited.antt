@@ -21,7 +21,7 @@ use Rattle.dir_model.specs.Trace.{state_after, state_next}
 use Rattle.dir_model.specs.Trees.{items_in}
 use Rattle.dir_model.proofs.Lists.{and_left, all_weaker}
 use Rattle.dir_rules.specs.Standing.{is_in}
-use Rattle.phase_read.specs.Read.{pod_spot}
+use Rattle.dir_model.specs.Spots.{pod_spot}
 use Rattle.pod_locks.specs.Work.{Grew}
 use Rattle.pod_locks.proofs.Traces.{grown_more}
 use Rattle.pod_locks.specs.Causes.{IsAbsentAt}

@@ -19,7 +19,7 @@ use Rattle.dir_model.specs.Quiet.{Quiet}
 use Rattle.dir_model.specs.State.{Namespace, DirState, is_at, spot_eq, folder_at}
 use Rattle.dir_model.specs.Trace.{state_after, namespace_replied, moved, removed}
 use Rattle.dir_model.proofs.Moments.{at_grown, at_weaker}
-use Rattle.phase_read.specs.Read.{pod_spot}
+use Rattle.dir_model.specs.Spots.{pod_spot}
 use Rattle.pod_locks.specs.ClaimCauses.{is_lock}
 use Rattle.pod_locks.specs.Work.{Grew}
 use Rattle.pod_locks.proofs.Times.{at_part}

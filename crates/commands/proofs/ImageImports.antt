@@ -175,7 +175,7 @@ module _ (observed : Bool) (a b : DirAt) where
   import_keeps source draw now (Ok done) left intent is k = let l = left intent [] is refl (at_begin intent k) in leaves_keeps draw now l.0 intent [] (Ok done.there) l.2
   import_keeps source draw now (Err e) left intent is k =
       let l = left intent [] is refl (at_begin intent k) in
-      record { known = seen_importing intent [] l.stored l.making; knows = record { tied = l.knows.tied; handles = l.knows.handles }; kept = refl }
+      record { known = seen_importing intent [] l.image_under_lock l.making; knows = record { tied = l.knows.tied; handles = l.knows.handles }; kept = refl }
 
   module _ (path : List ℕ) (now : ℕ) (draw : PodId) (before after : BundleSeen) where
     abbrev source : Source

@@ -16,7 +16,7 @@ use Rattle.dir_trait.specs.DirCalls.{DirAt, HeldBetween}
 use Rattle.manifests.specs.ImageData.{image_data}
 use Rattle.image_reading.specs.Within.{Within}
 use Rattle.image_reading.specs.Places.{image_inner, manifest_name, id_name, tree_name, IsImageAbsent, IsPresent}
-use Rattle.image_reading.specs.Files.{IsKeptOf, IsIdOf, IsListingOf, IsNoImageManifest, IsNoId, IsNoListing, LacksTree, most_of_manifest, most_of_id, most_of_tree}
+use Rattle.image_reading.specs.Files.{IsKeptOf, IsIdOf, IsListingOf, IsNoImageManifest, IsNoId, IsNoListing, LacksTree, most_of_id}
 use Rattle.image_reading.specs.Images as read
 use Rattle.image_reading.proofs.Values.{manifest_front, tree_front, no_tree_front}
 use Rattle.image_store.specs.Causes.{LacksThere, WasThere}
@@ -27,6 +27,8 @@ use Rattle.standing_images.proofs.Damages.{lacks_file, lacks_manifest, lacks_id,
 use Rattle.standing_images.proofs.OneDamage.{one_part}
 use Rattle.commands.specs.ImageImportTable.{IsAnyListing, HasListing, StandsWithDigest, IsDamagedAt, HasOneDigest, IsDamagedOnce}
 use Rattle.commands.proofs.Parts.{Part, held_wider, file_wider, lack_wider}
+use Rattle.manifests.specs.ManifestSize.{most_of_manifest}
+use Rattle.tree_digest.specs.ListingSize.{most_of_tree}
 
 -- one file stands at a path
 one_file : {key : StoreKey} {name : List ℕ} {P Q : List ℕ → Type 0} {s : DirState} (x : HasFile key name P s) (y : HasFile key name Q s) → x.bytes ≡ y.bytes

@@ -23,7 +23,7 @@ use Rattle.dir_model.proofs.Lists.{and_left, any_filter}
 use Rattle.dir_rules.specs.Standing.{is_garbage}
 use Rattle.lifecycle.proofs.Numbers.{one_spot}
 use Rattle.lifecycle.proofs.Places.{moved_away, moved_elsewhere, removed_there, removed_elsewhere}
-use Rattle.phase_read.specs.Read.{pod_spot}
+use Rattle.dir_model.specs.Spots.{pod_spot}
 use Rattle.commands.proofs.OwnSteps.{in_process, same_folders}
 use Rattle.commands.proofs.LateTurns.{Late}
 

@@ -26,7 +26,8 @@ use Rattle.lifecycle.specs.declared.machine.Transition.TheVariants as turn
 use Rattle.lifecycle.specs.PodMachine.{pod_state, after_transition, enabled, leads, transition_if, arrival, transition, undeleted}
 use Rattle.lifecycle.proofs.Makes.{of_same}
 use Rattle.phase_read.specs.Exact.{AtOwnEvent}
-use Rattle.phase_read.specs.Read.{pod_spot, is_pod_spot}
+use Rattle.dir_model.specs.Spots.{pod_spot}
+use Rattle.phase_read.specs.Read.{is_pod_spot}
 use Rattle.pod_gc.specs.RemovalRequests.{removes, goes_aside}
 use Rattle.pod_gc.specs.Requests.{sweeps}
 use Rattle.commands.specs.RemovalQuiet.{is_pods_place}

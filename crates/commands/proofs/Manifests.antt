@@ -16,7 +16,7 @@ use Rattle.dir_model.specs.Trace.{state_after, state_next}
 use Rattle.dir_model.specs.Trees.{is_dir, is_file_entry, has_file}
 use Rattle.dir_model.proofs.Lists.{and_left}
 use Rattle.dir_model.proofs.Moments.{at_weaker}
-use Rattle.phase_read.specs.Read.{pod_spot}
+use Rattle.dir_model.specs.Spots.{pod_spot}
 use Rattle.pod_locks.specs.Causes.{OpensAt}
 use Rattle.commands.proofs.OwnSteps.{in_process, back_at}
 use Rattle.commands.proofs.FolderItems.{changed, any_replied}

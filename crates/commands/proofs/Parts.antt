@@ -12,9 +12,10 @@ use Rattle.dir_trait.specs.DirCalls.{DirAt, HeldBetween}
 use Rattle.image_reading.specs.declared.error.StoreError.TheVariants.{Damaged}
 use Rattle.image_reading.specs.Within.{Within}
 use Rattle.image_reading.specs.Places.{image_inner, manifest_name, id_name, IsImageAbsent}
-use Rattle.image_reading.specs.Files.{ReadsFile, LacksFile, ShowsImportMarks, LacksMoment, IsNoImageManifest, IsNoId, most_of_manifest, most_of_id}
+use Rattle.image_reading.specs.Files.{ReadsFile, LacksFile, ShowsImportMarks, LacksMoment, IsNoImageManifest, IsNoId, most_of_id}
 use Rattle.image_reading.specs.Images.{ReadsImage, LacksImage}
 use Rattle.image_reading.specs.Store.{ReadsStore, LacksListed}
+use Rattle.manifests.specs.ManifestSize.{most_of_manifest}
 
 -- the time between the inner two moments is a part of that between the outer two
 pub record Part (old first last new : DirAt) : Type 0 where

@@ -39,7 +39,7 @@ use Rattle.lifecycle.proofs.Stays.{machine_append}
 use Rattle.pod_locks.specs.ClaimRequests.{in_run}
 use Rattle.phase_read.specs.declared.found.Found.{Found}
 use Rattle.phase_read.specs.declared.found.Found.TheVariants.{At, Gone}
-use Rattle.phase_read.specs.Read.{pod_spot}
+use Rattle.dir_model.specs.Spots.{pod_spot}
 use Rattle.phase_read.specs.Sequential.{sequential_read, found_in, or_in}
 use Rattle.commands.proofs.OwnSteps.{in_process, own_asked, same_folders}
 use Rattle.commands.proofs.RmBefore.{has_phase_now}

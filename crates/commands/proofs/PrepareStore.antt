@@ -15,7 +15,7 @@ use Rattle.dir_files.specs.declared.lock_error.LockError.TheVariants as lock
 use Rattle.folder_building.specs.declared.plan.PlanEntry.{PlanEntry}
 use Rattle.image_reading.specs.declared.error.StoreError.TheVariants as store
 use Rattle.image_reading.specs.Places.{image_inner, manifest_name}
-use Rattle.image_reading.specs.Files.{IsNoImageManifest, most_of_manifest}
+use Rattle.image_reading.specs.Files.{IsNoImageManifest}
 use Rattle.image_reading.specs.Store.{ReadsStore, LacksListed}
 use Rattle.pod_build.specs.declared.error.BuildError.{BuildError}
 use Rattle.pod_build.specs.declared.error.BuildError.TheVariants as build
@@ -69,6 +69,7 @@ use Rattle.dir_files.specs.AreaLocks.{IsBusyElsewhere, IsFreeElsewhere}
 use Rattle.command_outcomes.specs.declared.refusal.Refusal.TheVariants.{Busy}
 use Rattle.commands.specs.PrepareRefusals.{refusal_of_build}
 use Rattle.commands.proofs.OneRefusal.{CanMake, none_refuses, one_refusal}
+use Rattle.manifests.specs.ManifestSize.{most_of_manifest}
 
 part_of : {start end old new : DirAt} → IsStretchWithin start end old new → Part old start end new
 part_of p = record { earlier = p.before; later = p.after; same = p.same; begins = p.begins; ends = p.ends }

@@ -34,7 +34,7 @@ use Rattle.stage1.specs.declared.load_error.LoadError.{LoadError}
 use Rattle.stage1.specs.declared.load_error.LoadError.TheVariants as load
 use Rattle.stage1.specs.declared.start.AppStart.{AppStart}
 use Rattle.stage1.specs.LoadRefusals.{LoadCause}
-use Rattle.pod_build.specs.MakingRequests.{pod_at}
+use Rattle.dir_model.specs.Spots.{pod_spot}
 use Rattle.pod_manifest.specs.Wishes.{Wishes}
 use Rattle.stage1.specs.declared.end.AppEnd.{AppEnd}
 use Rattle.stage1.specs.declared.error.RunError.{RunError}
@@ -125,9 +125,9 @@ claim_spares pod (RemoveFileIn i) h = cc
 claim_spares pod (RemoveDirIn i) h = cc
 claim_spares pod r h = spares_none (run_spot pod) r refl
 
-off_run : (draw : PodId) (here spot : Spot) → ((spot_eq here (pod_at Prepare draw) || false) || false) ≡ true → ◌≡◌ {A = Option Spot} (Some here) (Some spot) → spot_eq (run_spot draw) spot ≡ false
+off_run : (draw : PodId) (here spot : Spot) → ((spot_eq here (pod_spot draw Prepare) || false) || false) ≡ true → ◌≡◌ {A = Option Spot} (Some here) (Some spot) → spot_eq (run_spot draw) spot ≡ false
 off_run draw here spot h is =
-    let at : here ≡ pod_at Prepare draw = one_location here (pod_at Prepare draw) (or_nothing (spot_eq here (pod_at Prepare draw)) (or_nothing (spot_eq here (pod_at Prepare draw) || false) h)) in
+    let at : here ≡ pod_spot draw Prepare = one_location here (pod_spot draw Prepare) (or_nothing (spot_eq here (pod_spot draw Prepare)) (or_nothing (spot_eq here (pod_spot draw Prepare) || false) h)) in
     let same : here ≡ spot = cc in
     subst (λ (x : Spot). spot_eq (run_spot draw) x ≡ false) (sym at ∙ same) refl
 
@@ -174,16 +174,16 @@ module _ (pod : PodId) (own : Handle) {me : ℕ} {old begun new : List Event} (c
 -- the folder of a pod that was made for its run
 module _ (draw : PodId) {refs : List ImageRef} {wishes : Wishes} {me : ℕ} {old new : List Event} (c to : DirAt) (mine : c.process ≡ me) (ext : Extends (in_process (makes_and_runs draw)) me old new) (quiet : Quiet me old new)
     (after : Grew c.trace to.trace) (finish : CallStep me to.trace Finish Done new) (early : Extends (since_begin (prepares draw Run)) me old c.trace) (y : IsPrepared refs wishes me draw Run old new) (tail : List Event)
-    (past : c.trace ≡ then_moved y.before me (pod_at Prepare draw) (pod_at Run draw) ++ tail) where
+    (past : c.trace ≡ then_moved y.before me (pod_spot draw Prepare) (pod_spot draw Run) ++ tail) where
   pub made_keeps : IsConforming new → KeepsHeld draw y.folder (entries_made y) c to
   made_keeps conforming d reads z goes =
-      let e = event me (MoveFolder (pod_at Prepare draw) (pod_at Run draw)) Done in
+      let e = event me (MoveFolder (pod_spot draw Prepare) (pod_spot draw Run)) Done in
       let mv : List Event = y.before ++ e ∷ [] in
       let u : List Event = y.meanwhile ++ e ∷ [] in
       let from : mv ≡ old ++ u = ap (λ (h : List Event). h ++ e ∷ []) y.begins ∙ append_assoc old y.meanwhile (e ∷ []) in
-      let was : folder_at (state_after y.before).namespace (pod_at Prepare draw) ≡ Some y.folder =
-      sym (moved_here draw (makes_and_runs draw) (run_leaves draw) me old new y.before y.later (pod_at Prepare draw) ext quiet y.meanwhile y.begins y.moved finish.run) ∙ y.stands in
-      let x = holds_moved draw me y.folder (entries_made y) (pod_at Prepare draw) y.before (conforms_before (record { more = e ∷ y.later; grown = y.moved }) conforming) refl was y.stands y.holds in
+      let was : folder_at (state_after y.before).namespace (pod_spot draw Prepare) ≡ Some y.folder =
+      sym (moved_here draw (makes_and_runs draw) (run_leaves draw) me old new y.before y.later (pod_spot draw Prepare) ext quiet y.meanwhile y.begins y.moved finish.run) ∙ y.stands in
+      let x = holds_moved draw me y.folder (entries_made y) (pod_spot draw Prepare) y.before (conforms_before (record { more = e ∷ y.later; grown = y.moved }) conforming) refl was y.stands y.holds in
       let end = grown_call finish in
       keeps_on draw (makes_and_runs draw) (prepares draw Run) (run_leaves draw) (prepare_spares draw) me old new ext quiet finish.run mv u from y.folder (entries_made y) x c tail mine past early d reads (z ++ end.more)
       (end.grown ∙ (ap (λ (h : List Event). h ++ end.more) goes ∙ append_assoc d.trace z end.more))

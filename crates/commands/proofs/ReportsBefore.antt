@@ -21,7 +21,7 @@ use Rattle.lifecycle.specs.Executions.{IsConforming}
 use Rattle.lifecycle.proofs.Draws.{conforming_left}
 use Rattle.phase_read.specs.declared.found.Found.{Found}
 use Rattle.phase_read.specs.declared.found.Found.TheVariants.{At, Gone}
-use Rattle.phase_read.specs.Read.{pod_spot}
+use Rattle.dir_model.specs.Spots.{pod_spot}
 use Rattle.phase_read.specs.Sequential.{found_in, or_in, sequential_read}
 use Rattle.pod_lookup.specs.Pods.{pod_names, pods_standing}
 use Rattle.pod_report.specs.declared.line.PodLine.{PodLine}

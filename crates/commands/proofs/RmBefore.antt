@@ -26,7 +26,8 @@ use Rattle.lifecycle.proofs.Phases.{exists_stands, phase_of_place}
 use Rattle.lifecycle.proofs.Stays.{one_folder}
 use Rattle.phase_read.specs.declared.found.Found.{Found}
 use Rattle.phase_read.specs.declared.found.Found.TheVariants.{At}
-use Rattle.phase_read.specs.Read.{pod_spot, is_pod_spot}
+use Rattle.dir_model.specs.Spots.{pod_spot}
+use Rattle.phase_read.specs.Read.{is_pod_spot}
 use Rattle.phase_read.specs.Sequential.{sequential_read, found_in}
 use Rattle.phase_read.specs.Exact.{AtOwnEvent}
 use Rattle.metadata.proofs.Views.{event_so}

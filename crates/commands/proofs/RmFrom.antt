@@ -36,7 +36,7 @@ use Rattle.lifecycle.proofs.Lists.{In}
 use Rattle.lifecycle.proofs.Phases.{exists_stands, stands_exists}
 use Rattle.lifecycle.proofs.Places.{moved_elsewhere, removed_elsewhere}
 use Rattle.lifecycle.proofs.Run.{good}
-use Rattle.phase_read.specs.Read.{pod_spot}
+use Rattle.dir_model.specs.Spots.{pod_spot}
 use Rattle.pod_locks.proofs.Traces.{grown_none}
 use Rattle.pod_gc.specs.RemovalRequests.{is_removable, removes}
 use Rattle.commands.specs.Opening.{OnceFound}

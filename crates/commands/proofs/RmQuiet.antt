@@ -31,7 +31,8 @@ use Rattle.lifecycle.specs.Executions.{IsConforming}
 use Rattle.lifecycle.proofs.Phases.{enabled_each, stands_exists}
 use Rattle.lifecycle.proofs.Stays.{machine_append}
 use Rattle.lifecycle.proofs.Looking.{existing, grows}
-use Rattle.phase_read.specs.Read.{pod_spot, is_pod_spot, stages, LeftOut, WasFound, IsFound}
+use Rattle.dir_model.specs.Spots.{pod_spot}
+use Rattle.phase_read.specs.Read.{is_pod_spot, stages, LeftOut, WasFound, IsFound}
 use Rattle.phase_read.proofs.InTurn.{left_out_grown}
 use Rattle.pod_locks.specs.Work.{Grew}
 use Rattle.pod_locks.proofs.Times.{at_part}

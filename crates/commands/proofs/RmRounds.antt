@@ -28,7 +28,8 @@ use Rattle.dir_model.proofs.Quiet.{look_is_harmless, end_quiet}
 use Rattle.lifecycle.specs.Executions.{IsConforming}
 use Rattle.phase_read.specs.declared.found.Found.{Found}
 use Rattle.phase_read.specs.declared.found.Found.TheVariants.{At, Gone}
-use Rattle.phase_read.specs.Read.{pod_spot, is_pod_spot}
+use Rattle.dir_model.specs.Spots.{pod_spot}
+use Rattle.phase_read.specs.Read.{is_pod_spot}
 use Rattle.phase_read.specs.Sequential.{sequential_read, or_in, found_in}
 use Rattle.phase_read.proofs.Quiet.{read_quiet}
 use Rattle.pod_locks.specs.Work.{Grew}

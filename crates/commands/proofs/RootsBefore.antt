@@ -10,7 +10,7 @@ use Rattle.dir_model.specs.State.{DirState}
 use Rattle.dir_model.specs.Trace.{state_after}
 use Rattle.dir_trait.specs.DirCalls.{DirAt}
 use Rattle.image_reading.specs.Places.{image_inner, tree_name}
-use Rattle.image_reading.specs.Files.{IsListingOf, IsNoListing, most_of_tree}
+use Rattle.image_reading.specs.Files.{IsListingOf, IsNoListing}
 use Rattle.image_reading.proofs.Values.{tree_front}
 use Rattle.path_map.specs.Entries.{Entries}
 use Rattle.pod_plan.specs.Readings.{KnowsTree}
@@ -26,6 +26,7 @@ use Rattle.commands.specs.PrepareTable.{HasEntries, HaveEntries, IsRootInStore, 
 use Rattle.commands.proofs.ImportStanding.{lacks_listing}
 use Rattle.commands.proofs.NodesStand.{comes_within, node_stands}
 use Rattle.commands.proofs.Parts.{Part, file_wider, lack_wider}
+use Rattle.tree_digest.specs.ListingSize.{most_of_tree}
 
 -- each number of a list is one that comes there
 each_of : (P : ℕ → Type 0) (xs : List ℕ) → ((n : ℕ) → 0 < count_in_list n xs → P n) → AllByRecursion P xs

@@ -7,7 +7,7 @@ use Rattle.dir_model.specs.declared.spot.Spot.{Spot}
 use Rattle.dir_model.specs.Quiet.{SameNamespace}
 use Rattle.dir_model.specs.State.{DirState, is_at, folder_at, stands, is_owned_in, is_owned_at}
 use Rattle.phase_read.specs.declared.found.Found.{Found}
-use Rattle.phase_read.specs.Read.{pod_spot}
+use Rattle.dir_model.specs.Spots.{pod_spot}
 use Rattle.phase_read.specs.Sequential.{or_in, sequential_read}
 
 module _ (me : ℕ) (s s' : DirState) (same : SameNamespace me s.namespace s'.namespace) where

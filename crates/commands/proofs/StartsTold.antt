@@ -22,7 +22,7 @@ use Rattle.dir_trait.specs.DirCalls.{DirAt}
 use Rattle.folder_contents.specs.Entries.{entries_in}
 use Rattle.folder_contents.proofs.Entries.{content_is}
 use Rattle.folder_contents.proofs.Names.{file_of}
-use Rattle.image_reading.specs.Files.{IsListingOf, IsNoListing, LacksFile, ReadsFile, most_of_manifest, most_of_tree}
+use Rattle.image_reading.specs.Files.{IsListingOf, IsNoListing, LacksFile, ReadsFile}
 use Rattle.image_reading.proofs.Values.{no_tree_front, tree_front}
 use Rattle.launch.specs.Launches.{IsLaunch, missing_word}
 use Rattle.launch.specs.declared.launch.AppLaunch.{AppLaunch}
@@ -46,6 +46,8 @@ use Rattle.tree_digest.specs.declared.line.ListingLine.{ListingLine}
 use Rattle.tree_digest.specs.Listings.{Fails, entries_of, listing_text}
 use Rattle.commands.specs.RunTable.{AreStartsOf, FirstMissing, FirstUnlisted, HasNoStarts, HoldsFile, HoldsListing, HoldsListings, HoldsManifest, HoldsToken, EntriesLackListing, EntriesLackManifest, EntriesLackToken, AreStartsOfApps, IsStartOfApp, file_in, tree_of_lines}
 use Rattle.commands.proofs.Parts.{Part, file_wider, lack_wider}
+use Rattle.manifests.specs.ManifestSize.{most_of_manifest}
+use Rattle.tree_digest.specs.ListingSize.{most_of_tree}
 
 -- the pod's folder stands in run with this number and holds this, and nothing of it is a started app's own
 pub record Holds (pod : PodId) (folder : ℕ) (es : List Entry) (s : DirState) : Type 0 where

@@ -16,7 +16,7 @@ use Rattle.dir_model.proofs.Chains.{states_next-append}
 use Rattle.dir_model.proofs.Lists.{and_left}
 use Rattle.dir_trait.specs.DirCalls.{DirAt}
 use Rattle.pod_build.specs.Preparations.{IsPrepared}
-use Rattle.pod_build.specs.MakingRequests.{pod_at}
+use Rattle.dir_model.specs.Spots.{pod_spot}
 use Rattle.pod_manifest.specs.Wishes.{Wishes}
 use Rattle.standing_images.specs.Images.{AreStore, ImagesStay}
 use Rattle.standing_images.proofs.Before.{store_before}
@@ -74,4 +74,4 @@ module _ {refs : List ImageRef} {wishes : Wishes} {draw : PodId} {to : Area} (ol
   }) x.faithful.images x.faithful.listed)
     where
       ending : List Event
-      ending = event old.process (MoveFolder (pod_at Prepare draw) (pod_at to draw)) Done ∷ x.later
+      ending = event old.process (MoveFolder (pod_spot draw Prepare) (pod_spot draw to)) Done ∷ x.later

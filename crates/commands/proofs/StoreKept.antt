@@ -24,7 +24,7 @@ use Rattle.folder_contents.proofs.Places.{located}
 use Rattle.folder_contents.proofs.Spots.{one_location}
 use Rattle.lifecycle.proofs.Places.{made_elsewhere, moved_elsewhere, removed_elsewhere}
 use Rattle.phase_read.specs.Read.{is_pod_spot}
-use Rattle.pod_build.specs.MakingRequests.{pod_at}
+use Rattle.dir_model.specs.Spots.{pod_spot}
 use Rattle.standing_images.specs.Images.{SameImages, ImagesStay}
 use Rattle.commands.specs.Prepare.{prepares_pod}
 use Rattle.commands.specs.PrepareQuiet.{is_making_spot}
@@ -92,15 +92,15 @@ module _ (touched : Spot → Bool) (asks : Request → Bool) (c : ChangesAt touc
 
 -- so does a process that prepares a pod
 pod_apart : (draw : PodId) (place : Spot) → is_in area.Images place.area ≡ true → is_making_spot draw place ≡ false
-pod_apart draw place is = by (spot_eq place (pod_at area.Embryo draw)) (spot_eq place (pod_at area.Prepare draw)) (spot_eq place (pod_at area.Prepared draw)) refl refl refl
+pod_apart draw place is = by (spot_eq place (pod_spot draw area.Embryo)) (spot_eq place (pod_spot draw area.Prepare)) (spot_eq place (pod_spot draw area.Prepared)) refl refl refl
   where
     at : (here : Spot) → is_in area.Images here.area ≡ false → spot_eq place here ≡ true → is_making_spot draw place ≡ false
     at here off e = clash (is_in area.Images place.area) is (subst (λ (s : Spot). is_in area.Images s.area ≡ false) (sym (one_location place here e)) off)
 
-    by : (a b d : Bool) → spot_eq place (pod_at area.Embryo draw) ≡ a → spot_eq place (pod_at area.Prepare draw) ≡ b → spot_eq place (pod_at area.Prepared draw) ≡ d → is_making_spot draw place ≡ false
-    by true b d e f g = at (pod_at area.Embryo draw) refl e
-    by false true d e f g = at (pod_at area.Prepare draw) refl f
-    by false false true e f g = at (pod_at area.Prepared draw) refl g
+    by : (a b d : Bool) → spot_eq place (pod_spot draw area.Embryo) ≡ a → spot_eq place (pod_spot draw area.Prepare) ≡ b → spot_eq place (pod_spot draw area.Prepared) ≡ d → is_making_spot draw place ≡ false
+    by true b d e f g = at (pod_spot draw area.Embryo) refl e
+    by false true d e f g = at (pod_spot draw area.Prepare) refl f
+    by false false true e f g = at (pod_spot draw area.Prepared) refl g
     by false false false e f g = rw (e, f, g) refl
 
 asked_make : (a : Bool) → ((a || false) || false) ≡ true → a ≡ true
@@ -109,18 +109,18 @@ asked_make false h = cc
 
 prepares_elsewhere : (draw : PodId) (request : Request) → prepares_pod draw request ≡ true → BringsElsewhere request
 prepares_elsewhere draw (MakeFolder new) h =
-    let e = asked_make (spot_eq new (pod_at area.Embryo draw)) h in
-    subst (λ (s : Spot). is_in area.Images s.area ≡ false) (sym (one_location new (pod_at area.Embryo draw) e)) refl
+    let e = asked_make (spot_eq new (pod_spot draw area.Embryo)) h in
+    subst (λ (s : Spot). is_in area.Images s.area ≡ false) (sym (one_location new (pod_spot draw area.Embryo) e)) refl
 prepares_elsewhere draw (MoveFolder from to) h =
-    by (spot_eq from (pod_at area.Embryo draw)) (spot_eq to (pod_at area.Prepare draw)) (spot_eq from (pod_at area.Prepare draw)) (spot_eq to (pod_at area.Prepared draw)) refl refl h
+    by (spot_eq from (pod_spot draw area.Embryo)) (spot_eq to (pod_spot draw area.Prepare)) (spot_eq from (pod_spot draw area.Prepare)) (spot_eq to (pod_spot draw area.Prepared)) refl refl h
   where
     at : (here : Spot) → is_in area.Images here.area ≡ false → spot_eq to here ≡ true → is_in area.Images to.area ≡ false
     at here off e = subst (λ (s : Spot). is_in area.Images s.area ≡ false) (sym (one_location to here e)) off
 
-    by : (a b d g : Bool) → spot_eq to (pod_at area.Prepare draw) ≡ b → spot_eq to (pod_at area.Prepared draw) ≡ g →
+    by : (a b d g : Bool) → spot_eq to (pod_spot draw area.Prepare) ≡ b → spot_eq to (pod_spot draw area.Prepared) ≡ g →
         (((a && b) || ((d && g) || false)) || false) ≡ true → is_in area.Images to.area ≡ false
-    by a true d g e f h = at (pod_at area.Prepare draw) refl e
-    by a false d true e f h = at (pod_at area.Prepared draw) refl f
+    by a true d g e f h = at (pod_spot draw area.Prepare) refl e
+    by a false d true e f h = at (pod_spot draw area.Prepared) refl f
     by true false true false e f h = cc
     by true false false false e f h = cc
     by false false true false e f h = cc
@@ -140,18 +140,18 @@ run_apart draw place is = by place.area is
 
 run_elsewhere : (draw : PodId) (request : Request) → makes_and_runs draw request ≡ true → BringsElsewhere request
 run_elsewhere draw (MakeFolder new) h =
-    let e = asked_make (spot_eq new (pod_at area.Embryo draw)) h in
-    subst (λ (s : Spot). is_in area.Images s.area ≡ false) (sym (one_location new (pod_at area.Embryo draw) e)) refl
+    let e = asked_make (spot_eq new (pod_spot draw area.Embryo)) h in
+    subst (λ (s : Spot). is_in area.Images s.area ≡ false) (sym (one_location new (pod_spot draw area.Embryo) e)) refl
 run_elsewhere draw (MoveFolder from to) h =
-    by (spot_eq from (pod_at area.Embryo draw)) (spot_eq to (pod_at area.Prepare draw)) (spot_eq from (pod_at area.Prepare draw)) (spot_eq to (pod_at area.Run draw)) refl refl h
+    by (spot_eq from (pod_spot draw area.Embryo)) (spot_eq to (pod_spot draw area.Prepare)) (spot_eq from (pod_spot draw area.Prepare)) (spot_eq to (pod_spot draw area.Run)) refl refl h
   where
     at : (here : Spot) → is_in area.Images here.area ≡ false → spot_eq to here ≡ true → is_in area.Images to.area ≡ false
     at here off e = subst (λ (s : Spot). is_in area.Images s.area ≡ false) (sym (one_location to here e)) off
 
-    by : (a b d g : Bool) → spot_eq to (pod_at area.Prepare draw) ≡ b → spot_eq to (pod_at area.Run draw) ≡ g →
+    by : (a b d g : Bool) → spot_eq to (pod_spot draw area.Prepare) ≡ b → spot_eq to (pod_spot draw area.Run) ≡ g →
         (((a && b) || ((d && g) || false)) || false) ≡ true → is_in area.Images to.area ≡ false
-    by a true d g e f h = at (pod_at area.Prepare draw) refl e
-    by a false d true e f h = at (pod_at area.Run draw) refl f
+    by a true d g e f h = at (pod_spot draw area.Prepare) refl e
+    by a false d true e f h = at (pod_spot draw area.Run) refl f
     by true false true false e f h = cc
     by true false false false e f h = cc
     by false false true false e f h = cc

@@ -41,7 +41,7 @@ use Rattle.lifecycle.proofs.Makes.{made_by}
 use Rattle.lifecycle.proofs.Places.{made_elsewhere, moved_away, moved_elsewhere, none_stands}
 use Rattle.lifecycle.proofs.Handles.{none_refused, refused_if}
 use Rattle.pod_build.specs.MakingCauses.{AsksFolder, HasMadeFolder, DrawWasTaken}
-use Rattle.pod_build.specs.MakingRequests.{pod_at}
+use Rattle.dir_model.specs.Spots.{pod_spot}
 use Rattle.commands.specs.Prepare.{prepares_pod}
 use Rattle.commands.specs.PrepareTable.{IsTaken, IsUntaken}
 use Rattle.commands.specs.Run.{makes_and_runs}
@@ -115,13 +115,13 @@ gated_along me k (e ∷ es) h = gated_along me (seen_after_event me k e) es (by 
 
 -- what a process asks for brings nothing to embryo but by making it, and takes nothing from there but to prepare
 abbrev pub MovesElsewhere : PodId → Request → Type 0
-MovesElsewhere draw (MoveFolder from to) = (spot_eq to (pod_at area.Embryo draw) ≡ false) × (spot_eq from (pod_at area.Embryo draw) ≡ true → is_in area.Prepare to.area ≡ true)
+MovesElsewhere draw (MoveFolder from to) = (spot_eq to (pod_spot draw area.Embryo) ≡ false) × (spot_eq from (pod_spot draw area.Embryo) ≡ true → is_in area.Prepare to.area ≡ true)
 MovesElsewhere draw (RemoveFolder gone) = ⊥
 MovesElsewhere draw request = Unit {0}
 
 module _ (draw : PodId) where
   abbrev Here : Spot
-  Here = pod_at area.Embryo draw
+  Here = pod_spot draw area.Embryo
 
   abbrev Stood : Namespace → Type 0
   Stood n = stands n Here ≡ true
@@ -355,17 +355,17 @@ module _ (draw : PodId) where
   moved_on here to off is = ap (λ (z : Spot). spot_eq z Here) (one_location to here is) ∙ off
 
   -- no location is in both
-  apart : (from : Spot) → spot_eq from Here ≡ true → spot_eq from (pod_at area.Prepare draw) ≡ true → ⊥
-  apart from here there = let clash : false ≡ true = sym (ap (λ (z : Spot). spot_eq z (pod_at area.Prepare draw)) (one_location from Here here)) ∙ there in cc
+  apart : (from : Spot) → spot_eq from Here ≡ true → spot_eq from (pod_spot draw area.Prepare) ≡ true → ⊥
+  apart from here there = let clash : false ≡ true = sym (ap (λ (z : Spot). spot_eq z (pod_spot draw area.Prepare)) (one_location from Here here)) ∙ there in cc
 
   pub prepare_elsewhere : (request : Request) → in_process (prepares_pod draw) request ≡ true → MovesElsewhere draw request
   prepare_elsewhere (MoveFolder from to) h =
-      by (spot_eq from Here) (spot_eq to (pod_at area.Prepare draw)) (spot_eq from (pod_at area.Prepare draw)) (spot_eq to (pod_at area.Prepared draw)) refl refl refl refl (or_nothing (prepares_pod draw (MoveFolder from to)) h)
+      by (spot_eq from Here) (spot_eq to (pod_spot draw area.Prepare)) (spot_eq from (pod_spot draw area.Prepare)) (spot_eq to (pod_spot draw area.Prepared)) refl refl refl refl (or_nothing (prepares_pod draw (MoveFolder from to)) h)
     where
-      by : (a b d g : Bool) → spot_eq from Here ≡ a → spot_eq to (pod_at area.Prepare draw) ≡ b → spot_eq from (pod_at area.Prepare draw) ≡ d → spot_eq to (pod_at area.Prepared draw) ≡ g → (((a && b) || ((d && g) || false)) || false) ≡ true
+      by : (a b d g : Bool) → spot_eq from Here ≡ a → spot_eq to (pod_spot draw area.Prepare) ≡ b → spot_eq from (pod_spot draw area.Prepare) ≡ d → spot_eq to (pod_spot draw area.Prepared) ≡ g → (((a && b) || ((d && g) || false)) || false) ≡ true
           → (spot_eq to Here ≡ false) × (spot_eq from Here ≡ true → is_in area.Prepare to.area ≡ true)
-      by a true d g k e l f h = (moved_on (pod_at area.Prepare draw) to refl e, λ here. ap (λ (z : Spot). is_in area.Prepare z.area) (one_location to (pod_at area.Prepare draw) e))
-      by a false true true k e l f h = (moved_on (pod_at area.Prepared draw) to refl f, λ here. absurd (apart from here l))
+      by a true d g k e l f h = (moved_on (pod_spot draw area.Prepare) to refl e, λ here. ap (λ (z : Spot). is_in area.Prepare z.area) (one_location to (pod_spot draw area.Prepare) e))
+      by a false true true k e l f h = (moved_on (pod_spot draw area.Prepared) to refl f, λ here. absurd (apart from here l))
       by true false true false k e l f h = cc
       by true false false g k e l f h = cc
       by false false true false k e l f h = cc
@@ -375,12 +375,12 @@ module _ (draw : PodId) where
 
   pub run_elsewhere : (request : Request) → in_process (makes_and_runs draw) request ≡ true → MovesElsewhere draw request
   run_elsewhere (MoveFolder from to) h =
-      by (spot_eq from Here) (spot_eq to (pod_at area.Prepare draw)) (spot_eq from (pod_at area.Prepare draw)) (spot_eq to (pod_at area.Run draw)) refl refl refl refl (or_nothing (makes_and_runs draw (MoveFolder from to)) h)
+      by (spot_eq from Here) (spot_eq to (pod_spot draw area.Prepare)) (spot_eq from (pod_spot draw area.Prepare)) (spot_eq to (pod_spot draw area.Run)) refl refl refl refl (or_nothing (makes_and_runs draw (MoveFolder from to)) h)
     where
-      by : (a b d g : Bool) → spot_eq from Here ≡ a → spot_eq to (pod_at area.Prepare draw) ≡ b → spot_eq from (pod_at area.Prepare draw) ≡ d → spot_eq to (pod_at area.Run draw) ≡ g → (((a && b) || ((d && g) || false)) || false) ≡ true
+      by : (a b d g : Bool) → spot_eq from Here ≡ a → spot_eq to (pod_spot draw area.Prepare) ≡ b → spot_eq from (pod_spot draw area.Prepare) ≡ d → spot_eq to (pod_spot draw area.Run) ≡ g → (((a && b) || ((d && g) || false)) || false) ≡ true
           → (spot_eq to Here ≡ false) × (spot_eq from Here ≡ true → is_in area.Prepare to.area ≡ true)
-      by a true d g k e l f h = (moved_on (pod_at area.Prepare draw) to refl e, λ here. ap (λ (z : Spot). is_in area.Prepare z.area) (one_location to (pod_at area.Prepare draw) e))
-      by a false true true k e l f h = (moved_on (pod_at area.Run draw) to refl f, λ here. absurd (apart from here l))
+      by a true d g k e l f h = (moved_on (pod_spot draw area.Prepare) to refl e, λ here. ap (λ (z : Spot). is_in area.Prepare z.area) (one_location to (pod_spot draw area.Prepare) e))
+      by a false true true k e l f h = (moved_on (pod_spot draw area.Run) to refl f, λ here. absurd (apart from here l))
       by true false true false k e l f h = cc
       by true false false g k e l f h = cc
       by false false true false k e l f h = cc

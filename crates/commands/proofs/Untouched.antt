@@ -23,7 +23,7 @@ use Rattle.dir_model.specs.Trees.{items_in}
 use Rattle.dir_model.proofs.Lists.{and_left, and_right}
 use Rattle.dir_files.specs.AreaLocks.{is_taking_area, closes}
 use Rattle.lifecycle.proofs.Places.{moved_elsewhere, removed_elsewhere}
-use Rattle.phase_read.specs.Read.{pod_spot}
+use Rattle.dir_model.specs.Spots.{pod_spot}
 use Rattle.pod_gc.specs.Requests.{lists_pod_area, lists_marks, deals_with_pod}
 use Rattle.pod_gc.specs.Told.{deals_with_pods}
 use Rattle.pod_gc.proofs.Asking.{some_sweep}

@@ -15,7 +15,7 @@ use Rattle.dir_model.proofs.Moments.{at_after, at_before}
 use Rattle.dir_trait.specs.DirCalls.{DirAt, ExtendsBy, HeldBetween}
 use Rattle.dir_files.specs.AreaLocks.{IsFreeElsewhere}
 use Rattle.pod_manifest.specs.Wishes.{Wishes}
-use Rattle.pod_build.specs.MakingRequests.{pod_at}
+use Rattle.dir_model.specs.Spots.{pod_spot}
 use Rattle.pod_build.specs.declared.error.BuildError.{BuildError}
 use Rattle.pod_build.specs.Causes.{IsStretchWithin, IsBuildRefused, IsMadeByPlan, FindsImagesFree}
 use Rattle.pod_build.specs.Preparations.{IsPrepared}
@@ -74,7 +74,7 @@ prepared_wider {refs} {options} {me} {draw} {to} {a} {b} {c} {d} earlier rest be
   later = x.later ++ rest;
   meanwhile = earlier ++ x.meanwhile;
   begins = x.begins ∙ (ap (λ (h : List Event). h ++ x.meanwhile) begins ∙ append_assoc a earlier x.meanwhile);
-  moved = ends ∙ (ap (λ (h : List Event). h ++ rest) x.moved ∙ append_assoc x.before (event me (MoveFolder (pod_at Prepare draw) (pod_at to draw)) Done ∷ x.later) rest);
+  moved = ends ∙ (ap (λ (h : List Event). h ++ rest) x.moved ∙ append_assoc x.before (event me (MoveFolder (pod_spot draw Prepare) (pod_spot draw to)) Done ∷ x.later) rest);
   faithful = x.faithful;
   choice = x.choice;
   chosen = x.chosen;

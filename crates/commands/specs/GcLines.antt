@@ -12,7 +12,7 @@ use Rattle.dir_model.specs.Pods.{pod_of_text}
 use Rattle.dir_trait.specs.State.{DirState, stands}
 use Rattle.dir_rules.specs.Standing.{is_in}
 use Rattle.dir_files.specs.AreaLocks.{is_busy_elsewhere}
-use Rattle.phase_read.specs.Read.{pod_spot}
+use Rattle.dir_model.specs.Spots.{pod_spot}
 use Rattle.pod_gc.specs.declared.ages.Times.{Times}
 use Rattle.pod_gc.specs.declared.line.Deed.{Deed}
 use Rattle.pod_gc.specs.declared.line.Deed.TheVariants.{Moved, BusyGate}

@@ -12,7 +12,7 @@ use Rattle.folder_contents.specs.Entries.{entries_in}
 use Rattle.dir_trait.specs.Trace.{state_after}
 use Rattle.dir_files.specs.AreaLocks.{IsBusyElsewhere, IsFreeElsewhere}
 use Rattle.lifecycle.specs.Executions.{IsConforming}
-use Rattle.pod_build.specs.MakingRequests.{pod_at}
+use Rattle.dir_model.specs.Spots.{pod_spot}
 use Rattle.command_outcomes.specs.declared.refusal.Refusal.TheVariants.{Busy, DirFault, Stray, NoMemory}
 use Rattle.command_outcomes.specs.Moments.{DirSeen, CommandOutcome}
 use Rattle.pod_build.specs.Preparations.{IsPrepared}
@@ -26,7 +26,7 @@ use Rattle.commands.specs.Wants.{Wants}
 
 -- a pod that was prepared so stands there still, with what its maker made
 pub record StandsPrepared {refs : List ImageRef} {wishes : Wishes} {me : ℕ} {draw : PodId} {old new : List Event} (x : IsPrepared refs wishes me draw Prepared old new) (s : DirState) : Type 0 where
-  pub stands : folder_at s.namespace (pod_at Prepared draw) ≡ Some x.folder
+  pub stands : folder_at s.namespace (pod_spot draw Prepared) ≡ Some x.folder
   pub holds : entries_in x.folder s.entries ≡ x.faithful.built.making.entries
 
 -- of some references that its words are, the pod was prepared faithfully, of the images that are the store of the state before, and stands
@@ -51,4 +51,4 @@ PreparesQuietly wants now draw old new (Err refusal) = RefusesPod wants now draw
 
 -- where it makes and moves folders
 abbrev pub is_making_spot : PodId → Spot → Bool
-is_making_spot draw place = spot_eq place (pod_at Embryo draw) || (spot_eq place (pod_at Prepare draw) || spot_eq place (pod_at Prepared draw))
+is_making_spot draw place = spot_eq place (pod_spot draw Embryo) || (spot_eq place (pod_spot draw Prepare) || spot_eq place (pod_spot draw Prepared))

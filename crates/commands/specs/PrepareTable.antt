@@ -26,7 +26,7 @@ use Rattle.pod_plan.specs.declared.choice.Choice.{Choice}
 use Rattle.pod_plan.specs.declared.choice_error.ChoiceError.{ChoiceError}
 use Rattle.pod_plan.specs.declared.choice_error.ChoiceError.TheVariants as choice
 use Rattle.pod_plan.specs.Choices.{IsChoice, IsChoiceRefused}
-use Rattle.pod_build.specs.MakingRequests.{pod_at}
+use Rattle.dir_model.specs.Spots.{pod_spot}
 use Rattle.pod_manifest.specs.Wishes.{Wishes}
 use Rattle.pod_plan.specs.Roots.{node_key, entries_together, AreFewEntries}
 use Rattle.render.specs.Assembly.{own_whitelist, IsAssembly}
@@ -214,10 +214,10 @@ pub record FailsFile (images : List Stored) (refs : List ImageRef) (wishes : Wis
 
 -- a folder of this name stands in embryo, or none
 abbrev pub IsTaken : PodId → DirState → Type 0
-IsTaken pod s = (folder : ℕ) × (folder_at s.namespace (pod_at Embryo pod) ≡ Some folder)
+IsTaken pod s = (folder : ℕ) × (folder_at s.namespace (pod_spot pod Embryo) ≡ Some folder)
 
 abbrev pub IsUntaken : PodId → DirState → Type 0
-IsUntaken pod s = folder_at s.namespace (pod_at Embryo pod) ≡ None
+IsUntaken pod s = folder_at s.namespace (pod_spot pod Embryo) ≡ None
 
 -- nobody else holds the lock of embryo exclusively
 abbrev pub IsEmbryoFree : ℕ → DirState → Type 0

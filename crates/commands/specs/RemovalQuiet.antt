@@ -24,7 +24,8 @@ use Rattle.lifecycle.specs.PodMachine.{pod_state}
 use Rattle.lifecycle.specs.Executions.{IsConforming}
 use Rattle.phase_read.specs.declared.found.Found.TheVariants.{At}
 use Rattle.phase_read.specs.Exact.{IsInPhase}
-use Rattle.phase_read.specs.Read.{pod_spot, is_pod_spot}
+use Rattle.dir_model.specs.Spots.{pod_spot}
+use Rattle.phase_read.specs.Read.{is_pod_spot}
 use Rattle.phase_read.specs.Sequential.{sequential_read}
 use Rattle.pod_locks.specs.ClaimCauses.{IsPreparedWithoutManifest}
 use Rattle.pod_locks.specs.Causes.{is_held_against}

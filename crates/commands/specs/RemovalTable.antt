@@ -16,7 +16,7 @@ use Rattle.dir_model.specs.Trees.{items_in, has_file}
 use Rattle.dir_rules.specs.Standing.{is_in}
 use Rattle.phase_read.specs.declared.found.Found.{Found}
 use Rattle.phase_read.specs.declared.found.Found.TheVariants.{At, Gone}
-use Rattle.phase_read.specs.Read.{pod_spot}
+use Rattle.dir_model.specs.Spots.{pod_spot}
 use Rattle.phase_read.specs.Sequential.{sequential_read}
 use Rattle.pod_locks.specs.Causes.{is_held_against}
 use Rattle.pod_gc.specs.RemovalRequests.{is_removable}

@@ -16,6 +16,7 @@ use Rattle.command_outcomes.specs.declared.refusal.Refusal.{Refusal}
 use Rattle.command_outcomes.specs.declared.refusal.Refusal.TheVariants.{BadManifest, BundleFault, NoMemory, NoFile}
 use Rattle.command_outcomes.specs.Moments.{BundleSeen, CommandOutcome}
 use Rattle.commands.specs.Texts.{valid_text}
+use Rattle.manifests.specs.ManifestSize.{most_of_manifest}
 
 -- the refusals that it may have
 abbrev pub validate_refusal : Refusal → Bool
@@ -46,19 +47,15 @@ abbrev pub file_outcome : List ℕ → Option (List ℕ) → CommandOutcome
 file_outcome path None = Err (NoFile path)
 file_outcome path (Some bytes) = manifest_outcome (any_manifest bytes)
 
--- so much of a file tells whether it is longer than a manifest may be
-abbrev pub most_read : ℕ
-most_read = 1048577
-
 -- the file's first bytes were read, and judged
 pub record ValidateSays (path : List ℕ) (old : BundleSeen) (o : CommandOutcome) : Type 0 where
   pub found : Option (List ℕ)
-  pub told : old.observed ≡ true → found ≡ option_map (take most_read) (bytes_of_node (old.tree path))
+  pub told : old.observed ≡ true → found ≡ option_map (take most_of_manifest) (bytes_of_node (old.tree path))
   pub is : o ≡ file_outcome path found
 
 -- it asks for that file alone, and for no more of it
 pub record ReadsFileAlone (path : List ℕ) (old new : BundleSeen) : Type 0 where
-  pub given : new.given ≤ old.given + most_read
+  pub given : new.given ≤ old.given + most_of_manifest
   pub asked : old.observed ≡ true → AsksBundleOnly (request_at Read path) old.asked new.asked
 
 -- what it comes to where nothing fails: the judgement of the whole file

@@ -24,7 +24,7 @@ abbrev pub created_of : CreatedMark → Created
 created_of t = record { name = t.name; moment = t.moment }
 
 abbrev pub seen_with : StandingTable → ContentsTable → Seen
-seen_with standing t = record { standing = table_standing standing; making = option_map table_making t.making; stored = t.stored; created = map created_of t.created.items; marked = t.marked.items; notes = t.notes.items; put_away = t.put_away.items; listed = t.listed.items; items = t.items.items; areas = t.areas.items; kept = t.kept }
+seen_with standing t = record { standing = table_standing standing; making = option_map table_making t.making; image_under_lock = t.image_under_lock; created = map created_of t.created.items; marked = t.marked.items; notes = t.notes.items; put_away = t.put_away.items; listed = t.listed.items; items = t.items.items; areas = t.areas.items; kept = t.kept }
 
 abbrev pub table_seen : SeenTable → Seen
 table_seen t = seen_with t.standing t.contents

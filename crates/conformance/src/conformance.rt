@@ -26,7 +26,7 @@ impl SeenTable {
             standing: StandingTable::new(alloc),
             contents: ContentsTable {
                 making: None,
-                stored: false,
+                image_under_lock: false,
                 created: Vec::new(alloc),
                 marked: Vec::new(alloc),
                 notes: Vec::new(alloc),

@@ -195,7 +195,7 @@ impl SeenTable {
         ensures { result ≡ contents_allow_move (table_seen self.now) from.now to.now Area.Incoming area }
     {
         match area {
-            Area::Images => self.has_image_done(from) && self.contents.stored,
+            Area::Images => self.has_image_done(from) && self.contents.image_under_lock,
             Area::Removed => self.standing.closes_gate(Area::Incoming),
             _ => false,
         }
@@ -254,7 +254,7 @@ impl SeenTable {
     {
         match area {
             Area::Prepare => self.makes_at(spot) && self.standing.holds_own(&spot.name),
-            Area::Incoming => self.makes_at(spot) && self.contents.stored,
+            Area::Incoming => self.makes_at(spot) && self.contents.image_under_lock,
             _ => false,
         }
     }

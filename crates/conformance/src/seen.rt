@@ -35,7 +35,7 @@ fn is_exists(error: DirError) -> bool
 
 // Whether it is the process's own mark in a pod in run, whose own lock it had shared.
 fn is_marking(standing: &StandingTable, inner: &Inner) -> bool
-    ensures { result ≡ ((is_in inner.now.spot.area Area.Run && is_own_mark standing.now.intent inner.now.path) && has_place inner.now.spot.name inner.now.spot.area standing.now.looked.items) }
+    ensures { result ≡ ((is_in inner.now.spot.area Area.Run && is_own_mark standing.now.intent inner.now.path) && has_place inner.now.spot.name inner.now.spot.area standing.now.seen_unowned.items) }
 {
     is_in(inner.spot.area, Area::Run)
         && is_own_mark(&standing.intent, inner.path.as_slice())
@@ -90,7 +90,7 @@ impl ContentsTable {
         ensures { seen_with standing.now self.new ≡ closed (seen_with standing.now self.old) handle }
     {
         let gives_up = gives_up_shared_gate(Area::Incoming, handle, &standing.holdings);
-        self.stored = !gives_up && self.stored;
+        self.image_under_lock = !gives_up && self.image_under_lock;
         keep_listed(&mut self.listed, handle, &standing.holdings);
         keep_shown(&mut self.items, handle, &standing.holdings);
         keep_known(&mut self.areas, handle, &standing.holdings);
@@ -100,7 +100,8 @@ impl ContentsTable {
         ensures { seen_with standing.now self.new ≡ folder_made (seen_with standing.now self.old) spot.now }
     {
         let alloc = self.alloc();
-        self.stored = is_in(Area::Incoming, spot.area) && standing.holds_gate(Area::Incoming);
+        self.image_under_lock = is_in(Area::Incoming, spot.area)
+            && standing.holds_gate(Area::Incoming);
         self.making = Some(MakingTable {
             spot: *spot,
             clean: true,
@@ -113,7 +114,7 @@ impl ContentsTable {
         ensures { OnOk result ((s : StandingTable) → seen_with s self.new ≡ folder_moved (seen_with s self.old) from.now to.now) }
     {
         let alloc = self.alloc();
-        self.stored = !is_in(Area::Incoming, from.area) && self.stored;
+        self.image_under_lock = !is_in(Area::Incoming, from.area) && self.image_under_lock;
         forget_listed(&mut self.listed, to);
         forget_items(&mut self.items, to);
         move_all_away(&mut self.areas, alloc, from);
@@ -192,7 +193,7 @@ impl ContentsTable {
     fn finish(&mut self)
         ensures { (s : StandingTable) → seen_with s self.new ≡ learned_done (seen_with s self.old) Request.Finish }
     {
-        self.stored = false;
+        self.image_under_lock = false;
         self.listed.clear();
         self.items.clear();
         self.areas.clear();

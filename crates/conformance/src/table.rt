@@ -23,7 +23,7 @@ pub struct CreatedMark {
 #[derive(Drop)]
 pub struct ContentsTable {
     pub making: Option<MakingTable>,
-    pub stored: bool,
+    pub image_under_lock: bool,
     pub created: Vec<CreatedMark>,
     pub marked: Vec<Spot>,
     pub notes: Vec<Inner>,

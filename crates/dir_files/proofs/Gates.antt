@@ -80,13 +80,13 @@ module _ (s : Seen) (h : Handle) (area : Area) (fresh : Fresh h s.standing.holdi
 
   pub open_given : seen_replied opened (Close h) Done ≡ s
   open_given =
-      closed_plain s h (on_gate h area None) s.standing.looked (plain None refl (and_false (is_in Embryo area))) fresh
-      ∙ ap (λ b. let r : Seen = record s { stored = not b && s.stored } in r) (and_false (is_in Incoming area))
+      closed_plain s h (on_gate h area None) s.standing.seen_unowned (plain None refl (and_false (is_in Embryo area))) fresh
+      ∙ ap (λ b. let r : Seen = record s { image_under_lock = not b && s.image_under_lock } in r) (and_false (is_in Incoming area))
 
   pub share_given : is_in Embryo area ≡ false → seen_replied (with_gate s h area (Some Shared)) (Close h) Done ≡ shared_given area s
   share_given apart =
-      closed_plain s h (on_gate h area (Some Shared)) s.standing.looked (plain (Some Shared) refl (ap (λ b. b && true) apart)) fresh
-      ∙ ap (λ b. let r : Seen = record s { stored = not b && s.stored } in r) (and_true (is_in Incoming area))
+      closed_plain s h (on_gate h area (Some Shared)) s.standing.seen_unowned (plain (Some Shared) refl (ap (λ b. b && true) apart)) fresh
+      ∙ ap (λ b. let r : Seen = record s { image_under_lock = not b && s.image_under_lock } in r) (and_true (is_in Incoming area))
 
   -- or the exclusive lock
   abbrev Newest : Held
@@ -138,7 +138,7 @@ module _ (s : Seen) (h : Handle) (area : Area) (fresh : Fresh h s.standing.holdi
   abbrev Given : Standing → Bool → Bool → Seen
   Given standing b c = record s {
     standing = standing;
-    stored = not b && s.stored;
+    image_under_lock = not b && s.image_under_lock;
     listed = still_listed h Hs s.listed;
     items = still_shown h Hs s.items;
     areas = still_known h Hs s.areas;

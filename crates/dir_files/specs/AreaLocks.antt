@@ -87,7 +87,7 @@ IsFreeElsewhere me area mode s = is_busy_elsewhere me area mode s ≡ false
 
 -- what is known once a shared lock is given back: an image in incoming isn't under that area's lock any more
 abbrev pub shared_given : Area → Seen → Seen
-shared_given area s = record s { stored = not (is_in Incoming area) && s.stored }
+shared_given area s = record s { image_under_lock = not (is_in Incoming area) && s.image_under_lock }
 
 -- the lock of removed is what its directories were listed under
 abbrev pub is_listed_under : Area → Inner → Bool

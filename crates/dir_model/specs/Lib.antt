@@ -2,6 +2,7 @@ pub mod Names
 pub mod Filled
 pub mod Pods
 pub mod Areas
+pub mod Spots
 pub mod Reserved
 pub mod Locks
 pub mod Paths

@@ -1,12 +1,28 @@
 // Locations, handles and modes of locks.
+ghost use Rattle.std.specs.Prelude.{◌≡◌};
+ghost use Rattle.dir_model.specs.Spots.{pod_spot};
+
 use crate::area::Area;
 use crate::name::Name;
+use crate::pod::PodId;
 
 /// A location in the data folder: an area, and the name of a folder in it.
 #[derive(Clone, Copy, PartialEq, Eq)]
 pub struct Spot {
     pub area: Area,
     pub name: Name,
+}
+
+impl Spot {
+    /// Where a pod stands in an area: the folder whose name is the pod's text.
+    pub fn of_pod(pod: PodId, area: Area) -> Spot
+        ensures { result ≡ pod_spot pod area }
+    {
+        Spot {
+            area,
+            name: pod.name(),
+        }
+    }
 }
 
 /// An open handle of one process.

@@ -38,7 +38,7 @@ looked_same s = record { free = []; same = refl }
 pub looked_more : {a b c : Seen} → Looked a b → Looked b c → Looked a c
 looked_more {a} {b} {c} ab bc = record {
   free = bc.free ++ ab.free;
-  same = bc.same ∙ ap (λ (x : Seen). let r : Seen = record x { standing = record x.standing { looked = bc.free ++ x.standing.looked } } in r) ab.same ∙ ap (λ (l : List Spot). let r : Seen = record a { standing = record a.standing { looked = l } } in r) (sym (append_assoc bc.free ab.free a.standing.looked));
+  same = bc.same ∙ ap (λ (x : Seen). let r : Seen = record x { standing = record x.standing { seen_unowned = bc.free ++ x.standing.seen_unowned } } in r) ab.same ∙ ap (λ (l : List Spot). let r : Seen = record a { standing = record a.standing { seen_unowned = l } } in r) (sym (append_assoc bc.free ab.free a.standing.seen_unowned));
 }
 
 -- a number that isn't open: nothing is given up, dropped or locked by it
@@ -86,7 +86,7 @@ pub record Plain (x : Held) (h : Handle) : Type 0 where
   pub claim : (u : List ℕ) → is_claim_held u x ≡ false
   pub removal : (spot : Spot) → is_removal_held spot x ≡ false
 
-module _ (s : Seen) (h : Handle) (x : Held) (looked : List Spot) (p : Plain x h) (fresh : Fresh h s.standing.holdings) where
+module _ (s : Seen) (h : Handle) (x : Held) (seen_unowned : List Spot) (p : Plain x h) (fresh : Fresh h s.standing.holdings) where
   abbrev Hs : List Held
   Hs = x ∷ s.standing.holdings
 
@@ -104,13 +104,13 @@ module _ (s : Seen) (h : Handle) (x : Held) (looked : List Spot) (p : Plain x h)
 
   -- it is open
   abbrev and_open : Seen
-  and_open = record s { standing = record s.standing { holdings = Hs; looked = looked } }
+  and_open = record s { standing = record s.standing { holdings = Hs; seen_unowned = seen_unowned } }
 
-  closed_standing : given_up h and_open.standing ≡ record s.standing { looked = looked }
+  closed_standing : given_up h and_open.standing ≡ record s.standing { seen_unowned = seen_unowned }
   closed_standing =
-      ap (λ b. let r : Standing = record s.standing { looked = looked; embryo_under_lock = not b && s.standing.embryo_under_lock; holdings = map (uncovered_by_close h Hs) (filter (λ g. not (is_handle_held h g)) Hs); seen_unowned_under_claim = filter (λ u. not (gives_up (is_claim_held u) h Hs)) s.standing.seen_unowned_under_claim } in r) (none (is_gate_shared Embryo) p.gate)
-      ∙ ap (λ (l : List Held). let r : Standing = record s.standing { looked = looked; holdings = l; seen_unowned_under_claim = filter (λ u. not (gives_up (is_claim_held u) h Hs)) s.standing.seen_unowned_under_claim } in r) dropped
-      ∙ ap (λ (l : List (List ℕ)). let r : Standing = record s.standing { looked = looked; seen_unowned_under_claim = l } in r) (filter_same (λ u. not (gives_up (is_claim_held u) h Hs)) s.standing.seen_unowned_under_claim (λ u. ap not (none (is_claim_held u) (p.claim u))))
+      ap (λ b. let r : Standing = record s.standing { seen_unowned = seen_unowned; embryo_under_lock = not b && s.standing.embryo_under_lock; holdings = map (uncovered_by_close h Hs) (filter (λ g. not (is_handle_held h g)) Hs); seen_unowned_under_claim = filter (λ u. not (gives_up (is_claim_held u) h Hs)) s.standing.seen_unowned_under_claim } in r) (none (is_gate_shared Embryo) p.gate)
+      ∙ ap (λ (l : List Held). let r : Standing = record s.standing { seen_unowned = seen_unowned; holdings = l; seen_unowned_under_claim = filter (λ u. not (gives_up (is_claim_held u) h Hs)) s.standing.seen_unowned_under_claim } in r) dropped
+      ∙ ap (λ (l : List (List ℕ)). let r : Standing = record s.standing { seen_unowned = seen_unowned; seen_unowned_under_claim = l } in r) (filter_same (λ u. not (gives_up (is_claim_held u) h Hs)) s.standing.seen_unowned_under_claim (λ u. ap not (none (is_claim_held u) (p.claim u))))
 
   -- the gate of incoming may be what is given up
   gives_store : gives_up (is_gate_shared Incoming) h Hs ≡ is_gate_shared Incoming x
@@ -123,17 +123,17 @@ module _ (s : Seen) (h : Handle) (x : Held) (looked : List Spot) (p : Plain x h)
       by false = refl
 
   abbrev Closing : Standing → Bool → List Inner → List ShownItem → List ShownArea → Bool → Seen
-  Closing standing b ls items areas c = record s { standing = standing; stored = not b && s.stored; listed = ls; items = items; areas = areas; kept = (not ((c && s.standing.embryo_under_lock) && intends (λ i. holds_own (pod_text i.draw.bytes) and_open.standing) s.standing.intent) && true) && s.kept }
+  Closing standing b ls items areas c = record s { standing = standing; image_under_lock = not b && s.image_under_lock; listed = ls; items = items; areas = areas; kept = (not ((c && s.standing.embryo_under_lock) && intends (λ i. holds_own (pod_text i.draw.bytes) and_open.standing) s.standing.intent) && true) && s.kept }
 
   -- it is closed again
-  pub closed_plain : seen_replied and_open (Close h) Done ≡ record s { standing = record s.standing { looked = looked }; stored = not (is_gate_shared Incoming x) && s.stored }
+  pub closed_plain : seen_replied and_open (Close h) Done ≡ record s { standing = record s.standing { seen_unowned = seen_unowned }; image_under_lock = not (is_gate_shared Incoming x) && s.image_under_lock }
   closed_plain =
       ap (λ (t : Standing). Closing t (gives_up (is_gate_shared Incoming) h Hs) (still_listed h Hs s.listed) (still_shown h Hs s.items) (still_known h Hs s.areas) (gives_up (is_gate_shared Embryo) h Hs)) closed_standing
-      ∙ ap (λ b. Closing (record s.standing { looked = looked }) b (still_listed h Hs s.listed) (still_shown h Hs s.items) (still_known h Hs s.areas) (gives_up (is_gate_shared Embryo) h Hs)) gives_store
-      ∙ ap (λ (l : List Inner). Closing (record s.standing { looked = looked }) (is_gate_shared Incoming x) l (still_shown h Hs s.items) (still_known h Hs s.areas) (gives_up (is_gate_shared Embryo) h Hs)) (filter_same (λ l. not (gives_up (is_removal_held l.spot) h Hs)) s.listed (λ l. ap not (none (is_removal_held l.spot) (p.removal l.spot))))
-      ∙ ap (λ (l : List ShownItem). Closing (record s.standing { looked = looked }) (is_gate_shared Incoming x) s.listed l (still_known h Hs s.areas) (gives_up (is_gate_shared Embryo) h Hs)) (filter_same (λ i. not (gives_up (is_removal_held i.inner.spot) h Hs)) s.items (λ i. ap not (none (is_removal_held i.inner.spot) (p.removal i.inner.spot))))
-      ∙ ap (λ (l : List ShownArea). Closing (record s.standing { looked = looked }) (is_gate_shared Incoming x) s.listed s.items l (gives_up (is_gate_shared Embryo) h Hs)) (filter_same (λ a. not (gives_up (is_gate_exclusive a.area) h Hs)) s.areas (λ a. ap not (none (is_gate_exclusive a.area) (p.closes a.area))))
-      ∙ ap (λ b. Closing (record s.standing { looked = looked }) (is_gate_shared Incoming x) s.listed s.items s.areas b) (none (is_gate_shared Embryo) p.gate)
+      ∙ ap (λ b. Closing (record s.standing { seen_unowned = seen_unowned }) b (still_listed h Hs s.listed) (still_shown h Hs s.items) (still_known h Hs s.areas) (gives_up (is_gate_shared Embryo) h Hs)) gives_store
+      ∙ ap (λ (l : List Inner). Closing (record s.standing { seen_unowned = seen_unowned }) (is_gate_shared Incoming x) l (still_shown h Hs s.items) (still_known h Hs s.areas) (gives_up (is_gate_shared Embryo) h Hs)) (filter_same (λ l. not (gives_up (is_removal_held l.spot) h Hs)) s.listed (λ l. ap not (none (is_removal_held l.spot) (p.removal l.spot))))
+      ∙ ap (λ (l : List ShownItem). Closing (record s.standing { seen_unowned = seen_unowned }) (is_gate_shared Incoming x) s.listed l (still_known h Hs s.areas) (gives_up (is_gate_shared Embryo) h Hs)) (filter_same (λ i. not (gives_up (is_removal_held i.inner.spot) h Hs)) s.items (λ i. ap not (none (is_removal_held i.inner.spot) (p.removal i.inner.spot))))
+      ∙ ap (λ (l : List ShownArea). Closing (record s.standing { seen_unowned = seen_unowned }) (is_gate_shared Incoming x) s.listed s.items l (gives_up (is_gate_shared Embryo) h Hs)) (filter_same (λ a. not (gives_up (is_gate_exclusive a.area) h Hs)) s.areas (λ a. ap not (none (is_gate_exclusive a.area) (p.closes a.area))))
+      ∙ ap (λ b. Closing (record s.standing { seen_unowned = seen_unowned }) (is_gate_shared Incoming x) s.listed s.items s.areas b) (none (is_gate_shared Embryo) p.gate)
 
 -- the gate of incoming, not held exclusively
 abbrev pub on_incoming : Handle → Option Mode → Held
@@ -176,21 +176,21 @@ module _ (s : Seen) (h : Handle) (spot : Spot) (fresh : Fresh h s.standing.holdi
 
   -- it was opened, and asked for the lock
   abbrev tried : Option Mode → List Spot → Seen
-  tried lock looked = record s { standing = record s.standing { holdings = on_own h spot lock Covers ∷ s.standing.holdings; looked = looked } }
+  tried lock seen_unowned = record s { standing = record s.standing { holdings = on_own h spot lock Covers ∷ s.standing.holdings; seen_unowned = seen_unowned } }
 
-  opened_is : seen_replied s (Open spot which.Own) (Opened h) ≡ tried None s.standing.looked
+  opened_is : seen_replied s (Open spot which.Own) (Opened h) ≡ tried None s.standing.seen_unowned
   opened_is = refl
 
-  closed_tried : (lock : Option Mode) (looked : List Spot) → is_exclusive lock ≡ false → seen_replied (tried lock looked) (Close h) Done ≡ record s { standing = record s.standing { looked = looked } }
-  closed_tried lock looked off = closed_plain s h (on_own h spot lock Covers) looked (plain_own h spot lock Covers off) fresh
+  closed_tried : (lock : Option Mode) (seen_unowned : List Spot) → is_exclusive lock ≡ false → seen_replied (tried lock seen_unowned) (Close h) Done ≡ record s { standing = record s.standing { seen_unowned = seen_unowned } }
+  closed_tried lock seen_unowned off = closed_plain s h (on_own h spot lock Covers) seen_unowned (plain_own h spot lock Covers off) fresh
 
-  pub may_try : is_lookable spot.area ≡ true → is_open_on (Own spot) s.standing.holdings ≡ false → allows (tried None s.standing.looked) (TryLock h Shared) ≡ true
+  pub may_try : is_lookable spot.area ≡ true → is_open_on (Own spot) s.standing.holdings ≡ false → allows (tried None s.standing.seen_unowned) (TryLock h Shared) ≡ true
   may_try look off =
-      ap (λ (o : Option Held). may_lock_by (tried None s.standing.looked).standing o Shared && true) (newest_found (on_own h spot None Covers) s.standing.holdings)
-      ∙ (ap (λ b. (b && may_lock_own (tried None s.standing.looked).standing Covers spot.name spot.area Shared) && true) (alone_newest (on_own h spot None Covers) s.standing.holdings off)
+      ap (λ (o : Option Held). may_lock_by (tried None s.standing.seen_unowned).standing o Shared && true) (newest_found (on_own h spot None Covers) s.standing.holdings)
+      ∙ (ap (λ b. (b && may_lock_own (tried None s.standing.seen_unowned).standing Covers spot.name spot.area Shared) && true) (alone_newest (on_own h spot None Covers) s.standing.holdings off)
       ∙ ap (λ b. b && true) (by spot.area look))
     where
-      by : (area : Area) → is_lookable area ≡ true → may_lock_own (tried None s.standing.looked).standing Covers spot.name area Shared ≡ true
+      by : (area : Area) → is_lookable area ≡ true → may_lock_own (tried None s.standing.seen_unowned).standing Covers spot.name area Shared ≡ true
       by Prepare look = refl
       by Run look = refl
       by ExitedGarbage look = refl
@@ -207,27 +207,27 @@ module _ (s : Seen) (h : Handle) (spot : Spot) (fresh : Fresh h s.standing.holdi
       by Garbage look = refl
       by _ look = cc
 
-  locked_standing : is_lookable spot.area ≡ true → standing_done (tried None s.standing.looked).standing (TryLock h Shared) ≡ (tried (Some Shared) (own_spot (Own spot) ++ s.standing.looked)).standing
+  locked_standing : is_lookable spot.area ≡ true → standing_done (tried None s.standing.seen_unowned).standing (TryLock h Shared) ≡ (tried (Some Shared) (own_spot (Own spot) ++ s.standing.seen_unowned)).standing
   locked_standing look =
       ap (λ (o : Option Held). looked_by o (record s.standing { holdings = map (held_with_mode h Shared) (on_own h spot None Covers ∷ s.standing.holdings) })) (newest_found (on_own h spot None Covers) s.standing.holdings)
       ∙ (ap (λ (l : List Held). looked_by (Some (on_own h spot None Covers)) (record s.standing { holdings = l })) (newest_locked (on_own h spot None Covers) Shared s.standing.holdings fresh)
-      ∙ ap (λ b. let r : Standing = record s.standing { holdings = on_own h spot (Some Shared) Covers ∷ s.standing.holdings; looked = own_spot (Own spot) ++ s.standing.looked; seen_unowned_under_claim = cond (b && holds_claim spot.name s.standing) (prepared_name (Own spot)) [] ++ s.standing.seen_unowned_under_claim } in r) (not_prepared look))
+      ∙ ap (λ b. let r : Standing = record s.standing { holdings = on_own h spot (Some Shared) Covers ∷ s.standing.holdings; seen_unowned = own_spot (Own spot) ++ s.standing.seen_unowned; seen_unowned_under_claim = cond (b && holds_claim spot.name s.standing) (prepared_name (Own spot)) [] ++ s.standing.seen_unowned_under_claim } in r) (not_prepared look))
 
-  locked_try : is_lookable spot.area ≡ true → is_open_on (Own spot) s.standing.holdings ≡ false → seen_replied (tried None s.standing.looked) (TryLock h Shared) Done ≡ tried (Some Shared) (own_spot (Own spot) ++ s.standing.looked)
+  locked_try : is_lookable spot.area ≡ true → is_open_on (Own spot) s.standing.holdings ≡ false → seen_replied (tried None s.standing.seen_unowned) (TryLock h Shared) Done ≡ tried (Some Shared) (own_spot (Own spot) ++ s.standing.seen_unowned)
   locked_try look off =
-      ap (λ b. let r : Seen = record s { standing = standing_done (tried None s.standing.looked).standing (TryLock h Shared); kept = b && s.kept } in r) (may_try look off)
+      ap (λ b. let r : Seen = record s { standing = standing_done (tried None s.standing.seen_unowned).standing (TryLock h Shared); kept = b && s.kept } in r) (may_try look off)
       ∙ ap (λ (t : Standing). let r : Seen = record s { standing = t } in r) (locked_standing look)
 
-  refused_try : is_lookable spot.area ≡ true → is_open_on (Own spot) s.standing.holdings ≡ false → (error : DirError) → seen_replied (tried None s.standing.looked) (TryLock h Shared) (Refused error 0) ≡ tried None s.standing.looked
-  refused_try look off error = ap (λ b. let r : Seen = record (tried None s.standing.looked) { kept = b && s.kept } in r) (may_try look off)
+  refused_try : is_lookable spot.area ≡ true → is_open_on (Own spot) s.standing.holdings ≡ false → (error : DirError) → seen_replied (tried None s.standing.seen_unowned) (TryLock h Shared) (Refused error 0) ≡ tried None s.standing.seen_unowned
+  refused_try look off error = ap (λ b. let r : Seen = record (tried None s.standing.seen_unowned) { kept = b && s.kept } in r) (may_try look off)
 
-  asked_again : (answer : Result (Unit {0}) DirError) → is_lookable spot.area ≡ true → is_open_on (Own spot) s.standing.holdings ≡ false → Looked s (seen_replied (seen_replied (tried None s.standing.looked) (TryLock h Shared) (done_reply answer)) (Close h) Done)
-  asked_again (Ok done) look off = record { free = own_spot (Own spot); same = ap (λ (x : Seen). seen_replied x (Close h) Done) (locked_try look off) ∙ closed_tried (Some Shared) (own_spot (Own spot) ++ s.standing.looked) refl }
-  asked_again (Err error) look off = record { free = []; same = ap (λ (x : Seen). seen_replied x (Close h) Done) (refused_try look off error) ∙ closed_tried None s.standing.looked refl }
+  asked_again : (answer : Result (Unit {0}) DirError) → is_lookable spot.area ≡ true → is_open_on (Own spot) s.standing.holdings ≡ false → Looked s (seen_replied (seen_replied (tried None s.standing.seen_unowned) (TryLock h Shared) (done_reply answer)) (Close h) Done)
+  asked_again (Ok done) look off = record { free = own_spot (Own spot); same = ap (λ (x : Seen). seen_replied x (Close h) Done) (locked_try look off) ∙ closed_tried (Some Shared) (own_spot (Own spot) ++ s.standing.seen_unowned) refl }
+  asked_again (Err error) look off = record { free = []; same = ap (λ (x : Seen). seen_replied x (Close h) Done) (refused_try look off error) ∙ closed_tried None s.standing.seen_unowned refl }
 
 -- what a caller cites
 pub look_same : {s a b : Seen} {h : Handle} {spot : Spot} → Fresh h s.standing.holdings → a ≡ seen_replied s (Open spot which.Own) (Opened h) → b ≡ seen_replied a (Close h) Done → b ≡ s
-look_same {s} {a} {b} {h} {spot} fresh x y = y ∙ ap (λ (z : Seen). seen_replied z (Close h) Done) x ∙ closed_tried s h spot fresh None s.standing.looked refl
+look_same {s} {a} {b} {h} {spot} fresh x y = y ∙ ap (λ (z : Seen). seen_replied z (Close h) Done) x ∙ closed_tried s h spot fresh None s.standing.seen_unowned refl
 
 pub look_looked : {s a b : Seen} {h : Handle} {spot : Spot} → Fresh h s.standing.holdings → a ≡ seen_replied s (Open spot which.Own) (Opened h) → b ≡ seen_replied a (Close h) Done → Looked s b
 look_looked {s} {a} {b} fresh x y = subst (λ (w : Seen). Looked s w) (sym (look_same fresh x y)) (looked_same s)
@@ -253,13 +253,13 @@ lookable_pod a h = cc
 -- where the lock was had, the place is known to be free
 pub ask_free : {s a b c : Seen} {h : Handle} {spot : Spot} → is_lookable spot.area ≡ true → is_open_on (Own spot) s.standing.holdings ≡ false → Fresh h s.standing.holdings → a ≡ seen_replied s (Open spot which.Own) (Opened h) → b ≡ seen_replied a (TryLock h Shared) Done → c ≡ seen_replied b (Close h) Done → is_free c spot ≡ true
 ask_free {s} {a} {b} {c} {h} {spot} look off fresh x y z =
-    let is : c ≡ record s { standing = record s.standing { looked = own_spot (Own spot) ++ s.standing.looked } } =
+    let is : c ≡ record s { standing = record s.standing { seen_unowned = own_spot (Own spot) ++ s.standing.seen_unowned } } =
     z ∙ ap (λ (w : Seen). seen_replied w (Close h) Done) (y ∙ ap (λ (w : Seen). seen_replied w (TryLock h Shared) Done) x)
-    ∙ ap (λ (w : Seen). seen_replied w (Close h) Done) (locked_try s h spot fresh look off) ∙ closed_tried s h spot fresh (Some Shared) (own_spot (Own spot) ++ s.standing.looked) refl in
+    ∙ ap (λ (w : Seen). seen_replied w (Close h) Done) (locked_try s h spot fresh look off) ∙ closed_tried s h spot fresh (Some Shared) (own_spot (Own spot) ++ s.standing.seen_unowned) refl in
     ap (λ (w : Seen). is_free w spot) is
-    ∙ (ap (λ b. has_place spot.name spot.area (cond b (spot ∷ []) [] ++ s.standing.looked)) (lookable_pod spot.area look)
-    ∙ (ap (λ b. (b && is_in spot.area spot.area) || has_place spot.name spot.area s.standing.looked) (same_bytes spot.name)
-    ∙ ap (λ b. b || has_place spot.name spot.area s.standing.looked) (same_self (rank spot.area))))
+    ∙ (ap (λ b. has_place spot.name spot.area (cond b (spot ∷ []) [] ++ s.standing.seen_unowned)) (lookable_pod spot.area look)
+    ∙ (ap (λ b. (b && is_in spot.area spot.area) || has_place spot.name spot.area s.standing.seen_unowned) (same_bytes spot.name)
+    ∙ ap (λ b. b || has_place spot.name spot.area s.standing.seen_unowned) (same_self (rank spot.area))))
 
 -- a process with no handle on the pod's Own deletes nothing there
 pub deletes_none : (name : List ℕ) (hs : List Held) → is_open_on (Own (record { area = Prepare; name = name })) hs ≡ false → list_any (is_deleting name) hs ≡ false

@@ -18,7 +18,7 @@ use Rattle.dir_rules.specs.Rules.{allows}
 
 -- it hasn't begun
 abbrev pub nothing_seen : Seen
-nothing_seen = record { standing = nothing_standing; making = None; stored = false; created = []; marked = []; notes = []; put_away = []; listed = []; items = []; areas = []; kept = true }
+nothing_seen = record { standing = nothing_standing; making = None; image_under_lock = false; created = []; marked = []; notes = []; put_away = []; listed = []; items = []; areas = []; kept = true }
 
 -- one request more: what its reply tells, and whether it was allowed
 abbrev pub seen_replied : Seen → Request → Reply → Seen
@@ -48,7 +48,7 @@ Conforms me trace = (seen_of me trace).kept ≡ true
 -- nothing but looks: places were found free at most
 pub record Looked (old new : Seen) : Type 0 where
   pub free : List Spot
-  pub same : new ≡ record old { standing = record old.standing { looked = free ++ old.standing.looked } }
+  pub same : new ≡ record old { standing = record old.standing { seen_unowned = free ++ old.standing.seen_unowned } }
 
 -- where anyone may ask for a shared lock of Own
 abbrev pub is_lookable : Area → Bool

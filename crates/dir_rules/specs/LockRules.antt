@@ -35,10 +35,10 @@ locks_allow_move s u area.Embryo area.Prepare = (s.embryo_under_lock && draws u 
 locks_allow_move s u area.Embryo area.Garbage = began_as is_gc s && excludes_area area.Embryo s
 locks_allow_move s u area.Prepare area.Prepared = began_as is_prepare s && holds_own u s
 locks_allow_move s u area.Prepare area.Run = began_as is_run s && holds_own u s
-locks_allow_move s u area.Prepare area.Garbage = began_as is_remover s && has_place u area.Prepare s.looked
+locks_allow_move s u area.Prepare area.Garbage = began_as is_remover s && has_place u area.Prepare s.seen_unowned
 locks_allow_move s u area.Prepared area.Run = began_as is_run_prepared s && (holds_own u s && holds_claim u s)
 locks_allow_move s u area.Prepared area.Garbage = began_as is_remover s && is_name_among u s.seen_unowned_under_claim
-locks_allow_move s u area.Run area.ExitedGarbage = began_as is_remover s && has_place u area.Run s.looked
+locks_allow_move s u area.Run area.ExitedGarbage = began_as is_remover s && has_place u area.Run s.seen_unowned
 locks_allow_move s u _ _ = false
 
 -- a pod keeps its name, and stays among the places of pods. The store's moves aren't judged here

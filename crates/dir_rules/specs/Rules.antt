@@ -125,7 +125,7 @@ contents_allow_move s from to Prepare Garbage = true
 contents_allow_move s from to Prepared Run = true
 contents_allow_move s from to Prepared Garbage = has_asked_for_removal s from.name
 contents_allow_move s from to Run ExitedGarbage = list_any (spot_eq from) s.marked
-contents_allow_move s from to Incoming Images = has_done is_all_done s from && s.stored
+contents_allow_move s from to Incoming Images = has_done is_all_done s from && s.image_under_lock
 contents_allow_move s from to Incoming Removed = excludes_area Incoming s.standing
 contents_allow_move s from to Images Removed = excludes_area Images s.standing && (draws to.name s.standing && not (list_any (spot_eq to) s.put_away))
 contents_allow_move s from to _ _ = false
@@ -165,7 +165,7 @@ may_read_area s _ = true
 -- the changes. In a folder that it makes: where, and what
 abbrev pub makes_here : Seen → Spot → Area → Bool
 makes_here s spot Prepare = makes_at s.making spot && holds_own spot.name s.standing
-makes_here s spot Incoming = makes_at s.making spot && s.stored
+makes_here s spot Incoming = makes_at s.making spot && s.image_under_lock
 makes_here s spot _ = false
 
 -- the path is in the folder itself, or in a directory that was made

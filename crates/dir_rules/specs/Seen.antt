@@ -47,7 +47,7 @@ still_known handle hs areas = filter (λ a. not (gives_up (is_gate_exclusive a.a
 -- what is known after a handle is closed
 abbrev pub closed : Seen → Handle → Seen
 closed s handle = record s {
-  stored = not (gives_up (is_gate_shared Incoming) handle s.standing.holdings) && s.stored;
+  image_under_lock = not (gives_up (is_gate_shared Incoming) handle s.standing.holdings) && s.image_under_lock;
   listed = still_listed handle s.standing.holdings s.listed;
   items = still_shown handle s.standing.holdings s.items;
   areas = still_known handle s.standing.holdings s.areas;
@@ -63,7 +63,7 @@ forget_items spot items = filter (λ i. not (spot_eq i.inner.spot spot)) items
 
 -- the process made a folder in this area
 abbrev pub folder_made : Seen → Spot → Seen
-folder_made s spot = record s { stored = is_in Incoming spot.area && shares_area Incoming s.standing; making = Some (record { spot = spot; clean = true; entries = []; unsynced = [] }) }
+folder_made s spot = record s { image_under_lock = is_in Incoming spot.area && shares_area Incoming s.standing; making = Some (record { spot = spot; clean = true; entries = []; unsynced = [] }) }
 
 -- the process moved a folder
 abbrev pub moved_away : Spot → ShownArea → ShownArea
@@ -79,7 +79,7 @@ put_in to spots = cond (is_in to.area Removed) (to ∷ spots) spots
 
 -- what is known after a move
 abbrev pub folder_moved : Seen → Spot → Spot → Seen
-folder_moved s from to = record s { stored = not (is_in Incoming from.area) && s.stored; listed = forget_listed to s.listed; items = forget_items to s.items; areas = map (moved_away from) s.areas; making = option_map (moved_making from to) s.making; put_away = put_in to s.put_away }
+folder_moved s from to = record s { image_under_lock = not (is_in Incoming from.area) && s.image_under_lock; listed = forget_listed to s.listed; items = forget_items to s.items; areas = map (moved_away from) s.areas; making = option_map (moved_making from to) s.making; put_away = put_in to s.put_away }
 
 -- a folder is made in these areas, until its maker moves it out
 abbrev pub is_making_area : Area → Bool
@@ -115,7 +115,7 @@ in_making s spot change = record s { making = making_changed spot change s.makin
 
 -- a shared lock of Own answered Ok there
 abbrev pub is_free : Seen → Spot → Bool
-is_free s spot = has_place spot.name spot.area s.standing.looked
+is_free s spot = has_place spot.name spot.area s.standing.seen_unowned
 
 -- the mark of its own moment
 abbrev pub is_own_mark : Option Intent → List ℕ → Bool
@@ -214,7 +214,7 @@ learned_done s (SyncIn inner) = in_making s inner.spot (with_path_synced inner.p
 learned_done s (RemoveFileIn inner) = item_removed s inner
 learned_done s (RemoveDirIn inner) = item_removed s inner
 learned_done s (RemoveFolder spot) = folder_removed s spot
-learned_done s Finish = record s { stored = false; listed = []; items = []; areas = [] }
+learned_done s Finish = record s { image_under_lock = false; listed = []; items = []; areas = [] }
 learned_done s _ = s
 
 -- the refusal says that something is there

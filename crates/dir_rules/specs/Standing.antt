@@ -59,7 +59,7 @@ area_of (Gate area) = area
 
 -- it has asked for nothing yet
 abbrev pub nothing_standing : Standing
-nothing_standing = record { intent = None; made = false; embryo_under_lock = false; holdings = []; moves = []; looked = []; seen_unowned_under_claim = [] }
+nothing_standing = record { intent = None; made = false; embryo_under_lock = false; holdings = []; moves = []; seen_unowned = []; seen_unowned_under_claim = [] }
 
 -- the lock is held shared
 abbrev pub is_shared : Option Mode → Bool
@@ -220,7 +220,7 @@ prepared_name _ = []
 -- Own was had shared by this handle
 abbrev pub looked_by : Option Held → Standing → Standing
 looked_by None s = s
-looked_by (Some h) s = record s { looked = own_spot h.target ++ s.looked; seen_unowned_under_claim = cond h.covered (prepared_name h.target) [] ++ s.seen_unowned_under_claim }
+looked_by (Some h) s = record s { seen_unowned = own_spot h.target ++ s.seen_unowned; seen_unowned_under_claim = cond h.covered (prepared_name h.target) [] ++ s.seen_unowned_under_claim }
 
 -- where a move of a pod led
 abbrev pub and_move : Spot → List Spot → List Spot

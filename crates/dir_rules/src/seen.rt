@@ -52,7 +52,7 @@ pub struct Seen {
     pub standing: Standing,
     pub making: Option<Making>,
     /// The image that it made stands in incoming, and it has held that area's lock since before.
-    pub stored: bool,
+    pub image_under_lock: bool,
     /// What listings of pods' folders showed. It only grows.
     pub created: Sequence<Created>,
     /// Pods in run that it marked after it had their own lock shared.

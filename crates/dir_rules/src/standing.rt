@@ -26,7 +26,7 @@ pub struct Standing {
     /// Where its moves of pods led, the newest first.
     pub moves: Sequence<Spot>,
     /// Where a pod's own lock was opened that it then had shared.
-    pub looked: Sequence<Spot>,
+    pub seen_unowned: Sequence<Spot>,
     /// The pods whose own lock it had shared by a covered handle, and whose activation lock it has
     /// held since before.
     pub seen_unowned_under_claim: Names,

@@ -6,6 +6,7 @@ pub mod Sinks
 pub use Rattle.dir_model.specs.Names
 pub use Rattle.dir_model.specs.Pods
 pub use Rattle.dir_model.specs.Areas
+pub use Rattle.dir_model.specs.Spots
 pub use Rattle.dir_model.specs.Reserved
 pub use Rattle.dir_model.specs.Locks
 pub use Rattle.dir_model.specs.Paths

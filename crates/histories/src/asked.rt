@@ -13,7 +13,7 @@ fn standing(alloc: Global, intent: Intent) -> Standing {
         embryo_under_lock: false,
         holdings: Sequence::from_vec(Vec::new(alloc)),
         moves: Sequence::from_vec(Vec::new(alloc)),
-        looked: Sequence::from_vec(Vec::new(alloc)),
+        seen_unowned: Sequence::from_vec(Vec::new(alloc)),
         seen_unowned_under_claim: Sequence::from_vec(Vec::new(alloc)),
     }
 }
@@ -22,7 +22,7 @@ fn seen(alloc: Global, intent: Intent, created: Sequence<Created>) -> Seen {
     Seen {
         standing: standing(alloc, intent),
         making: None,
-        stored: false,
+        image_under_lock: false,
         created,
         marked: Sequence::from_vec(Vec::new(alloc)),
         notes: Sequence::from_vec(Vec::new(alloc)),

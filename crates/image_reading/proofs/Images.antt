@@ -11,9 +11,11 @@ use Rattle.image_reading.specs.declared.file.KeptManifest.{KeptManifest}
 use Rattle.image_reading.specs.Places.{stored_path, image_inner, manifest_name, id_name, tree_name, mark_name}
 use Rattle.image_reading.specs.Looks.{OnlyReadsImage}
 use Rattle.image_reading.specs.Refusals.{IsReadRefusal, IsDamaged}
-use Rattle.image_reading.specs.Files.{most_of_manifest, most_of_id, most_of_tree, IsNoImageManifest, IsNoId, IsNoListing, ReadsKept, ReadsImageManifest, ReadsNoImageManifest, LacksId, LacksTree, LacksMoment}
+use Rattle.image_reading.specs.Files.{most_of_id, IsNoImageManifest, IsNoId, IsNoListing, ReadsKept, ReadsImageManifest, ReadsNoImageManifest, LacksId, LacksTree, LacksMoment}
 use Rattle.image_reading.specs.Images.{ReadsParts, ReadsImage, ReadsSomeManifest, ReadsSomeId, LacksInTurn, IsFirstLack, LacksImage, LacksDigest}
 use Rattle.image_reading.proofs.Widths.{held_after, file_after, file_before, lack_after, lack_before, marks_after, marks_before}
+use Rattle.manifests.specs.ManifestSize.{most_of_manifest}
+use Rattle.tree_digest.specs.ListingSize.{most_of_tree}
 
 pub manifest_kept : (key : StoreKey) {old new : DirAt} (kept : KeptManifest) → ReadsKept key kept old new → ReadsImageManifest key kept.manifest old new
 manifest_kept key kept r = record { bytes = r.bytes; few = r.few; read = r.read; holds = r.holds.1 }

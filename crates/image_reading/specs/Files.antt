@@ -19,6 +19,8 @@ use Rattle.image_reading.specs.declared.file.KeptManifest.{KeptManifest}
 use Rattle.image_reading.specs.Within.{Within}
 use Rattle.image_reading.specs.Places.{image_inner, manifest_name, id_name, tree_name, IsImageAbsent, IsPresent}
 use Rattle.image_reading.specs.Marks.{imported_moments, IsGreatest}
+use Rattle.manifests.specs.ManifestSize.{most_of_manifest}
+use Rattle.tree_digest.specs.ListingSize.{most_of_tree}
 
 -- the bytes are those of the manifest
 abbrev pub IsImageManifestOf : ImageManifest → List ℕ → Type 0
@@ -60,17 +62,9 @@ pub record ReadsFile (inner : Inner) (most : ℕ) (P : List ℕ → Type 0) (old
 abbrev pub LacksFile : Inner → ℕ → (List ℕ → Type 0) → DirAt → DirAt → Type 0
 LacksFile inner most P old new = WasMissing inner old new ⊎ ReadsFile inner most P old new
 
--- one byte more than a manifest may have, so that a longer one is told from the longest
-abbrev pub most_of_manifest : ℕ
-most_of_manifest = 1048577
-
--- the same for an ID and a line end
+-- one byte more than an ID and a line end have
 abbrev pub most_of_id : ℕ
 most_of_id = 137
-
--- and for a listing
-abbrev pub most_of_tree : ℕ
-most_of_tree = 33554433
 
 abbrev pub ReadsManifestFile : StoreKey → (List ℕ → Type 0) → DirAt → DirAt → Type 0
 ReadsManifestFile key P old new = ReadsFile (image_inner key manifest_name) most_of_manifest P old new

@@ -7,3 +7,5 @@ pub mod Refusals
 pub mod Files
 pub mod Images
 pub mod Store
+pub use Rattle.manifests.specs.ManifestSize
+pub use Rattle.tree_digest.specs.ListingSize

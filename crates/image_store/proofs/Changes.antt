@@ -123,7 +123,7 @@ knows_made {observed} {draw} {old} {new} t c intent hs imports under k = subst (
 
 pub knows_unmade : {observed : Bool} {draw : PodId} {old new : DirAt} (e : DirError) → observed ≡ true → DirCall observed old (MakeFolder (building_spot draw)) (Refused e 0) new → WhereImporting draw UnderImportLocks false None old (λ intent hs. HasImportFolder draw intent hs new)
 knows_unmade {observed} {draw} {old} {new} e t c intent hs imports under k = record {
-  stored = false;
+  image_under_lock = false;
   making = None;
   own = tt;
   knows = subst (λ (s : Seen). Knows new s) (unmade_seen draw intent hs imports under e) (knows_call t k refl refl c);

@@ -75,4 +75,4 @@ module _ (draw : PodId) (intent : Intent) (hs : List Held) (plan : List PlanEntr
   has_begun {old} {new} spot is k b may =
       let d = subst (λ (s : Spot). BeginsPlan source s plan old new) is b in
       let g = d Base Empty k site (fill may) in
-      record { stored = true; making = Some g.making; own = g.is.stands; knows = g.knows }
+      record { image_under_lock = true; making = Some g.making; own = g.is.stands; knows = g.knows }

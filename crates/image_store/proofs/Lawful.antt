@@ -65,7 +65,7 @@ makes_moved : (s : Seen) (from to : Spot) → is_in area.Incoming from.area ≡ 
 makes_moved s from to out into may =
     let b = subst (λ (a : Area). contents_allow_move s from to area.Incoming a ≡ true) (sym (in_area area.Images to.area into))
     (subst (λ (a : Area). contents_allow_move s from to a to.area ≡ true) (sym (in_area area.Incoming from.area out)) (brought s from to may)) in
-    and_left (makes_at s.making from) _ (and_left (has_done is_all_done s from) s.stored b)
+    and_left (makes_at s.making from) _ (and_left (has_done is_all_done s from) s.image_under_lock b)
 
 module _ {me : ℕ} {old new : List Event} (conforming : IsConforming new) where
   not_made : (spot : Spot) (left : ℕ) → CallStep me old (MakeFolder spot) (Refused Exists left) new → is_in area.Incoming spot.area ≡ true → ⊥

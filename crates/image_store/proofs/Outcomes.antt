@@ -68,7 +68,7 @@ module _ (draw : PodId) (now : ℕ) (image : BundleImage) where
       x = filled intent hs imports under k
 
       has : Knows c (seen_importing intent hs true (Some (holding (building_spot draw) x.entries))) → HasImportFolder draw intent hs c
-      has knows = record { stored = true; making = Some (holding (building_spot draw) x.entries); own = refl; knows = knows }
+      has knows = record { image_under_lock = true; making = Some (holding (building_spot draw) x.entries); own = refl; knows = knows }
 
       by : (r : Result Bool StoreError) → (r ≡ Ok false → observed ≡ true → WhereImportFilled draw b (λ intent hs entries. IsImagePlaced draw (image_spot (key_of_image image)) intent hs entries b c)) → Unbrought r (observed ≡ true → WhereImportFilled draw b (λ intent hs entries. Knows c (seen_importing intent hs true (Some (holding (building_spot draw) entries))))) → ImportLeaves draw now image intent hs r a c
       by (Ok false) placed left =
@@ -87,8 +87,8 @@ module _ (draw : PodId) (now : ℕ) (image : BundleImage) where
     knows = subst (λ (s : Bool). Knows d (seen_importing intent hs s (Some (holding (image_spot (key_of_image image)) x.entries)))) (and_false (not (is_in Incoming area))) (given (seen_importing intent hs false (Some (holding (image_spot (key_of_image image)) x.entries))) new x.knows);
     moved = moved_within (IsOf image now) (IsOf image now) (building_spot draw) (image_spot (key_of_image image)) a b c d t ab cd (λ es is. is) x.moved;
   }
-  given_leaves {observed} {a} {b} {c} {d} area h (Ok true) t ab cd given intent hs new x = record { stored = not (is_in Incoming area) && x.stored; making = x.making; own = x.own; knows = given (seen_importing intent hs x.stored x.making) new x.knows }
-  given_leaves {observed} {a} {b} {c} {d} area h (Err e) t ab cd given intent hs new x = record { stored = not (is_in Incoming area) && x.stored; making = x.making; own = x.own; knows = given (seen_importing intent hs x.stored x.making) new x.knows }
+  given_leaves {observed} {a} {b} {c} {d} area h (Ok true) t ab cd given intent hs new x = record { image_under_lock = not (is_in Incoming area) && x.image_under_lock; making = x.making; own = x.own; knows = given (seen_importing intent hs x.image_under_lock x.making) new x.knows }
+  given_leaves {observed} {a} {b} {c} {d} area h (Err e) t ab cd given intent hs new x = record { image_under_lock = not (is_in Incoming area) && x.image_under_lock; making = x.making; own = x.own; knows = given (seen_importing intent hs x.image_under_lock x.making) new x.knows }
 
   -- said of a longer time
   pub leaves_after : {observed : Bool} (intent : Intent) (hs : List Held) (a b c : DirAt) (r : Result Bool StoreError) → observed ≡ true → Follows observed a b → ImportLeaves draw now image intent hs r b c → ImportLeaves draw now image intent hs r a c
@@ -98,7 +98,7 @@ module _ (draw : PodId) (now : ℕ) (image : BundleImage) where
 
 -- nothing was made yet
 pub has_nothing : {draw : PodId} {intent : Intent} {hs : List Held} {d : DirAt} → Knows d (seen_importing intent hs false None) → HasImportFolder draw intent hs d
-has_nothing k = record { stored = false; making = None; own = tt; knows = k }
+has_nothing k = record { image_under_lock = false; making = None; own = tt; knows = k }
 
 -- a lock that was held elsewhere, said of a longer time
 pub elsewhere_after : {observed : Bool} {e : StoreError} (a b c : DirAt) → observed ≡ true → Follows observed a b → ImportBusyElsewhere e b c → ImportBusyElsewhere e a c

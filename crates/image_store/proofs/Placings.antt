@@ -40,8 +40,8 @@ pub worked_reads : {observed : Bool} (spot : Spot) (key : StoreKey) {old new : D
 worked_reads {observed} spot key r = record { same = r.same; faults = r.faults; local = r.local; extends = λ t. extends_wider (reads_import spot key) (r.extends t) }
 
 -- under the lock of images it may read there
-pub may_read_there : (intent : Intent) (hs : List Held) (stored : Bool) (making : Option Making) → list_any (is_gate_shared Images) hs ≡ true → may_read Images (seen_importing intent hs stored making).standing ≡ true
-may_read_there intent hs stored making images = rw images refl
+pub may_read_there : (intent : Intent) (hs : List Held) (image_under_lock : Bool) (making : Option Making) → list_any (is_gate_shared Images) hs ≡ true → may_read Images (seen_importing intent hs image_under_lock making).standing ≡ true
+may_read_there intent hs image_under_lock making images = rw images refl
 
 pub unbrought_any : (r : Result Bool StoreError) (Left : Type 0) → Left → Unbrought r Left
 unbrought_any (Ok false) Left left = tt

@@ -44,7 +44,7 @@ module _ (draw : PodId) (intent : Intent) (hs : List Held) (imports : IsImport d
       ∙ ap (λ b. b && true) drawn)
 
   abbrev Made : Bool → Bool → Seen
-  Made stored kept = record (seen_importing intent hs stored (Some (holding Here []))) { kept = kept }
+  Made image_under_lock kept = record (seen_importing intent hs image_under_lock (Some (holding Here []))) { kept = kept }
 
   pub made_seen : seen_replied Free (MakeFolder Here) Done ≡ seen_importing intent hs true (Some (holding Here []))
   made_seen = ap (λ b. Made b (allows Free (MakeFolder Here) && true)) under.incoming ∙ ap (λ b. Made true (b && true)) may_make

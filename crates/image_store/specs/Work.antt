@@ -26,7 +26,7 @@ use Rattle.image_store.specs.Requests.{building_spot}
 -- it has begun so, has these handles, and makes this folder; stored where it has had the lock of incoming since. Each of its
 -- requests was allowed, and it has seen nothing else
 abbrev pub seen_importing : Intent → List Held → Bool → Option Making → Seen
-seen_importing intent hs stored making = record nothing_seen { standing = record nothing_standing { intent = Some intent; holdings = hs }; stored = stored; making = making }
+seen_importing intent hs image_under_lock making = record nothing_seen { standing = record nothing_standing { intent = Some intent; holdings = hs }; image_under_lock = image_under_lock; making = making }
 
 -- it has begun an import with this draw
 pub record IsImport (draw : PodId) (intent : Intent) : Type 0 where
@@ -49,7 +49,7 @@ pub record UnderImportLocks (hs : List Held) : Type 0 where
 
 -- wherever a process imports with this draw, has such handles and knows this of the folder that it makes
 abbrev pub WhereImporting : PodId → (List Held → Type 0) → Bool → Option Making → DirAt → (Intent → List Held → Type 0) → Type 0
-WhereImporting draw Under stored making old After = (intent : Intent) (hs : List Held) → IsImport draw intent → Under hs → Knows old (seen_importing intent hs stored making) → After intent hs
+WhereImporting draw Under image_under_lock making old After = (intent : Intent) (hs : List Held) → IsImport draw intent → Under hs → Knows old (seen_importing intent hs image_under_lock making) → After intent hs
 
 -- it has made no folder, or the one in incoming
 abbrev pub IsImportFolder : PodId → Option Making → Type 0
@@ -58,10 +58,10 @@ IsImportFolder draw (Some m) = m.spot ≡ building_spot draw
 
 -- it has these handles still, and at most its own folder in incoming
 pub record HasImportFolder (draw : PodId) (intent : Intent) (hs : List Held) (new : DirAt) : Type 0 where
-  pub stored : Bool
+  pub image_under_lock : Bool
   pub making : Option Making
   pub own : IsImportFolder draw making
-  pub knows : Knows new (seen_importing intent hs stored making)
+  pub knows : Knows new (seen_importing intent hs image_under_lock making)
 
 -- it has filled the folder so
 pub record HasFilledImport (P : List Entry → Type 0) (draw : PodId) (intent : Intent) (hs : List Held) (new : DirAt) : Type 0 where

@@ -125,7 +125,7 @@ module _ (h : List Event) (p : ℕ) (conforming : IsConforming h) (known : Known
       by area.Run area.ExitedGarbage e f bring ask = remover (ap is_garbage e) (ap is_store e) (and_left (began_as is_remover s.standing) _ (ask refl))
       by area.Run b e f bring ask = cc
       by area.Incoming area.Images e f bring ask =
-          clash (makes_at s.making from) (and_left (makes_at s.making from) (of_making is_all_done s.making) (and_left (has_done is_all_done s from) s.stored bring)) stranger
+          clash (makes_at s.making from) (and_left (makes_at s.making from) (of_making is_all_done s.making) (and_left (has_done is_all_done s from) s.image_under_lock bring)) stranger
       by area.Incoming area.Removed e f bring ask = put_away e f error refl
       by area.Incoming b e f bring ask = cc
       by area.Images b e f bring ask = elsewhere area.Images b e refl refl refl refl

@@ -232,7 +232,7 @@ module _ (h : List Event) (e : Event) (c : IsConforming (h ++ e ∷ [])) (p : �
       moves : (b : Area) → contents_allow_move g from to area.Incoming b ≡ true → ⊥
       moves area.Images bring = never_both (state_after h).namespace (sound_at h x.conforming) area.Incoming p e.process (seen_of p h).standing g.standing
           (linked_at p h x.conforming living) (linked_at e.process h x.conforming living_q) closed
-          ((apt h x.conforming e.process).gate living_q (and_right (has_done is_all_done g from) g.stored bring))
+          ((apt h x.conforming e.process).gate living_q (and_right (has_done is_all_done g from) g.image_under_lock bring))
       moves area.Removed bring =
           let same : p ≡ e.process = one_closer (state_after h).namespace (sound_at h x.conforming) area.Incoming p e.process (seen_of p h).standing g.standing
           (linked_at p h x.conforming living) (linked_at e.process h x.conforming living_q) closed bring in

@@ -158,7 +158,7 @@ module _ (es : List TreeEntry) (k : ℕ) (known : List Entry) (names : SameNames
 -- where it makes, it has the folder's lock
 pub here_guarded : (g : Seen) (spot : Spot) (a : Area) → makes_here g spot a ≡ true → (makes_at g.making spot ≡ true) × (guards g spot.name a ≡ true)
 here_guarded g spot area.Prepare h = and_parts (makes_at g.making spot) (holds_own spot.name g.standing) h
-here_guarded g spot area.Incoming h = and_parts (makes_at g.making spot) g.stored h
+here_guarded g spot area.Incoming h = and_parts (makes_at g.making spot) g.image_under_lock h
 here_guarded g spot a h = cc
 
 module _ (h : List Event) (p : ℕ) (conforming : IsConforming h) (living : lives (state_after h).namespace p ≡ true) (m : Making)
@@ -286,7 +286,7 @@ module _ (h : List Event) (p : ℕ) (conforming : IsConforming h) (living : live
   mover_guards from to area.Prepare area.Run is f making bring ask = and_right (began_as is_run s.standing) (holds_own from.name s.standing) (ask refl)
   mover_guards from to area.Prepare area.Garbage is f making bring ask =
       kinds_apart is_maker is_remover no_remover s.standing.intent f.0.1 (and_left (began_as is_remover s.standing) _ (ask refl))
-  mover_guards from to area.Incoming area.Images is f making bring ask = and_right (has_done is_all_done s from) s.stored bring
+  mover_guards from to area.Incoming area.Images is f making bring ask = and_right (has_done is_all_done s from) s.image_under_lock bring
   mover_guards from to area.Incoming area.Removed is f making bring ask =
       kinds_apart is_import (λ k. may_exclude_area k area.Incoming) no_closer s.standing.intent f.1 (closes_fit h conforming p area.Incoming bring)
   mover_guards from to area.Embryo b is f making bring ask = cc

@@ -243,8 +243,8 @@ arrives u n s p σ area.Prepare area.Run sound pod know knows may at =
           (run_prepare u n p sound (subst (λ (z : PodState). Pod u n z) e pod) g),
     )
 arrives u n s p σ area.Prepare area.Garbage sound pod know knows may at =
-    let x = and_parts (began_as is_remover (σ p)) (has_place u area.Prepare (σ p).looked) may in
-    let e = aborted s at (knows.looked area.Prepare x.1) in (
+    let x = and_parts (began_as is_remover (σ p)) (has_place u area.Prepare (σ p).seen_unowned) may in
+    let e = aborted s at (knows.seen_unowned area.Prepare x.1) in (
       Garbage,
       subst (λ (z : PodState). Arrival u p n z Garbage area.Garbage) (sym e)
           (sweep_aborted u n p (subst (λ (z : PodState). Pod u n z) e pod)),
@@ -267,8 +267,8 @@ arrives u n s p σ area.Prepared area.Garbage sound pod know knows may at =
           (subst (λ (z : PodState). Cleared u n z (σ p)) e (knows.seen_unowned_under_claim x.1))),
     )
 arrives u n s p σ area.Run area.ExitedGarbage sound pod know knows may at =
-    let x = and_parts (began_as is_remover (σ p)) (has_place u area.Run (σ p).looked) may in
-    let e = exited s at (knows.looked area.Run x.1) in (
+    let x = and_parts (began_as is_remover (σ p)) (has_place u area.Run (σ p).seen_unowned) may in
+    let e = exited s at (knows.seen_unowned area.Run x.1) in (
       ExitedGarbage,
       subst (λ (z : PodState). Arrival u p n z ExitedGarbage area.ExitedGarbage) (sym e)
           (mark u n p (subst (λ (z : PodState). Pod u n z) e pod)),

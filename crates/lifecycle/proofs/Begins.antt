@@ -44,7 +44,7 @@ begin_knows u n s p intent sound unborn = record {
   gates = λ g. absurd (cc);
   owned = λ e x. absurd (cc);
   covered = λ h i o c. absurd i;
-  looked = λ a x. absurd (cc);
+  seen_unowned = λ a x. absurd (cc);
   seen_unowned_under_claim = λ x. absurd (cc);
 }
 

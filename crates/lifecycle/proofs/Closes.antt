@@ -127,7 +127,7 @@ close_knows u n s t p h k sound may ends knows = record {
   owned = λ e x. owning (embryo_was p s t ends e) (any_filtered (is_own_held u) (λ g. not (is_handle_held h g)) k.holdings
       (sym (again (is_own_held u) (λ x. refl)) ∙ x));
   covered = λ g i x c. cover g (in_map (uncovered_by_close h k.holdings) rest g i) x c;
-  looked = λ a x. aged s t (age_free a) ends (knows.looked a x);
+  seen_unowned = λ a x. aged s t (age_free a) ends (knows.seen_unowned a x);
   seen_unowned_under_claim = λ x. clear (any_in (λ name. bytes_eq name u) (filter (λ v. not (gives_up (is_claim_held v) h k.holdings))
       k.seen_unowned_under_claim) x);
 }

@@ -77,7 +77,7 @@ pub record Knows (u : List ℕ) (p : ℕ) (n : Namespace) (s : PodState) (k : St
   pub covered : (h : Held) → In h k.holdings → is_own_of u h.target ≡ true → h.covered ≡ true →
       (s ≡ Prepared) × (holds_claim u k ≡ true)
   -- where Own could be had shared, there was no owner, and there is none
-  pub looked : (a : Area) → has_place u a k.looked ≡ true → age_free a ≤ pod_progress s
+  pub seen_unowned : (a : Area) → has_place u a k.seen_unowned ≡ true → age_free a ≤ pod_progress s
   pub seen_unowned_under_claim : is_name_among u k.seen_unowned_under_claim ≡ true → Cleared u n s k
 
 pub record Invariant (u : List ℕ) (n : Namespace) (s : PodState) (σ : ℕ → Standing) : Type 0 where
@@ -235,7 +235,7 @@ others u q n m s t k same aged embryo back prepared free knows = record {
   gates = knows.gates;
   owned = λ e h. knows.owned (back e) h;
   covered = λ h i o c. let x = knows.covered h i o c in (prepared x.1 x.0, x.1);
-  looked = λ a h. let l : age_free a ≤ pod_progress s = knows.looked a h in omega (arith, l, aged);
+  seen_unowned = λ a h. let l : age_free a ≤ pod_progress s = knows.seen_unowned a h in omega (arith, l, aged);
   seen_unowned_under_claim = λ h. let c = knows.seen_unowned_under_claim h in let l : 4 ≤ pod_progress s =
       c.past in record {
         claim = c.claim;

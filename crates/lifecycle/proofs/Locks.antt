@@ -197,7 +197,7 @@ lock_knows u n s t p k h m sound lock linked x knows = record {
   gates = λ g. kept_lock p n k h m gate_of sound knows.linked lock gate_some (knows.gates g);
   owned = λ e o. x.owned (x.embryo_back p e) o;
   covered = λ g i o c. cover g (had_in h m k.holdings g i) o c;
-  looked = λ a y. let l : age_free a ≤ pod_progress s = knows.looked a y in let g : pod_progress s ≤ pod_progress t = x.aged in omega (arith, l, g);
+  seen_unowned = λ a y. let l : age_free a ≤ pod_progress s = knows.seen_unowned a y in let g : pod_progress s ≤ pod_progress t = x.aged in omega (arith, l, g);
   seen_unowned_under_claim = λ y. let c = knows.seen_unowned_under_claim y in let l : 4 ≤ pod_progress s =
       c.past in let g : pod_progress s ≤ pod_progress t = x.aged in record {
         claim = claims c.claim;

@@ -128,8 +128,8 @@ look_knows u p n s k h sound pod old l knows =
       gates = knows.gates;
       owned = knows.owned;
       covered = knows.covered;
-      looked = λ a x. places a (any_parts (λ spot. bytes_eq spot.name u && is_in a spot.area) (own_spot l.held.target)
-          k.looked x);
+      seen_unowned = λ a x. places a (any_parts (λ spot. bytes_eq spot.name u && is_in a spot.area) (own_spot l.held.target)
+          k.seen_unowned x);
       seen_unowned_under_claim = λ x. names (any_parts (λ name. bytes_eq name u) (cond l.held.covered (prepared_name l.held.target) [])
           k.seen_unowned_under_claim x);
     })
@@ -137,8 +137,8 @@ look_knows u p n s k h sound pod old l knows =
     same_target : l.held.target ≡ l.opening.target
     same_target = ap (λ (b : Bare). b.target) l.same
 
-    places : (a : Area) → (has_place u a (own_spot l.held.target) ≡ true) ⊎ (has_place u a k.looked ≡ true) → age_free a ≤ pod_progress s
-    places a (inr x) = old.looked a x
+    places : (a : Area) → (has_place u a (own_spot l.held.target) ≡ true) ⊎ (has_place u a k.seen_unowned ≡ true) → age_free a ≤ pod_progress s
+    places a (inr x) = old.seen_unowned a x
     places a (inl x) =
         let y = spot_of u a l.opening.target (ap (λ (t : Target). has_place u a (own_spot t)) (sym same_target) ∙ x) in
         let z = (pod.named l.opening l.there (own_named u l.opening.target y.0)).1 in

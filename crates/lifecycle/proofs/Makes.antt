@@ -135,7 +135,7 @@ make_knows u n p spot k of m knows = record {
   gates = λ g. m.gate;
   owned = λ e x. (m.gate, ap (λ (v : List ℕ). draws v k) (sym (of_name u spot of)) ∙ m.draws);
   covered = λ h i x c. let y = (knows.covered h i x c).0 in absurd (cc);
-  looked = λ a x. let l : age_free a ≤ 0 = knows.looked a x in omega (arith, l);
+  seen_unowned = λ a x. let l : age_free a ≤ 0 = knows.seen_unowned a x in omega (arith, l);
   seen_unowned_under_claim = λ x. let l : 4 ≤ 0 = (knows.seen_unowned_under_claim x).past in absurd (omega (arith, l));
 }
 
@@ -179,7 +179,7 @@ knows_folders u n p s k fs knows =
       owned = knows.owned;
       covered =
           knows.covered;
-      looked = knows.looked;
+      seen_unowned = knows.seen_unowned;
       seen_unowned_under_claim = λ x. let c = knows.seen_unowned_under_claim x in
           record { claim = c.claim; remover = c.remover; past = c.past; free = c.free };
     }
@@ -202,6 +202,6 @@ make_knows_other u n p s spot k not_of may knows = by (is_stage spot.area) refl
       gates = λ g. m.gate;
       owned = λ e x. absurd (drawn is m (knows.owned e x).1);
       covered = knows.covered;
-      looked = knows.looked;
+      seen_unowned = knows.seen_unowned;
       seen_unowned_under_claim = λ x. let c = knows.seen_unowned_under_claim x in record { claim = c.claim; remover = c.remover; past = c.past; free = c.free };
     }

@@ -168,7 +168,7 @@ move_knows u n s t p from to k of_from of_to there arrives knows = record {
       ∙ knows.gates (and_parts (not (is_in area.Embryo from.area && draws from.name k)) k.embryo_under_lock g).1;
   owned = λ e x. absurd (arrives.past_embryo p e);
   covered = λ h i x c. absurd (uncovered h (in_map (uncover from) k.holdings h i) x c);
-  looked = λ a x. let l : age_free a ≤ pod_progress s = knows.looked a x in let g : pod_progress s ≤ pod_progress t = arrives.aged in omega (arith, l, g);
+  seen_unowned = λ a x. let l : age_free a ≤ pod_progress s = knows.seen_unowned a x in let g : pod_progress s ≤ pod_progress t = arrives.aged in omega (arith, l, g);
   seen_unowned_under_claim = λ x. let c = knows.seen_unowned_under_claim x in let l : 4 ≤ pod_progress s = c.past in let g : pod_progress s ≤ pod_progress t = arrives.aged in record {
     claim = same (is_claim_held u) (λ h. refl) ∙ c.claim;
     remover = c.remover;
@@ -224,7 +224,7 @@ move_knows_other u n s p from to k apart knows = record {
     y.1,
   );
   covered = λ h i x c. cover h (in_map (uncover from) k.holdings h i) x c;
-  looked = knows.looked;
+  seen_unowned = knows.seen_unowned;
   seen_unowned_under_claim = λ x. let c = knows.seen_unowned_under_claim x in record {
     claim = same (is_claim_held u) (λ h. refl) ∙ c.claim;
     remover =

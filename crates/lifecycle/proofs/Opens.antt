@@ -102,7 +102,7 @@ knows_opened u p n s k o h free bare_free linked cover knows = record {
   owned = λ e x. knows.owned e (any_unconsed (is_own_held u) k.holdings h
       (off_right (is_own_of u h.target) (is_exclusive h.lock) (ap is_exclusive bare_free)) x);
   covered = λ g i x c. one g (turn i) x c;
-  looked = knows.looked;
+  seen_unowned = knows.seen_unowned;
   seen_unowned_under_claim = λ x. let c = knows.seen_unowned_under_claim x in record {
     claim = claims c.claim;
     remover = c.remover;

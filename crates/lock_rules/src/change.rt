@@ -100,11 +100,11 @@ pub fn drop_cleared(seen_unowned_under_claim: &mut Vec<Name>, handle: Handle, be
 }
 
 /// Where a pod's own lock was opened is noted. Refused only where memory ran out.
-pub fn note_place(looked: &mut Vec<Spot>, target: &Target) -> Result<(), NoMemory>
-    ensures { OnOk result (looked.new.items ≡ own_spot target.now ++ looked.old.items) }
+pub fn note_place(seen_unowned: &mut Vec<Spot>, target: &Target) -> Result<(), NoMemory>
+    ensures { OnOk result (seen_unowned.new.items ≡ own_spot target.now ++ seen_unowned.old.items) }
 {
     match target {
-        Target::Own(spot) if is_stage(spot.area) => push_front(looked, *spot),
+        Target::Own(spot) if is_stage(spot.area) => push_front(seen_unowned, *spot),
         _ => Ok(()),
     }
 }

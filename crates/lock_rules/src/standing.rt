@@ -25,7 +25,7 @@ pub struct StandingTable {
     pub embryo_under_lock: bool,
     pub holdings: Vec<Held>,
     pub moves: Vec<Spot>,
-    pub looked: Vec<Spot>,
+    pub seen_unowned: Vec<Spot>,
     pub seen_unowned_under_claim: Vec<Name>,
 }
 
@@ -57,7 +57,7 @@ impl StandingTable {
             embryo_under_lock: false,
             holdings: Vec::new(alloc),
             moves: Vec::new(alloc),
-            looked: Vec::new(alloc),
+            seen_unowned: Vec::new(alloc),
             seen_unowned_under_claim: Vec::new(alloc),
         }
     }
@@ -124,9 +124,9 @@ impl StandingTable {
 
     /// Whether it had the own lock shared that it opened there.
     pub fn has_looked(&self, name: &Name, area: Area) -> bool
-        ensures { result ≡ has_place name.now area (table_standing self.now).looked }
+        ensures { result ≡ has_place name.now area (table_standing self.now).seen_unowned }
     {
-        self.looked
+        self.seen_unowned
             .iter()
             .any(|spot| spot.name == *name && is_in(area, spot.area))
     }
@@ -148,7 +148,7 @@ impl StandingTable {
     fn note_look(&mut self, held: &Held) -> Result<(), NoMemory>
         ensures { OnOk result (table_standing self.new ≡ looked_by (Some held.now) (table_standing self.old)) }
     {
-        note_place(&mut self.looked, &held.target)?;
+        note_place(&mut self.seen_unowned, &held.target)?;
         note_cleared(&mut self.seen_unowned_under_claim, held)
     }
 

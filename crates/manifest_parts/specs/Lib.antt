@@ -5,6 +5,7 @@ pub mod DocumentForm
 pub mod HeadForms
 pub mod IdForms
 pub mod LabelsForm
+pub mod ManifestSize
 pub mod PartRules
 pub mod RuntimeImageForm
 pub use Rattle.ac_types.specs.FieldForms

@@ -24,6 +24,7 @@ pub use Rattle.app_section.specs.AppRules
 pub use Rattle.app_section.specs.Objects
 pub use Rattle.manifest_parts.specs.DocumentForm
 pub use Rattle.manifest_parts.specs.LabelsForm
+pub use Rattle.manifest_parts.specs.ManifestSize
 pub use Rattle.manifest_parts.specs.PartRules
 pub use Rattle.path_map.specs.Paths
 pub use Rattle.serde_json.specs.Data

@@ -9,7 +9,6 @@ use Rattle.dir_model.specs.declared.pod.PodId.{PodId}
 use Rattle.dir_laws.proofs.Names.{app_name, plain_behind, info_path}
 use Rattle.dir_trait.specs.DirCalls.{DirAt}
 use Rattle.dir_files.specs.Reads.{ReadsUp}
-use Rattle.image_reading.specs.Files.{most_of_manifest}
 use Rattle.manifests.specs.declared.runtime_app.RuntimeApp.{RuntimeApp}
 use Rattle.manifests.specs.PodData.{RuntimeAppData, runtime_app_data}
 use Rattle.metadata_reply.specs.declared.view.ImageBytes.{ImageBytes}
@@ -21,6 +20,7 @@ use Rattle.pod_files.proofs.AppNames.{names_more, names_around}
 use Rattle.metadata.specs.PodViews.{image_path, ReadsAppImage, LacksAppImage, ReadsAppImages, LacksImageOf}
 use Rattle.metadata.specs.Images.{names, IsImageFromBytes, TellsImage, IfReads}
 use Rattle.metadata.proofs.Wider.{wider_after, wider_before, reads_wider, lacks_wider, images_wider}
+use Rattle.manifests.specs.ManifestSize.{most_of_manifest}
 
 -- what the bytes tell
 pub tells_image : {observed : Bool} {old new : DirAt} (pod : PodId) (app bytes : List ℕ) → length bytes ≤ most_of_manifest → (observed ≡ true → ReadsUp (pod_file pod (image_path app)) most_of_manifest old new bytes) → (found : Option ImageBytes) → IsImageFromBytes bytes found → observed ≡ true → TellsImage pod app found old new

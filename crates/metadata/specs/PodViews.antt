@@ -5,7 +5,7 @@ use Rattle.dir_model.specs.declared.area.Phase.TheVariants.{Running}
 use Rattle.dir_model.specs.declared.pod.PodId.{PodId}
 use Rattle.dir_model.specs.Pods.{pod_text, pod_of_text}
 use Rattle.dir_trait.specs.DirCalls.{DirAt}
-use Rattle.image_reading.specs.Files.{ReadsFile, LacksFile, most_of_manifest}
+use Rattle.image_reading.specs.Files.{ReadsFile, LacksFile}
 use Rattle.lifecycle.specs.Executions.{IsConforming}
 use Rattle.lifecycle.specs.PodMachine.{pod_phase}
 use Rattle.manifests.specs.PodData.{PodData, RuntimeAppData}
@@ -13,6 +13,7 @@ use Rattle.phase_read.specs.Exact.{AtOwnEvent}
 use Rattle.pod_files.specs.Files.{ReadsPodManifest, ReadsNoPodManifest, most_of_token}
 use Rattle.pod_files.specs.Places.{pod_file, token_name}
 use Rattle.metadata_reply.specs.Views.{ViewData, HasReading}
+use Rattle.manifests.specs.ManifestSize.{most_of_manifest}
 
 -- appsinfo/APP/manifest
 abbrev pub image_path : List ℕ → List ℕ

@@ -13,7 +13,8 @@ use Rattle.lifecycle.specs.Executions.{IsConforming}
 use Rattle.lifecycle.proofs.Draws.{conforming_left}
 use Rattle.lifecycle.proofs.Stays.{owned_phase}
 use Rattle.lifecycle.proofs.Looking.{misses_tell_gone}
-use Rattle.phase_read.specs.Read.{HasPhase, LeftOut, pod_spot, stages}
+use Rattle.dir_model.specs.Spots.{pod_spot}
+use Rattle.phase_read.specs.Read.{HasPhase, LeftOut, stages}
 use Rattle.phase_read.specs.declared.found.Found.{Found}
 use Rattle.phase_read.specs.declared.found.Found.TheVariants.{At, Gone}
 use Rattle.phase_read.specs.Exact.{AtOwnEvent, IsInPhase, IsNowhere, WasAsFound}

@@ -7,7 +7,8 @@ use Rattle.dir_model.specs.declared.request.Request.{Request}
 use Rattle.dir_model.specs.State.{stands}
 use Rattle.dir_model.specs.Calls.{Extends, AtOwnStep}
 use Rattle.dir_model.proofs.Moments.{at_before, at_grown}
-use Rattle.phase_read.specs.Read.{LeftOut, pod_spot}
+use Rattle.dir_model.specs.Spots.{pod_spot}
+use Rattle.phase_read.specs.Read.{LeftOut}
 
 module _ (pod : PodId) where
   pub none_left_out : (me : ℕ) (h : List Event) → LeftOut me h h pod []

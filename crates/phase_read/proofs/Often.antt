@@ -19,7 +19,7 @@ use Rattle.dir_model.specs.Replies.{is_look_at}
 use Rattle.dir_model.specs.State.{spot_eq}
 use Rattle.dir_model.proofs.Lists.{and_left}
 use Rattle.dir_trait.specs.DirCalls.{DirAt, DirCall, ExtendsBy}
-use Rattle.phase_read.specs.Read.{pod_spot}
+use Rattle.dir_model.specs.Spots.{pod_spot}
 use Rattle.phase_read.specs.Often.{one_if, asked_times, AsksAtMost, opens_own, begins_read, ReadsAtMost}
 
 times_append : (asks : Request → Bool) (me : ℕ) (xs ys : List Event) → asked_times asks me (xs ++ ys) ≡ asked_times asks me xs + asked_times asks me ys

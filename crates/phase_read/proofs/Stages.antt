@@ -12,7 +12,7 @@ use Rattle.dir_model.specs.Pods.{pod_text}
 use Rattle.dir_model.specs.State.{DirState, spot_eq, stands}
 use Rattle.dir_model.proofs.Lists.{and_left, and_right, and_both}
 use Rattle.dir_model.proofs.Moments.{some_owner}
-use Rattle.phase_read.specs.Read.{HasPhase, is_pod_spot, stages, stages_before}
+use Rattle.phase_read.specs.Read.{HasPhase, calls_of_miss, calls_of_misses, is_pod_spot, stages, stages_before}
 
 by_next : (b c : Area) → Some b ≡ Some c → rank b ≡ rank c
 by_next b c h = let e : b ≡ c = cc in ap rank e
@@ -86,3 +86,20 @@ free_area a (inr h) x y = rw h refl
 
 pub has_phase : (spot : Spot) (phase : Phase) → (spot.area ≡ Embryo) ⊎ (spot.area ≡ Prepared) → phase_in spot.area false ≡ Some phase → (s : DirState) → stands s.namespace spot ≡ true → HasPhase spot phase s
 has_phase spot phase free is s there = let o = some_owner s.namespace spot there in record { owned = o.0; here = o.1; is = free_area spot.area free o.0 false ∙ is }
+
+-- so the next adds what a miss in this one costs
+pub next_misses : (a b : Area) → Some b ≡ next_of a → calls_of_misses (stages_before b) ≡ calls_of_miss a + calls_of_misses (stages_before a)
+next_misses a b h = ap calls_of_misses (next_before a b h)
+
+-- misses before any area are at most fourteen calls
+pub misses_most : (a : Area) → calls_of_misses (stages_before a) ≤ 14
+misses_most Embryo = omega arith
+misses_most Prepare = omega arith
+misses_most Prepared = omega arith
+misses_most Run = omega arith
+misses_most ExitedGarbage = omega arith
+misses_most Garbage = omega arith
+misses_most Incoming = omega arith
+misses_most Images = omega arith
+misses_most Trees = omega arith
+misses_most Removed = omega arith

@@ -13,7 +13,7 @@ use Rattle.lifecycle.specs.PodMachine.{pod_phase}
 use Rattle.lifecycle.specs.Executions.{IsConforming}
 use Rattle.phase_read.specs.declared.found.Found.{Found}
 use Rattle.phase_read.specs.declared.found.Found.TheVariants.{At, Gone}
-use Rattle.phase_read.specs.Read.{pod_spot}
+use Rattle.dir_model.specs.Spots.{pod_spot}
 
 -- P held of the trace that ends with an own event between these two
 pub record AtOwnEvent (me : ℕ) (old new : List Event) (P : List Event → Type 0) : Type 0 where

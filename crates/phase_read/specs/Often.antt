@@ -10,7 +10,7 @@ use Rattle.dir_model.specs.declared.spot.Which.TheVariants.{Own}
 use Rattle.dir_trait.specs.Calls.{is_foreign}
 use Rattle.dir_trait.specs.DirCalls.{DirAt}
 use Rattle.dir_trait.specs.State.{spot_eq}
-use Rattle.phase_read.specs.Read.{pod_spot}
+use Rattle.dir_model.specs.Spots.{pod_spot}
 
 abbrev pub one_if : Bool → ℕ
 one_if true = 1

@@ -2,11 +2,9 @@
 #![tactic(auto)]
 
 mod found;
-mod place;
 mod probe;
 mod read;
 
 pub use found::{Found, LookError, look_error};
-pub use place::pod_spot;
 pub use probe::look;
 pub use read::read_phase;

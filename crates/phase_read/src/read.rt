@@ -1,5 +1,5 @@
 // The read of a phase: the six areas in lifecycle order, each place looked at twice.
-ghost use Rattle.std.specs.Prelude.{◌≡◌, ◌+◌, ◌-◌, ◌*◌, ◌≤◌, true, false, IfOk, IfErr, IsErrOf, Ok, Some, None, is_some, IfSome};
+ghost use Rattle.std.specs.Prelude.{◌≡◌, ◌+◌, ◌≤◌, true, false, IfOk, IfErr, IsErrOf, Ok, Some, None, is_some, IfSome};
 ghost use Rattle.dir_trait.specs.Causes.{Rose};
 ghost use Rattle.dir_trait.specs.Knowledge.{OnlyLooks};
 ghost use Rattle.dir_trait.specs.DirCalls.{ExtendsBy, HeldBetween};
@@ -12,7 +12,7 @@ ghost use Rattle.dir_trait.specs.Local.{IsActive, has_own_open};
 ghost use Rattle.phase_read.specs.Exact.{IsExactly};
 ghost use Rattle.phase_read.specs.Faults.{IsLookFault};
 ghost use Rattle.phase_read.specs.Often.{OpensOnce, ReadsAtMost};
-ghost use Rattle.phase_read.specs.Read.{IsPhaseRead, HasPhase, FoundBetween, is_pod_spot};
+ghost use Rattle.phase_read.specs.Read.{IsPhaseRead, HasPhase, FoundBetween, calls_of_miss, is_pod_spot};
 
 use crate::found::{Found, LookError};
 use crate::probe::{ask, look};
@@ -38,8 +38,7 @@ fn read_at<D: Dir>(alloc: Global, dir: &mut D, spot: Spot) -> Result<Option<Phas
     requires alone { has_own_open (D.shown dir.old).local spot.name ≡ false }
     requires area { rank spot.area ≤ 5 }
     ensures counted { (D.shown dir.new).calls ≤ (D.shown dir.old).calls + 5 }
-    ensures counted_missing { result ≡ Ok None
-        → (D.shown dir.new).calls + 3 * (1 - rank spot.area) ≤ (D.shown dir.old).calls + 4 }
+    ensures counted_missing { result ≡ Ok None → (D.shown dir.new).calls ≤ (D.shown dir.old).calls + calls_of_miss spot.area }
     ensures same { (D.shown dir.new).process ≡ (D.shown dir.old).process }
     ensures faults { (D.shown dir.old).faults ≤ (D.shown dir.new).faults }
     ensures cause { IsErrOf result LookError.DirFault → Rose (D.shown dir.old).faults (D.shown dir.new).faults }
@@ -79,7 +78,7 @@ fn read_at<D: Dir>(alloc: Global, dir: &mut D, spot: Spot) -> Result<Option<Phas
     }
 }
 
-/// Reads a pod's phase, area by area in lifecycle order, by at most 24 calls on the directory,
+/// Reads a pod's phase, area by area in lifecycle order, by at most 19 calls on the directory,
 /// whatever the directory answers. No handle of this process is open on the pod's lock before, and each
 /// handle that it opened is closed again. Where every process keeps the local rules, the pod stood in
 /// the area in that phase, or didn't exist, at one step of this read. Refused by `DirFault`, only where
@@ -87,7 +86,7 @@ fn read_at<D: Dir>(alloc: Global, dir: &mut D, spot: Spot) -> Result<Option<Phas
 pub fn read_phase<D: Dir>(alloc: Global, dir: &mut D, pod: PodId) -> Result<Found, LookError>
     requires active { IsActive (D.shown dir.old).local }
     requires alone { has_own_open (D.shown dir.old).local (pod_text pod.bytes) ≡ false }
-    ensures counted { (D.shown dir.new).calls ≤ (D.shown dir.old).calls + 24 }
+    ensures counted { (D.shown dir.new).calls ≤ (D.shown dir.old).calls + 19 }
     ensures same { (D.shown dir.new).process ≡ (D.shown dir.old).process }
     ensures faults { (D.shown dir.old).faults ≤ (D.shown dir.new).faults }
     ensures cause { IsErrOf result LookError.DirFault → Rose (D.shown dir.old).faults (D.shown dir.new).faults }

@@ -42,7 +42,8 @@ use Rattle.folder_building.proofs.Working.{worked_call}
 use Rattle.folder_building.proofs.Following.{Follows, nothing_follows}
 use Rattle.pod_build.specs.declared.make_error.MakeError.TheVariants.{Busy, Taken, Unlike, DirFault, Stray}
 use Rattle.pod_build.specs.MakingRefusals.{making_change_refusal, making_lock_refusal, make_folder_refusal, make_error_of_build}
-use Rattle.pod_build.specs.MakingRequests.{pod_at, begins_pod, hands_pod, hands_on, fills_pod, shows_taken, shows_changed, area_before}
+use Rattle.dir_model.specs.Spots.{pod_spot}
+use Rattle.pod_build.specs.MakingRequests.{begins_pod, hands_pod, hands_on, fills_pod, shows_taken, shows_changed, area_before}
 use Rattle.pod_build.specs.Progress.{holding}
 use Rattle.pod_build.specs.MakingCauses.{WasOpenedThere, ShowsTaken, LosesPod, is_copied, IsCopiedAt, MakingWorkCause, EmbryoCause, MakeCause}
 use Rattle.pod_build.specs.Makings.{HasMovedPod}
@@ -52,8 +53,8 @@ use Rattle.dir_model.proofs.Spots.{spot_self}
 use Rattle.pod_build.proofs.Times.{embryo_cause}
 
 -- a spot, by what its area is
-pub in_area : {spot : Spot} {area here : Area} (draw : PodId) → spot ≡ pod_at area draw → area ≡ here → spot ≡ pod_at here draw
-in_area draw at is = at ∙ ap (λ (a : Area). pod_at a draw) is
+pub in_area : {spot : Spot} {area here : Area} (draw : PodId) → spot ≡ pod_spot draw area → area ≡ here → spot ≡ pod_spot draw here
+in_area draw at is = at ∙ ap (λ (a : Area). pod_spot draw a) is
 
 pub before_handed : (to : Area) → is_handed_to to ≡ true → area_before to ≡ Prepare
 before_handed Prepared is = refl
@@ -65,21 +66,21 @@ pub follows_call : {observed : Bool} {request : Request} {reply : Reply} {a b : 
 follows_call c = record { same = c.same; faults = c.faults; asks = λ r. true; extends = λ t. and_call nothing_yet refl refl (c.step t) }
 
 -- the calls are among those of the making
-pub worked_make : {observed : Bool} {old new : DirAt} (draw : PodId) (answer : Result (Unit {0}) DirError) → DirCall observed old (MakeFolder (pod_at Embryo draw)) (done_reply answer) new → OnlyAsks observed (begins_pod draw) old new
-worked_make draw (Ok done) c = worked_call (spot_self (pod_at Embryo draw)) refl c
-worked_make draw (Err error) c = worked_call (spot_self (pod_at Embryo draw)) refl c
+pub worked_make : {observed : Bool} {old new : DirAt} (draw : PodId) (answer : Result (Unit {0}) DirError) → DirCall observed old (MakeFolder (pod_spot draw Embryo)) (done_reply answer) new → OnlyAsks observed (begins_pod draw) old new
+worked_make draw (Ok done) c = worked_call (spot_self (pod_spot draw Embryo)) refl c
+worked_make draw (Err error) c = worked_call (spot_self (pod_spot draw Embryo)) refl c
 
-asks_leave : (draw : PodId) → begins_pod draw (MoveFolder (pod_at Embryo draw) (pod_at Prepare draw)) ≡ true
-asks_leave draw = and_both _ _ (spot_self (pod_at Embryo draw)) (spot_self (pod_at Prepare draw))
+asks_leave : (draw : PodId) → begins_pod draw (MoveFolder (pod_spot draw Embryo) (pod_spot draw Prepare)) ≡ true
+asks_leave draw = and_both _ _ (spot_self (pod_spot draw Embryo)) (spot_self (pod_spot draw Prepare))
 
-pub worked_leave : {observed : Bool} {old new : DirAt} (draw : PodId) (answer : Result (Unit {0}) DirError) → DirCall observed old (MoveFolder (pod_at Embryo draw) (pod_at Prepare draw)) (done_reply answer) new → OnlyAsks observed (begins_pod draw) old new
+pub worked_leave : {observed : Bool} {old new : DirAt} (draw : PodId) (answer : Result (Unit {0}) DirError) → DirCall observed old (MoveFolder (pod_spot draw Embryo) (pod_spot draw Prepare)) (done_reply answer) new → OnlyAsks observed (begins_pod draw) old new
 worked_leave draw (Ok done) c = worked_call (asks_leave draw) refl c
 worked_leave draw (Err error) c = worked_call (asks_leave draw) refl c
 
-asks_hand : (draw : PodId) (to : Area) → hands_pod draw to (MoveFolder (pod_at Prepare draw) (pod_at to draw)) ≡ true
-asks_hand draw to = and_both _ _ (spot_self (pod_at Prepare draw)) (spot_self (pod_at to draw))
+asks_hand : (draw : PodId) (to : Area) → hands_pod draw to (MoveFolder (pod_spot draw Prepare) (pod_spot draw to)) ≡ true
+asks_hand draw to = and_both _ _ (spot_self (pod_spot draw Prepare)) (spot_self (pod_spot draw to))
 
-pub worked_hand : {observed : Bool} {old new : DirAt} (draw : PodId) (to : Area) (answer : Result (Unit {0}) DirError) → DirCall observed old (MoveFolder (pod_at Prepare draw) (pod_at to draw)) (done_reply answer) new → OnlyAsks observed (hands_pod draw to) old new
+pub worked_hand : {observed : Bool} {old new : DirAt} (draw : PodId) (to : Area) (answer : Result (Unit {0}) DirError) → DirCall observed old (MoveFolder (pod_spot draw Prepare) (pod_spot draw to)) (done_reply answer) new → OnlyAsks observed (hands_pod draw to) old new
 worked_hand draw to (Ok done) c = worked_call (asks_hand draw to) refl c
 worked_hand draw to (Err error) c = worked_call (asks_hand draw to) refl c
 
@@ -118,29 +119,29 @@ change_cause {observed} {old} {new} e fault = record {
 pub shows_call : {draw : PodId} {me : ℕ} {old new : List Event} (request : Request) (reply : Reply) → WasOpenedThere draw me old request → shows_taken draw request reply ≡ true → CallStep me old request reply new → ShowsTaken draw me old new
 shows_call {draw} {me} {old} {new} request reply lock shows step = record { before = old; after = new; later = []; request = request; reply = reply; since = nothing_yet; lock = lock; shows = shows; step = step; ends = sym (append-nil new) }
 
-pub taken_move : (draw : PodId) (to : Spot) (e : DirError) → may_refuse (MoveFolder (pod_at Embryo draw) to) e ≡ true → making_change_refusal e ≡ Stray → shows_taken draw (MoveFolder (pod_at Embryo draw) to) (Refused e 0) ≡ true
-taken_move draw to Missing may is = spot_self (pod_at Embryo draw)
-taken_move draw to Exists may is = spot_self (pod_at Embryo draw)
+pub taken_move : (draw : PodId) (to : Spot) (e : DirError) → may_refuse (MoveFolder (pod_spot draw Embryo) to) e ≡ true → making_change_refusal e ≡ Stray → shows_taken draw (MoveFolder (pod_spot draw Embryo) to) (Refused e 0) ≡ true
+taken_move draw to Missing may is = spot_self (pod_spot draw Embryo)
+taken_move draw to Exists may is = spot_self (pod_spot draw Embryo)
 taken_move draw to Failed may is = cc
 taken_move draw to dir.NoMemory may is = cc
 taken_move draw to e may is = cc
 
 -- or moved it from prepare, or has its place
-handed_on : (draw : PodId) (to : Area) → is_handed_to to ≡ true → hands_on draw (MoveFolder (pod_at Prepare draw) (pod_at to draw)) ≡ true
+handed_on : (draw : PodId) (to : Area) → is_handed_to to ≡ true → hands_on draw (MoveFolder (pod_spot draw Prepare) (pod_spot draw to)) ≡ true
 handed_on draw Prepared is = rw (asks_hand draw Prepared) refl
 handed_on draw Run is = or_last _ _ (asks_hand draw Run)
 handed_on draw to is = cc
 
-pub changed_move : (draw : PodId) (to : Area) (e : DirError) → is_handed_to to ≡ true → may_refuse (MoveFolder (pod_at Prepare draw) (pod_at to draw)) e ≡ true → making_change_refusal e ≡ Stray
-    → shows_changed draw (MoveFolder (pod_at Prepare draw) (pod_at to draw)) (Refused e 0) ≡ true
+pub changed_move : (draw : PodId) (to : Area) (e : DirError) → is_handed_to to ≡ true → may_refuse (MoveFolder (pod_spot draw Prepare) (pod_spot draw to)) e ≡ true → making_change_refusal e ≡ Stray
+    → shows_changed draw (MoveFolder (pod_spot draw Prepare) (pod_spot draw to)) (Refused e 0) ≡ true
 changed_move draw to Missing on may is = handed_on draw to on
 changed_move draw to Exists on may is = handed_on draw to on
 changed_move draw to Failed on may is = cc
 changed_move draw to dir.NoMemory on may is = cc
 changed_move draw to e on may is = cc
 
-pub taken_open : (draw : PodId) (e : DirError) → may_refuse (Open (pod_at Embryo draw) which.Own) e ≡ true → making_change_refusal e ≡ Stray → shows_taken draw (Open (pod_at Embryo draw) which.Own) (Refused e 0) ≡ true
-taken_open draw Missing may is = spot_self (pod_at Embryo draw)
+pub taken_open : (draw : PodId) (e : DirError) → may_refuse (Open (pod_spot draw Embryo) which.Own) e ≡ true → making_change_refusal e ≡ Stray → shows_taken draw (Open (pod_spot draw Embryo) which.Own) (Refused e 0) ≡ true
+taken_open draw Missing may is = spot_self (pod_spot draw Embryo)
 taken_open draw Failed may is = cc
 taken_open draw dir.NoMemory may is = cc
 taken_open draw e may is = cc
@@ -160,7 +161,7 @@ make_plain spot e may is = cc
 
 module _ (observed : Bool) (draw : PodId) (old new : DirAt) where
   abbrev Refusal : DirError → Type 0
-  Refusal e = DirCall observed old (MakeFolder (pod_at Embryo draw)) (Refused e 0) new
+  Refusal e = DirCall observed old (MakeFolder (pod_spot draw Embryo)) (Refused e 0) new
 
   changed : (e : DirError) → (e ≡ Failed → Rose old.faults new.faults) → EmbryoCause observed draw (making_change_refusal e) old new
   changed e fault = embryo_cause nothing_follows (change_cause e fault)
@@ -185,7 +186,7 @@ changed_more : (draw : PodId) (request : Request) (reply : Reply) → fills_pod 
 changed_more draw (MoveFolder from to) reply asked is = cc
 changed_more draw request reply asked is = and_both _ _ asked is
 
-pub pod_changed : (draw : PodId) (spot : Spot) (old new : DirAt) → spot ≡ pod_at Prepare draw → EndsWithStrayBuilding (either (builds_at spot) reads_image_files) old new → LosesPod draw old new
+pub pod_changed : (draw : PodId) (spot : Spot) (old new : DirAt) → spot ≡ pod_spot draw Prepare → EndsWithStrayBuilding (either (builds_at spot) reads_image_files) old new → LosesPod draw old new
 pod_changed draw spot old new is ends =
     let w = subst (λ (s : Spot). EndsWithStrayBuilding (either (builds_at s) reads_image_files) old new) is ends in
     record {

@@ -43,7 +43,8 @@ use Rattle.image_reading.specs.Looks.{reads_images}
 use Rattle.manifests.specs.PodData.{pod_data}
 use Rattle.pod_manifest.specs.Wishes.{Wishes}
 use Rattle.pod_plan.specs.FaithfulPods.{IsPodOf, read_between}
-use Rattle.pod_build.specs.MakingRequests.{pod_at, makes_pod}
+use Rattle.dir_model.specs.Spots.{pod_spot}
+use Rattle.pod_build.specs.MakingRequests.{makes_pod}
 use Rattle.pod_build.specs.Progress.{seen_making, holding, nothing_made}
 use Rattle.pod_build.specs.Makings.{HasMovedPod}
 use Rattle.pod_build.specs.Handovers.{BeforeHandingOver, KnewMade}
@@ -178,10 +179,10 @@ module _ {refs : List ImageRef} {options : Wishes} {draw : Draw} {now : ℕ} {to
   knew = subst (λ (p : ℕ). IsTied p before x.knew.seen) (x.reads.same ∙ is_me) x.knew.knew
 
   -- what it knew of its folder is what its events say
-  making_is : (seen_of me before).making ≡ Some (holding (pod_at Prepare draw.uuid) x.knew.entries)
+  making_is : (seen_of me before).making ≡ Some (holding (pod_spot draw.uuid Prepare) x.knew.entries)
   making_is =
       let g = knew.living living in
-      clean_known g.spoils (seen_of me before).making (holding (pod_at Prepare draw.uuid) x.knew.entries) (sym (ap (λ (s : Seen). s.making) g.same) ∙ x.knew.making) refl
+      clean_known g.spoils (seen_of me before).making (holding (pod_spot draw.uuid Prepare) x.knew.entries) (sym (ap (λ (s : Seen). s.making) g.same) ∙ x.knew.making) refl
 
   abbrev Pod : ℕ → List ℕ → Type 0
   Pod n token = IsPodOf (read_between x.planned.images b c) (pod_data x.planned.choice.manifest) n token x.knew.entries
@@ -200,7 +201,7 @@ module _ {refs : List ImageRef} {options : Wishes} {draw : Draw} {now : ℕ} {to
     built = record {
       intent = intent;
       began = ap (λ (s : Standing). s.intent) (sym (knows_standing knew living)) ∙ x.knew.began;
-      making = holding (pod_at Prepare draw.uuid) x.knew.entries;
+      making = holding (pod_spot draw.uuid Prepare) x.knew.entries;
       made = making_is;
       pod = pod;
     };
@@ -220,10 +221,10 @@ module _ {observed : Bool} {refs : List ImageRef} {options : Wishes} {draw : Dra
     (t : observed ≡ true) (run : IsRun e.trace) (began : Began to draw now intent) (ab : Follows observed a b) (de : Follows observed d e)
     (gate : shares_images (seen_making intent under nothing_made) ≡ true) (knows : Knows b (seen_making intent under nothing_made)) (x : HasPrepared refs options draw now to intent hs b d) where
   abbrev from : Spot
-  from = pod_at Prepare draw.uuid
+  from = pod_spot draw.uuid Prepare
 
   abbrev there : Spot
-  there = pod_at to draw.uuid
+  there = pod_spot draw.uuid to
 
   -- the move
   abbrev m : HasMovedPod x.mid.process from there x.made.entries intent x.mid.trace d.trace

@@ -22,7 +22,8 @@ use Rattle.dir_model.proofs.Lists.{all_left, all_right, and_left, not_true, same
 use Rattle.dir_rules.proofs.Tied.{tied_meanwhile}
 use Rattle.dir_trait.specs.DirCalls.{DirAt, DirCall}
 use Rattle.folder_building.specs.declared.plan.PlanEntry.{PlanEntry}
-use Rattle.pod_build.specs.MakingRequests.{pod_at, begins_pod, fills_pod}
+use Rattle.dir_model.specs.Spots.{pod_spot}
+use Rattle.pod_build.specs.MakingRequests.{begins_pod, fills_pod}
 use Rattle.pod_build.specs.Progress.{seen_making, in_prepare}
 use Rattle.pod_build.specs.Makings.{WherePlanFilled}
 use Rattle.pod_build.specs.Handovers.{is_handed_to, is_pod_handover, BeforeHandingOver, HandsOverMade}
@@ -137,7 +138,7 @@ from_embryo n is = grind (arith, nat_tests)
 pub begins_hand_none : (draw : PodId) → HandsNothingOver (begins_pod draw)
 begins_hand_none draw (MoveFolder from to) asked =
     ap (λ b. b && is_handed_to to.area)
-    (from_embryo (rank from.area) (and_left (rank from.area == 0) (bytes_eq from.name (pod_text draw.bytes)) (and_left (spot_eq from (pod_at Embryo draw)) (spot_eq to (pod_at Prepare draw)) asked)))
+    (from_embryo (rank from.area) (and_left (rank from.area == 0) (bytes_eq from.name (pod_text draw.bytes)) (and_left (spot_eq from (pod_spot draw Embryo)) (spot_eq to (pod_spot draw Prepare)) asked)))
 begins_hand_none draw request asked = refl
 
 pub fills_hand_none : (draw : PodId) → HandsNothingOver (fills_pod draw)

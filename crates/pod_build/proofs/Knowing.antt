@@ -34,7 +34,7 @@ use Rattle.folder_building.specs.Plans.{AreMade}
 use Rattle.folder_building.specs.Making.{IsSite, MayFill, CarriesOut, BeginsPlan}
 use Rattle.folder_building.specs.Sources.{SourceAt, may_read_images}
 use Rattle.folder_building.proofs.Following.{Follows, nothing_follows}
-use Rattle.pod_build.specs.MakingRequests.{pod_at}
+use Rattle.dir_model.specs.Spots.{pod_spot}
 use Rattle.pod_build.specs.Progress.{Progress, seen_making, holding, nothing_made, in_embryo, in_prepare, handed, own_held}
 use Rattle.pod_build.specs.Work.{IsMaker, MayMake, MakesUnderImages, UnderMakingLocks, Owns, WhereMakingPod, HasMakerFolder}
 use Rattle.pod_build.specs.Makings.{HasFilledPrepare, WherePlanFilled, IsHanded, HasMade}
@@ -44,10 +44,10 @@ use Rattle.pod_build.proofs.Times.{moved_within}
 use Rattle.pod_build.proofs.Calls.{moved_by}
 
 -- the folder was made, or not
-pub knows_made : {observed : Bool} {draw : PodId} {old new : DirAt} → observed ≡ true → DirCall observed old (MakeFolder (pod_at Embryo draw)) Done new → WhereMakingPod (IsMaker draw) (UnderMakingLocks draw) nothing_made old (λ intent hs. Knows new (seen_making intent hs (in_embryo draw)))
+pub knows_made : {observed : Bool} {draw : PodId} {old new : DirAt} → observed ≡ true → DirCall observed old (MakeFolder (pod_spot draw Embryo)) Done new → WhereMakingPod (IsMaker draw) (UnderMakingLocks draw) nothing_made old (λ intent hs. Knows new (seen_making intent hs (in_embryo draw)))
 knows_made {observed} {draw} {old} {new} t c intent hs maker under k = subst (λ (s : Seen). Knows new s) (made_seen draw intent maker hs under) (knows_call t k refl refl c)
 
-pub knows_unmade : {observed : Bool} {draw : PodId} {old new : DirAt} (e : DirError) → observed ≡ true → DirCall observed old (MakeFolder (pod_at Embryo draw)) (Refused e 0) new → WhereMakingPod (IsMaker draw) (UnderMakingLocks draw) nothing_made old (λ intent hs. HasMakerFolder draw intent hs new)
+pub knows_unmade : {observed : Bool} {draw : PodId} {old new : DirAt} (e : DirError) → observed ≡ true → DirCall observed old (MakeFolder (pod_spot draw Embryo)) (Refused e 0) new → WhereMakingPod (IsMaker draw) (UnderMakingLocks draw) nothing_made old (λ intent hs. HasMakerFolder draw intent hs new)
 knows_unmade {observed} {draw} {old} {new} e t c intent hs maker under k = record {
   progress = nothing_made;
   own = tt;
@@ -62,22 +62,22 @@ pub has_prepare : {draw : PodId} {intent : Intent} {hs : List Held} {new : DirAt
 has_prepare {draw} entries k = record { progress = in_prepare draw entries; own = inr refl; knows = k }
 
 -- its own lock was opened and taken
-pub knows_opened : {observed : Bool} {intent : Intent} {hs : List Held} {h : Handle} {old mid : DirAt} (draw : PodId) → observed ≡ true → Knows old (seen_making intent hs (in_embryo draw)) → DirCall observed old (Open (pod_at Embryo draw) which.Own) (Opened h) mid → Knows mid (seen_making intent (own_held draw h None ∷ hs) (in_embryo draw))
+pub knows_opened : {observed : Bool} {intent : Intent} {hs : List Held} {h : Handle} {old mid : DirAt} (draw : PodId) → observed ≡ true → Knows old (seen_making intent hs (in_embryo draw)) → DirCall observed old (Open (pod_spot draw Embryo) which.Own) (Opened h) mid → Knows mid (seen_making intent (own_held draw h None ∷ hs) (in_embryo draw))
 knows_opened draw t k x = knows_call t k refl refl x
 
-pub knows_locked : {observed : Bool} {draw : PodId} {h : Handle} {old mid new : DirAt} → observed ≡ true → IsUnopened old.local h → DirCall observed old (Open (pod_at Embryo draw) which.Own) (Opened h) mid → DirCall observed mid (TryLock h Exclusive) Done new
+pub knows_locked : {observed : Bool} {draw : PodId} {h : Handle} {old mid new : DirAt} → observed ≡ true → IsUnopened old.local h → DirCall observed old (Open (pod_spot draw Embryo) which.Own) (Opened h) mid → DirCall observed mid (TryLock h Exclusive) Done new
     → WhereMakingPod (IsMaker draw) (UnderMakingLocks draw) (in_embryo draw) old (λ intent hs. Knows new (seen_making intent (own_held draw h (Some Exclusive) ∷ hs) (in_embryo draw)))
 knows_locked {observed} {draw} {h} {old} {mid} {new} t unopened x y intent hs maker under k =
     subst (λ (s : Seen). Knows new s) (locked_seen draw intent maker hs under h (number_is_new h k unopened)) (knows_call t (knows_opened draw t k x) refl refl y)
 
-pub knows_unlocked : {observed : Bool} {draw : PodId} {h : Handle} {old mid late new : DirAt} (e : DirError) → observed ≡ true → IsUnopened old.local h → DirCall observed old (Open (pod_at Embryo draw) which.Own) (Opened h) mid → DirCall observed mid (TryLock h Exclusive) (Refused e 0) late → DirCall observed late (Close h) Done new
+pub knows_unlocked : {observed : Bool} {draw : PodId} {h : Handle} {old mid late new : DirAt} (e : DirError) → observed ≡ true → IsUnopened old.local h → DirCall observed old (Open (pod_spot draw Embryo) which.Own) (Opened h) mid → DirCall observed mid (TryLock h Exclusive) (Refused e 0) late → DirCall observed late (Close h) Done new
     → WhereMakingPod (IsMaker draw) (UnderMakingLocks draw) (in_embryo draw) old (λ intent hs. HasMakerFolder draw intent hs new)
 knows_unlocked {observed} {draw} {h} {old} {mid} {late} {new} e t unopened x y z intent hs maker under k =
     let fresh = number_is_new h k unopened in
     let asked = subst (λ (s : Seen). Knows late s) (unlocked_seen draw intent maker hs under h fresh e) (knows_call t (knows_opened draw t k x) refl refl y) in
     has_embryo (subst (λ (s : Seen). Knows new s) (own_given draw intent h None hs (in_embryo draw) fresh) (knows_call t asked refl refl z))
 
-pub knows_unopened : {observed : Bool} {draw : PodId} {old new : DirAt} (e : DirError) → observed ≡ true → DirCall observed old (Open (pod_at Embryo draw) which.Own) (Refused e 0) new → WhereMakingPod (IsMaker draw) (UnderMakingLocks draw) (in_embryo draw) old (λ intent hs. HasMakerFolder draw intent hs new)
+pub knows_unopened : {observed : Bool} {draw : PodId} {old new : DirAt} (e : DirError) → observed ≡ true → DirCall observed old (Open (pod_spot draw Embryo) which.Own) (Refused e 0) new → WhereMakingPod (IsMaker draw) (UnderMakingLocks draw) (in_embryo draw) old (λ intent hs. HasMakerFolder draw intent hs new)
 knows_unopened {observed} {draw} {old} {new} e t x intent hs maker under k = let kept : Knows new (seen_making intent hs (in_embryo draw)) = knows_call t k refl refl x in has_embryo kept
 
 -- the handles, as its own lock and others
@@ -88,26 +88,26 @@ as_held : {draw : PodId} {intent : Intent} {hs : List Held} {p : Progress} {d : 
 as_held {draw} {intent} {hs} {p} {d} owns k = subst (λ (l : List Held). Knows d (seen_making intent l p)) (sym owns.are) k
 
 -- the plan makes the pod whole
-whole_by : {to : Area} {plan : List PlanEntry} {draw : PodId} {intent : Intent} (entries : List Entry) → MayMake to plan draw intent → AreMade plan entries → is_whole_pod (holding (pod_at Prepare draw) entries) ≡ true
-whole_by {to} {plan} {draw} entries may made = may.whole (holding (pod_at Prepare draw) entries) refl made
+whole_by : {to : Area} {plan : List PlanEntry} {draw : PodId} {intent : Intent} (entries : List Entry) → MayMake to plan draw intent → AreMade plan entries → is_whole_pod (holding (pod_spot draw Prepare) entries) ≡ true
+whole_by {to} {plan} {draw} entries may made = may.whole (holding (pod_spot draw Prepare) entries) refl made
 
 -- the folder was moved to prepare, or not
 module _ {observed : Bool} {draw : PodId} {old new : DirAt} (t : observed ≡ true) where
-  pub knows_left : DirCall observed old (MoveFolder (pod_at Embryo draw) (pod_at Prepare draw)) Done new → WhereMakingPod (IsMaker draw) (Owns draw) (in_embryo draw) old (λ intent hs. Knows new (seen_making intent hs (in_prepare draw [])))
+  pub knows_left : DirCall observed old (MoveFolder (pod_spot draw Embryo) (pod_spot draw Prepare)) Done new → WhereMakingPod (IsMaker draw) (Owns draw) (in_embryo draw) old (λ intent hs. Knows new (seen_making intent hs (in_prepare draw [])))
   knows_left c intent hs maker owns k = as_held {p = in_prepare draw []} owns (subst (λ (s : Seen). Knows new s) (left_seen draw intent maker owns.own owns.others owns.apart) (knows_call t (as_mine {p = in_embryo draw} owns k) refl refl c))
 
-  pub knows_unleft : (e : DirError) → DirCall observed old (MoveFolder (pod_at Embryo draw) (pod_at Prepare draw)) (Refused e 0) new → WhereMakingPod (IsMaker draw) (Owns draw) (in_embryo draw) old (λ intent hs. Knows new (seen_making intent hs (in_embryo draw)))
+  pub knows_unleft : (e : DirError) → DirCall observed old (MoveFolder (pod_spot draw Embryo) (pod_spot draw Prepare)) (Refused e 0) new → WhereMakingPod (IsMaker draw) (Owns draw) (in_embryo draw) old (λ intent hs. Knows new (seen_making intent hs (in_embryo draw)))
   knows_unleft e c intent hs maker owns k = as_held {p = in_embryo draw} owns (subst (λ (s : Seen). Knows new s) (unleft_seen draw intent maker owns.own owns.others owns.apart e) (knows_call t (as_mine {p = in_embryo draw} owns k) refl refl c))
 
   -- and moved on, or not
   module _ (to : Area) (plan : List PlanEntry) where
-    pub knows_handed : DirCall observed old (MoveFolder (pod_at Prepare draw) (pod_at to draw)) Done new → WherePlanFilled to plan draw old (λ intent hs entries. IsHanded draw to intent hs entries old new)
+    pub knows_handed : DirCall observed old (MoveFolder (pod_spot draw Prepare) (pod_spot draw to)) Done new → WherePlanFilled to plan draw old (λ intent hs entries. IsHanded draw to intent hs entries old new)
     knows_handed c intent hs entries may owns made k = record {
       knows = as_held {p = handed draw to entries} owns (subst (λ (s : Seen). Knows new s) (handed_seen draw intent (is_maker_of may) owns.own owns.others owns.apart entries (whole_by entries may made) to may.leads) (knows_call t (as_mine {p = in_prepare draw entries} owns k) refl refl c));
       moved = moved_by entries intent refl refl k.tied (c.step t);
     }
 
-    pub knows_unhanded : (e : DirError) → DirCall observed old (MoveFolder (pod_at Prepare draw) (pod_at to draw)) (Refused e 0) new → WherePlanFilled to plan draw old (λ intent hs entries. Knows new (seen_making intent hs (in_prepare draw entries)))
+    pub knows_unhanded : (e : DirError) → DirCall observed old (MoveFolder (pod_spot draw Prepare) (pod_spot draw to)) (Refused e 0) new → WherePlanFilled to plan draw old (λ intent hs entries. Knows new (seen_making intent hs (in_prepare draw entries)))
     knows_unhanded e c intent hs entries may owns made k = as_held {p = in_prepare draw entries} owns (subst (λ (s : Seen). Knows new s) (unhanded_seen draw intent (is_maker_of may) owns.own owns.others owns.apart entries (whole_by entries may made) to may.leads e) (knows_call t (as_mine {p = in_prepare draw entries} owns k) refl refl c))
 
 -- the newest handle, over others
@@ -132,7 +132,7 @@ own_back {observed} {draw} {intent} {hs} {h} {old} {new} t fresh c x = record {
 }
 
 -- the lock of embryo is given back
-pub gate_back : {draw : PodId} {intent : Intent} {hs : List Held} {g : Handle} {old new : DirAt} → IsMaker draw intent → is_open_on (Own (pod_at Embryo draw)) hs ≡ false → Fresh g hs → ((s : Seen) → Knows old s → Knows new (seen_replied s (Close g) Done))
+pub gate_back : {draw : PodId} {intent : Intent} {hs : List Held} {g : Handle} {old new : DirAt} → IsMaker draw intent → is_open_on (Own (pod_spot draw Embryo)) hs ≡ false → Fresh g hs → ((s : Seen) → Knows old s → Knows new (seen_replied s (Close g) Done))
     → HasMakerFolder draw intent (on_gate g Embryo (Some Shared) ∷ hs) old → HasMakerFolder draw intent hs new
 gate_back {draw} {intent} {hs} {g} {old} {new} maker apart fresh gives x = record {
   progress = record x.progress { embryo_under_lock = false };
@@ -148,7 +148,7 @@ gate_back_after {intent} {hs} {g} {h} {old} {new} draw other fresh gives k = sub
 -- the folder is filled
 module _ (draw : PodId) (to : Area) (plan : List PlanEntry) (source : SourceAt) (intent : Intent) (hs : List Held) (may : MayMake to plan draw intent) (owns : Owns draw hs) where
   abbrev There : Spot
-  There = pod_at Prepare draw
+  There = pod_spot draw Prepare
 
   abbrev Base : Seen
   Base = seen_making intent hs (in_prepare draw [])
@@ -190,19 +190,19 @@ module _ (draw : PodId) (to : Area) (plan : List PlanEntry) (source : SourceAt) 
 -- what was made, said of a longer time, once its own lock is given up
 module _ {observed : Bool} (draw : PodId) (to : Area) (plan : List PlanEntry) (intent : Intent) (a b c d : DirAt) (t : observed ≡ true) where
   pub made_kept : (hs : List Held) → Follows observed a b → Follows observed c c → HasMade draw to plan intent hs b c → HasMade draw to plan intent hs a c
-  made_kept hs ab cc' x = record { entries = x.entries; made = x.made; knows = x.knows; moved = moved_within (pod_at Prepare draw) (pod_at to draw) x.entries intent a b c c t ab cc' x.moved }
+  made_kept hs ab cc' x = record { entries = x.entries; made = x.made; knows = x.knows; moved = moved_within (pod_spot draw Prepare) (pod_spot draw to) x.entries intent a b c c t ab cc' x.moved }
 
   pub made_free : (hs : List Held) (h : Handle) → Fresh h hs → Follows observed a b → Follows observed c d → DirCall observed c (Close h) Done d → HasMade draw to plan intent (own_held draw h (Some Exclusive) ∷ hs) b c → HasMade draw to plan intent hs a d
   made_free hs h fresh ab cd closes x = record {
     entries = x.entries;
     made = x.made;
     knows = subst (λ (s : Seen). Knows d s) (own_given draw intent h (Some Exclusive) hs (handed draw to x.entries) fresh) (knows_call t x.knows refl refl closes);
-    moved = moved_within (pod_at Prepare draw) (pod_at to draw) x.entries intent a b c d t ab cd x.moved;
+    moved = moved_within (pod_spot draw Prepare) (pod_spot draw to) x.entries intent a b c d t ab cd x.moved;
   }
 
 -- it was filled, and moved on
 pub handed_made : {observed : Bool} {draw : PodId} {to : Area} {plan : List PlanEntry} {intent : Intent} {hs : List Held} (a b c : DirAt) → observed ≡ true → Follows observed a b → Follows observed c c → (x : HasFilledPrepare plan draw intent hs b) → IsHanded draw to intent hs x.entries b c → HasMade draw to plan intent hs a c
-handed_made {observed} {draw} {to} {plan} {intent} {hs} a b c t ab cc' x y = record { entries = x.entries; made = x.made; knows = y.knows; moved = moved_within (pod_at Prepare draw) (pod_at to draw) x.entries intent a b c c t ab cc' y.moved }
+handed_made {observed} {draw} {to} {plan} {intent} {hs} a b c t ab cc' x y = record { entries = x.entries; made = x.made; knows = y.knows; moved = moved_within (pod_spot draw Prepare) (pod_spot draw to) x.entries intent a b c c t ab cc' y.moved }
 
 -- nothing was made
 pub has_nothing : {draw : PodId} {intent : Intent} {hs : List Held} {new : DirAt} → Knows new (seen_making intent hs nothing_made) → HasMakerFolder draw intent hs new
@@ -215,7 +215,7 @@ images_back {observed} {draw} {plan} {intent} {hs} {g} {h} {a} {b} {c} t other f
   entries = x.entries;
   made = x.made;
   knows = subst (λ (s : Seen). Knows c s) (gate_given_after intent g Images hs fresh draw h other (handed draw Run x.entries)) (gives (seen_making intent (own_held draw h (Some Exclusive) ∷ on_gate g Images (Some Shared) ∷ hs) (handed draw Run x.entries)) x.knows);
-  moved = moved_within (pod_at Prepare draw) (pod_at Run draw) x.entries intent a a b c t nothing_follows bc x.moved;
+  moved = moved_within (pod_spot draw Prepare) (pod_spot draw Run) x.entries intent a a b c t nothing_follows bc x.moved;
 }
 
 -- the pod that was moved to run is the process's own

@@ -15,12 +15,12 @@ use Rattle.dir_model.proofs.Holdings.{closed_after_lock, none_locked, none_close
 use Rattle.dir_files.specs.AreaLocks.{and_area_lock}
 use Rattle.dir_files.proofs.Locking.{unlocked_same}
 use Rattle.pod_build.specs.declared.make_error.MakeError.{MakeError}
-use Rattle.pod_build.specs.MakingRequests.{pod_at}
+use Rattle.dir_model.specs.Spots.{pod_spot}
 use Rattle.pod_build.specs.Progress.{and_own, with_own}
 
-pub locked_own : {a b : Local} (m : Local) (h : Handle) (draw : PodId) → IsUnopened m h → a ≡ with_handle m h (Own (pod_at Embryo draw)) → b ≡ with_lock a h Exclusive → b ≡ and_own m draw h
+pub locked_own : {a b : Local} (m : Local) (h : Handle) (draw : PodId) → IsUnopened m h → a ≡ with_handle m h (Own (pod_spot draw Embryo)) → b ≡ with_lock a h Exclusive → b ≡ and_own m draw h
 locked_own {a} {b} m h draw unopened open_is lock_is =
-    let fresh : Holding = record { handle = h; target = Own (pod_at Embryo draw); lock = None } in
+    let fresh : Holding = record { handle = h; target = Own (pod_spot draw Embryo); lock = None } in
     lock_is ∙ (ap (λ (x : Local). with_lock x h Exclusive) open_is
     ∙ ap (λ (hs : List Holding). let r : Local = record m { holdings = hs } in r)
     (map_push (held_in h Exclusive) m.holdings fresh ∙ (ap (λ (hs : List Holding). hs ++ held_in h Exclusive fresh ∷ [])
@@ -28,13 +28,13 @@ locked_own {a} {b} m h draw unopened open_is lock_is =
 
 pub own_closed : {b c : Local} (m : Local) (h : Handle) (draw : PodId) → IsUnopened m h → b ≡ and_own m draw h → c ≡ without b h → c ≡ m
 own_closed {b} {c} m h draw unopened is close_is =
-    close_is ∙ (ap (λ (x : Local). without x h) (is ∙ sym (locked_own m h draw unopened refl refl)) ∙ closed_after_lock m h (Own (pod_at Embryo draw)) unopened Exclusive)
+    close_is ∙ (ap (λ (x : Local). without x h) (is ∙ sym (locked_own m h draw unopened refl refl)) ∙ closed_after_lock m h (Own (pod_spot draw Embryo)) unopened Exclusive)
 
 abbrev gate_holding : Handle → Area → Holding
 gate_holding g area = record { handle = g; target = Gate area; lock = Some Shared }
 
 abbrev own_holding : PodId → Handle → Holding
-own_holding draw h = record { handle = h; target = Own (pod_at Embryo draw); lock = Some Exclusive }
+own_holding draw h = record { handle = h; target = Own (pod_spot draw Embryo); lock = Some Exclusive }
 
 module _ (m : Local) (g h : Handle) (area : Area) (new : IsUnopened (and_area_lock m g area Shared) h) where
   pub still_unopened : IsUnopened m h

@@ -46,7 +46,8 @@ use Rattle.impossible_replies.proofs.Citing.{is_building, is_lost, never_lost, n
 use Rattle.impossible_replies.proofs.Calls.{never_loses_embryo, never_meets}
 use Rattle.pod_build.specs.declared.make_error.MakeError.{MakeError}
 use Rattle.pod_build.specs.declared.make_error.MakeError.TheVariants.{Stray}
-use Rattle.pod_build.specs.MakingRequests.{pod_at, fills_pod, hands_on, locks_own, shows_taken, shows_changed, is_move_to_prepare}
+use Rattle.dir_model.specs.Spots.{pod_spot}
+use Rattle.pod_build.specs.MakingRequests.{fills_pod, hands_on, locks_own, shows_taken, shows_changed, is_move_to_prepare}
 use Rattle.pod_build.specs.MakingCauses.{WasOpenedThere, WasTakenMade, WasThenAnswered, LosesOwn, MakeCause}
 
 -- each beginning of a conforming history conforms
@@ -73,7 +74,7 @@ never_met from to left call conforming stage = never_meets (MoveFolder from to) 
 
 module _ (draw : PodId) where
   abbrev Here : Spot
-  Here = pod_at Embryo draw
+  Here = pod_spot draw Embryo
 
   -- it has made the folder in embryo under that area's lock, and hasn't moved it
   record HasEmbryo (s : Seen) : Type 0 where
@@ -185,7 +186,7 @@ module _ (draw : PodId) where
 
     -- nor changes it in prepare
     abbrev There : Spot
-    There = pod_at Prepare draw
+    There = pod_spot draw Prepare
 
     outside : (spot : Spot) → (spot_eq spot There || false) ≡ true → not (is_in Run spot.area) ≡ true
     outside spot is = ap (λ (x : Spot). not (is_in Run x.area)) (one_location spot There (first (spot_eq spot There) is))
@@ -214,18 +215,18 @@ module _ (draw : PodId) where
         at is a area = subst (λ (b : Area). contents_allow_move s from to Prepare b ≡ true) area
             (subst (λ (b : Area). contents_allow_move s from to b to.area ≡ true) (ap (λ (x : Spot). x.area) (one_location from There is)) between)
 
-        by : ((spot_eq from There && spot_eq to (pod_at Prepared draw)) || (spot_eq from There && spot_eq to (pod_at Run draw))) ≡ true → makes_at s.making from ≡ true
-        by is = or (spot_eq from There) (spot_eq to (pod_at Prepared draw)) (spot_eq to (pod_at Run draw)) refl refl refl is
+        by : ((spot_eq from There && spot_eq to (pod_spot draw Prepared)) || (spot_eq from There && spot_eq to (pod_spot draw Run))) ≡ true → makes_at s.making from ≡ true
+        by is = or (spot_eq from There) (spot_eq to (pod_spot draw Prepared)) (spot_eq to (pod_spot draw Run)) refl refl refl is
           where
-            or : (f p r : Bool) → spot_eq from There ≡ f → spot_eq to (pod_at Prepared draw) ≡ p → spot_eq to (pod_at Run draw) ≡ r → ((f && p) || (f && r)) ≡ true → makes_at s.making from ≡ true
-            or true true r f p q x = and_left (makes_at s.making from) (of_making is_whole_pod s.making) (at f Prepared (ap (λ (x : Spot). x.area) (one_location to (pod_at Prepared draw) p)))
-            or true false true f p q x = and_left (makes_at s.making from) (of_making is_whole_pod s.making) (at f Run (ap (λ (x : Spot). x.area) (one_location to (pod_at Run draw) q)))
+            or : (f p r : Bool) → spot_eq from There ≡ f → spot_eq to (pod_spot draw Prepared) ≡ p → spot_eq to (pod_spot draw Run) ≡ r → ((f && p) || (f && r)) ≡ true → makes_at s.making from ≡ true
+            or true true r f p q x = and_left (makes_at s.making from) (of_making is_whole_pod s.making) (at f Prepared (ap (λ (x : Spot). x.area) (one_location to (pod_spot draw Prepared) p)))
+            or true false true f p q x = and_left (makes_at s.making from) (of_making is_whole_pod s.making) (at f Run (ap (λ (x : Spot). x.area) (one_location to (pod_spot draw Run) q)))
             or a b c f p q x = cc
 
     hands_from : (from to : Spot) → hands_on draw (MoveFolder from to) ≡ true → is_stage from.area ≡ true
     hands_from from to on = by (spot_eq from There) refl on
       where
-        by : (b : Bool) → spot_eq from There ≡ b → ((b && spot_eq to (pod_at Prepared draw)) || (b && spot_eq to (pod_at Run draw))) ≡ true → is_stage from.area ≡ true
+        by : (b : Bool) → spot_eq from There ≡ b → ((b && spot_eq to (pod_spot draw Prepared)) || (b && spot_eq to (pod_spot draw Run))) ≡ true → is_stage from.area ≡ true
         by true e is = ap (λ (x : Spot). is_stage x.area) (one_location from There e)
         by false e is = cc
 

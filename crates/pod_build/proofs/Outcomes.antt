@@ -21,7 +21,8 @@ use Rattle.dir_trait.specs.Effects.{OnlyAsks, LeavesOpen}
 use Rattle.dir_files.specs.AreaLocks.{is_taking_area, closes, and_area_lock}
 use Rattle.folder_building.proofs.Following.{Follows}
 use Rattle.pod_build.specs.declared.make_error.MakeError.{MakeError}
-use Rattle.pod_build.specs.MakingRequests.{pod_at, begins_pod, fills_pod, hands_pod, finishes_pod, makes_pod}
+use Rattle.dir_model.specs.Spots.{pod_spot}
+use Rattle.pod_build.specs.MakingRequests.{begins_pod, fills_pod, hands_pod, finishes_pod, makes_pod}
 use Rattle.pod_build.specs.Progress.{and_own, with_own}
 use Rattle.pod_build.specs.Makings.{with_owned}
 use Rattle.pod_locks.specs.declared.owned.Owned.{Owned}
@@ -104,11 +105,11 @@ pub hands_finishes : (draw : PodId) (to : Area) (r : Request) → hands_pod draw
 hands_finishes draw to r is = rw is refl
 
 -- its own lock was opened and taken, or not
-asks_open : (draw : PodId) → begins_pod draw (Open (pod_at Embryo draw) which.Own) ≡ true
-asks_open draw = spot_self (pod_at Embryo draw)
+asks_open : (draw : PodId) → begins_pod draw (Open (pod_spot draw Embryo) which.Own) ≡ true
+asks_open draw = spot_self (pod_spot draw Embryo)
 
 module _ {observed : Bool} {old mid : DirAt} (draw : PodId) where
-  pub went_locked : {new : DirAt} (h : Handle) → IsUnopened old.local h → DirCall observed old (Open (pod_at Embryo draw) which.Own) (Opened h) mid → DirCall observed mid (TryLock h Exclusive) Done new → LeavesOpen observed (begins_pod draw) (and_own old.local draw h) old new
+  pub went_locked : {new : DirAt} (h : Handle) → IsUnopened old.local h → DirCall observed old (Open (pod_spot draw Embryo) which.Own) (Opened h) mid → DirCall observed mid (TryLock h Exclusive) Done new → LeavesOpen observed (begins_pod draw) (and_own old.local draw h) old new
   went_locked {new} h unopened x y = record {
     same = y.same ∙ x.same;
     faults = omega (arith, x.faults, y.faults);
@@ -116,15 +117,15 @@ module _ {observed : Bool} {old mid : DirAt} (draw : PodId) where
     extends = λ t. and_call (and_call nothing_yet refl (asks_open draw) (x.step t)) x.same refl (y.step t);
   }
 
-  pub went_unlocked : {late new : DirAt} (h : Handle) (e : DirError) → IsUnopened old.local h → DirCall observed old (Open (pod_at Embryo draw) which.Own) (Opened h) mid → DirCall observed mid (TryLock h Exclusive) (Refused e 0) late → DirCall observed late (Close h) Done new → LeavesOpen observed (begins_pod draw) old.local old new
+  pub went_unlocked : {late new : DirAt} (h : Handle) (e : DirError) → IsUnopened old.local h → DirCall observed old (Open (pod_spot draw Embryo) which.Own) (Opened h) mid → DirCall observed mid (TryLock h Exclusive) (Refused e 0) late → DirCall observed late (Close h) Done new → LeavesOpen observed (begins_pod draw) old.local old new
   went_unlocked {late} {new} h e unopened x y z = record {
     same = z.same ∙ (y.same ∙ x.same);
     faults = omega (arith, x.faults, y.faults, z.faults);
-    local_is = tried_by h (Own (pod_at Embryo draw)) Exclusive (Err e) unopened x.local y.local z.local;
+    local_is = tried_by h (Own (pod_spot draw Embryo)) Exclusive (Err e) unopened x.local y.local z.local;
     extends = λ t. and_call (and_call (and_call nothing_yet refl (asks_open draw) (x.step t)) x.same refl (y.step t)) (y.same ∙ x.same) refl (z.step t);
   }
 
-  pub went_unopened : (e : DirError) → DirCall observed old (Open (pod_at Embryo draw) which.Own) (Refused e 0) mid → LeavesOpen observed (begins_pod draw) old.local old mid
+  pub went_unopened : (e : DirError) → DirCall observed old (Open (pod_spot draw Embryo) which.Own) (Refused e 0) mid → LeavesOpen observed (begins_pod draw) old.local old mid
   went_unopened e x = record { same = x.same; faults = x.faults; local_is = x.local; extends = λ t. and_call nothing_yet refl (asks_open draw) (x.step t) }
 
 -- the same, by what the answer is

@@ -34,7 +34,7 @@ use Rattle.dir_rules.specs.Conforms.{seen_replied}
 use Rattle.dir_rules.proofs.Looks.{Fresh, Plain, none_given, map_same, closed_plain, newest_found, newest_locked, alone_newest, deletes_none}
 use Rattle.dir_files.specs.AreaLocks.{on_gate}
 use Rattle.folder_building.specs.declared.plan.PlanEntry.{PlanEntry}
-use Rattle.pod_build.specs.MakingRequests.{pod_at}
+use Rattle.dir_model.specs.Spots.{pod_spot}
 use Rattle.pod_build.specs.Progress.{Progress, seen_making, holding, nothing_made, in_embryo, in_prepare, handed, own_held}
 use Rattle.pod_build.specs.Work.{IsMaker, leads_to, MayMake, UnderMakingLocks}
 
@@ -96,10 +96,10 @@ module _ (draw : PodId) (intent : Intent) (maker : IsMaker draw intent) where
   Name = pod_text draw.bytes
 
   abbrev Here : Spot
-  Here = pod_at Embryo draw
+  Here = pod_spot draw Embryo
 
   abbrev There : Spot
-  There = pod_at Prepare draw
+  There = pod_spot draw Prepare
 
   drawn : bytes_eq (pod_text intent.draw.bytes) Name ≡ true
   drawn = ap (λ (d : PodId). bytes_eq (pod_text d.bytes) Name) maker.drawn ∙ same_bytes Name
@@ -147,16 +147,16 @@ module _ (draw : PodId) (intent : Intent) (maker : IsMaker draw intent) where
       unlocked_seen error = ap (λ b. let s : Seen = record (Opening None) { kept = b && true } in s) may_lock
 
   -- the folder is moved, under its own lock
-  module _ (h : Handle) (hs : List Held) (apart : is_open_on (Own (pod_at Embryo draw)) hs ≡ false) where
+  module _ (h : Handle) (hs : List Held) (apart : is_open_on (Own (pod_spot draw Embryo)) hs ≡ false) where
     abbrev Mine : List Held
     Mine = own_held draw h (Some Exclusive) ∷ hs
 
     spared : list_any (is_deleting Name) hs ≡ false
     spared = deletes_none Name hs apart
 
-    still : (from : Area) → map (uncover (pod_at from draw)) Mine ≡ Mine
+    still : (from : Area) → map (uncover (pod_spot draw from)) Mine ≡ Mine
     still from =
-        ap (λ b. let r : Held = record (own_held draw h (Some Exclusive)) { covered = b } in r ∷ map (uncover (pod_at from draw)) hs) (and_false (not (is_stage from && bytes_eq Name Name)))
+        ap (λ b. let r : Held = record (own_held draw h (Some Exclusive)) { covered = b } in r ∷ map (uncover (pod_spot draw from)) hs) (and_false (not (is_stage from && bytes_eq Name Name)))
         ∙ ap (λ (l : List Held). own_held draw h (Some Exclusive) ∷ l) (still_held Name Embryo from hs apart)
 
     may_leave : allows (seen_making intent Mine (in_embryo draw)) (MoveFolder Here There) ≡ true
@@ -180,29 +180,29 @@ module _ (draw : PodId) (intent : Intent) (maker : IsMaker draw intent) where
       abbrev Filled : Seen
       Filled = seen_making intent Mine (in_prepare draw entries)
 
-      pub may_hand : (to : Area) → leads_to to intent.kind ≡ true → allows Filled (MoveFolder There (pod_at to draw)) ≡ true
+      pub may_hand : (to : Area) → leads_to to intent.kind ≡ true → allows Filled (MoveFolder There (pod_spot draw to)) ≡ true
       may_hand Prepared leads = rw (named, spared, leads, whole) refl
       may_hand Run leads = rw (named, spared, leads, whole) refl
       may_hand _ leads = cc
 
       abbrev Handed : Area → List Held → Making → Bool → Seen
-      Handed to held making kept = record (seen_making intent held (record { made = true; embryo_under_lock = false; moves = pod_at to draw ∷ There ∷ []; making = Some making })) { kept = kept }
+      Handed to held making kept = record (seen_making intent held (record { made = true; embryo_under_lock = false; moves = pod_spot draw to ∷ There ∷ []; making = Some making })) { kept = kept }
 
       abbrev Allowed : Area → Bool
-      Allowed to = allows Filled (MoveFolder There (pod_at to draw)) && true
+      Allowed to = allows Filled (MoveFolder There (pod_spot draw to)) && true
 
-      pub handed_seen : (to : Area) → leads_to to intent.kind ≡ true → seen_replied Filled (MoveFolder There (pod_at to draw)) Done ≡ seen_making intent Mine (handed draw to entries)
+      pub handed_seen : (to : Area) → leads_to to intent.kind ≡ true → seen_replied Filled (MoveFolder There (pod_spot draw to)) Done ≡ seen_making intent Mine (handed draw to entries)
       handed_seen Prepared leads =
-          ap (λ (l : List Held). Handed Prepared l (moved_making There (pod_at Prepared draw) (holding There entries)) (Allowed Prepared)) (still Prepare)
-          ∙ (ap (λ b. Handed Prepared Mine (cond b (holding (pod_at Prepared draw) entries) (holding There entries)) (Allowed Prepared)) named
-          ∙ ap (λ b. Handed Prepared Mine (holding (pod_at Prepared draw) entries) (b && true)) (may_hand Prepared leads))
+          ap (λ (l : List Held). Handed Prepared l (moved_making There (pod_spot draw Prepared) (holding There entries)) (Allowed Prepared)) (still Prepare)
+          ∙ (ap (λ b. Handed Prepared Mine (cond b (holding (pod_spot draw Prepared) entries) (holding There entries)) (Allowed Prepared)) named
+          ∙ ap (λ b. Handed Prepared Mine (holding (pod_spot draw Prepared) entries) (b && true)) (may_hand Prepared leads))
       handed_seen Run leads =
-          ap (λ (l : List Held). Handed Run l (moved_making There (pod_at Run draw) (holding There entries)) (Allowed Run)) (still Prepare)
-          ∙ (ap (λ b. Handed Run Mine (cond b (holding (pod_at Run draw) entries) (holding There entries)) (Allowed Run)) named
-          ∙ ap (λ b. Handed Run Mine (holding (pod_at Run draw) entries) (b && true)) (may_hand Run leads))
+          ap (λ (l : List Held). Handed Run l (moved_making There (pod_spot draw Run) (holding There entries)) (Allowed Run)) (still Prepare)
+          ∙ (ap (λ b. Handed Run Mine (cond b (holding (pod_spot draw Run) entries) (holding There entries)) (Allowed Run)) named
+          ∙ ap (λ b. Handed Run Mine (holding (pod_spot draw Run) entries) (b && true)) (may_hand Run leads))
       handed_seen _ leads = cc
 
-      pub unhanded_seen : (to : Area) → leads_to to intent.kind ≡ true → (error : DirError) → seen_replied Filled (MoveFolder There (pod_at to draw)) (Refused error 0) ≡ Filled
+      pub unhanded_seen : (to : Area) → leads_to to intent.kind ≡ true → (error : DirError) → seen_replied Filled (MoveFolder There (pod_spot draw to)) (Refused error 0) ≡ Filled
       unhanded_seen to leads error = ap (λ b. let s : Seen = record Filled { kept = b && true } in s) (may_hand to leads)
 
 -- the lock of an area is given back, with the pod's own lock held or not
@@ -248,7 +248,7 @@ module _ (intent : Intent) (g : Handle) (area : Area) (hs : List Held) (fresh : 
       Closes = allows (seen_making intent whole p) (Close g)
 
       abbrev Given : List Held → Bool → Bool → Bool → Seen
-      Given held embryo_under_lock stored kept = record (seen_making intent held (record p { embryo_under_lock = embryo_under_lock })) { stored = stored; kept = kept }
+      Given held embryo_under_lock image_under_lock kept = record (seen_making intent held (record p { embryo_under_lock = embryo_under_lock })) { image_under_lock = image_under_lock; kept = kept }
 
       gate_given : Closes ≡ true → (not (is_gate_shared Embryo Newest) && p.embryo_under_lock) ≡ false → seen_replied (seen_making intent whole p) (Close g) Done ≡ seen_making intent left (record p { embryo_under_lock = false })
       gate_given closes ungated =
@@ -280,7 +280,7 @@ module _ (intent : Intent) (g : Handle) (hs : List Held) (fresh : Fresh g hs) wh
   abbrev Bare : List Held
   Bare = on_gate g Embryo (Some Shared) ∷ hs
 
-  pub gate_given_back : (draw : PodId) → IsMaker draw intent → is_open_on (Own (pod_at Embryo draw)) hs ≡ false → (p : Progress) → seen_replied (seen_making intent Bare p) (Close g) Done ≡ seen_making intent hs (record p { embryo_under_lock = false })
+  pub gate_given_back : (draw : PodId) → IsMaker draw intent → is_open_on (Own (pod_spot draw Embryo)) hs ≡ false → (p : Progress) → seen_replied (seen_making intent Bare p) (Close g) Done ≡ seen_making intent hs (record p { embryo_under_lock = false })
   gate_given_back draw maker apart p = gate_given intent g Embryo hs fresh Bare (gives_it intent g Embryo hs fresh) hs p (filter_newest intent g Embryo hs fresh)
       (ap (λ b. not ((gives_up (is_gate_shared Embryo) g Bare && p.embryo_under_lock) && b) && true) none ∙ ap (λ b. not b && true) (and_false (gives_up (is_gate_shared Embryo) g Bare && p.embryo_under_lock))) refl
     where

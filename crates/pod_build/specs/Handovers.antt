@@ -17,7 +17,7 @@ use Rattle.dir_rules.specs.Standing.{is_in}
 use Rattle.dir_trait.specs.DirCalls.{DirAt}
 use Rattle.folder_building.specs.declared.plan.PlanEntry.{PlanEntry}
 use Rattle.folder_building.specs.Plans.{AreMade}
-use Rattle.pod_build.specs.MakingRequests.{pod_at}
+use Rattle.dir_model.specs.Spots.{pod_spot}
 use Rattle.pod_build.specs.Progress.{holding}
 
 -- a pod is handed over to prepared, or to run
@@ -41,7 +41,7 @@ pub record KnewMade (me : ℕ) (draw : PodId) (plan : List PlanEntry) (intent : 
   pub made : AreMade plan entries
   pub seen : Seen
   pub began : seen.standing.intent ≡ Some intent
-  pub making : seen.making ≡ Some (holding (pod_at Prepare draw) entries)
+  pub making : seen.making ≡ Some (holding (pod_spot draw Prepare) entries)
   pub knew : IsTied me before seen
 
 -- it handed over nothing else

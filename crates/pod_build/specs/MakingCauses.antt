@@ -21,7 +21,8 @@ use Rattle.pod_build.specs.declared.make_error.MakeError.{MakeError}
 use Rattle.pod_build.specs.declared.make_error.MakeError.TheVariants.{Busy, Taken, Unlike, DirFault, Stray}
 use Rattle.folder_building.specs.Sources.{in_images}
 use Rattle.folder_building.specs.Stored.{LacksAt}
-use Rattle.pod_build.specs.MakingRequests.{pod_at, locks_own, shows_taken, is_move_to_prepare, shows_changed}
+use Rattle.dir_model.specs.Spots.{pod_spot}
+use Rattle.pod_build.specs.MakingRequests.{locks_own, shows_taken, is_move_to_prepare, shows_changed}
 
 -- an own step was answered in this manner
 pub record WasAnswered (answers : Request → Reply → Bool) (me : ℕ) (old new : List Event) : Type 0 where
@@ -38,11 +39,11 @@ pub record WasAnswered (answers : Request → Reply → Bool) (me : ℕ) (old ne
 
 -- its own making of the folder was answered Ok
 abbrev pub MakesEmbryo : PodId → DirAt → DirAt → Type 0
-MakesEmbryo draw old new = CallStep old.process old.trace (MakeFolder (pod_at Embryo draw)) Done new.trace
+MakesEmbryo draw old new = CallStep old.process old.trace (MakeFolder (pod_spot draw Embryo)) Done new.trace
 
 -- where a lock was asked for, the call just before opened it: the folder's own, in embryo
 abbrev pub WasOpenedThere : PodId → ℕ → List Event → Request → Type 0
-WasOpenedThere draw me before (TryLock handle mode) = (earlier : List Event) × CallStep me earlier (Open (pod_at Embryo draw) Own) (Opened handle) before
+WasOpenedThere draw me before (TryLock handle mode) = (earlier : List Event) × CallStep me earlier (Open (pod_spot draw Embryo) Own) (Opened handle) before
 WasOpenedThere draw me before request = Unit {0}
 
 -- nothing but its own lock was asked for, and then an answer showed that another took the folder in embryo
@@ -67,7 +68,7 @@ pub record WasTakenMade (draw : PodId) (me : ℕ) (old new : List Event) : Type 
   pub made : List Event
   pub earlier : List Event
   pub begins : before ≡ old ++ earlier
-  pub makes : CallStep me before (MakeFolder (pod_at Embryo draw)) Done made
+  pub makes : CallStep me before (MakeFolder (pod_spot draw Embryo)) Done made
   pub loses : ShowsTaken draw me made new
 
 -- an own step was answered so, and a later one in that manner
@@ -96,7 +97,7 @@ AsksLockAlone old new = Extends (is_taking_area Embryo Shared) old.process old.t
 pub record AsksFirst (draw : PodId) (reply : Reply) (me : ℕ) (old new : List Event) : Type 0 where
   pub after : List Event
   pub later : List Event
-  pub asks : CallStep me old (MakeFolder (pod_at Embryo draw)) reply after
+  pub asks : CallStep me old (MakeFolder (pod_spot draw Embryo)) reply after
   pub ends : new ≡ after ++ later
 
 abbrev pub MakesFirst : PodId → DirAt → DirAt → Type 0

@@ -1,5 +1,6 @@
 -- What the maker of a pod asks the directory for, and which answers its own making doesn't explain.
 use Rattle.std.specs.Prelude.{Bool, true, false, ◌&&◌}
+use Rattle.dir_model.specs.Spots.{pod_spot}
 use Rattle.dir_model.specs.declared.area.Area.{Area}
 use Rattle.dir_model.specs.declared.area.Area.TheVariants.{Embryo, Prepare, Prepared, Run}
 use Rattle.dir_model.specs.declared.pod.PodId.{PodId}
@@ -17,10 +18,6 @@ use Rattle.dir_rules.specs.Standing.{is_in}
 use Rattle.folder_building.specs.Sources.{reads_image_files}
 use Rattle.folder_building.specs.Work.{either, builds_at, is_stray_building}
 
--- where the pod with this draw stands in an area
-abbrev pub pod_at : Area → PodId → Spot
-pod_at area draw = record { area = area; name = pod_text draw.bytes }
-
 -- from which area the maker moves the pod to this one: it goes from embryo to prepare, and from there to prepared or to run
 abbrev pub area_before : Area → Area
 area_before Prepare = Embryo
@@ -31,18 +28,18 @@ abbrev pub begins_pod : PodId → Request → Bool
 begins_pod draw (OpenArea area) = is_in Embryo area
 begins_pod draw (TryLock handle mode) = true
 begins_pod draw (Close handle) = true
-begins_pod draw (MakeFolder spot) = spot_eq spot (pod_at Embryo draw)
-begins_pod draw (Open spot which.Own) = spot_eq spot (pod_at Embryo draw)
-begins_pod draw (MoveFolder from to) = spot_eq from (pod_at Embryo draw) && spot_eq to (pod_at Prepare draw)
+begins_pod draw (MakeFolder spot) = spot_eq spot (pod_spot draw Embryo)
+begins_pod draw (Open spot which.Own) = spot_eq spot (pod_spot draw Embryo)
+begins_pod draw (MoveFolder from to) = spot_eq from (pod_spot draw Embryo) && spot_eq to (pod_spot draw Prepare)
 begins_pod draw request = false
 
 -- the changes in the folder in prepare, and reads of images
 abbrev pub fills_pod : PodId → Request → Bool
-fills_pod draw = either (builds_at (pod_at Prepare draw)) reads_image_files
+fills_pod draw = either (builds_at (pod_spot draw Prepare)) reads_image_files
 
 -- its last move
 abbrev pub hands_pod : PodId → Area → Request → Bool
-hands_pod draw to (MoveFolder from there) = spot_eq from (pod_at Prepare draw) && spot_eq there (pod_at to draw)
+hands_pod draw to (MoveFolder from there) = spot_eq from (pod_spot draw Prepare) && spot_eq there (pod_spot draw to)
 hands_pod draw to request = false
 
 abbrev pub finishes_pod : PodId → Area → Request → Bool
@@ -54,22 +51,22 @@ makes_pod draw to = either (begins_pod draw) (finishes_pod draw to)
 
 -- the own lock of the folder in embryo
 abbrev pub locks_own : PodId → Request → Bool
-locks_own draw (Open spot which.Own) = spot_eq spot (pod_at Embryo draw)
+locks_own draw (Open spot which.Own) = spot_eq spot (pod_spot draw Embryo)
 locks_own draw (TryLock handle mode) = true
 locks_own draw request = false
 
 -- an answer that shows that another took the folder that was just made: under the lock of embryo nobody else moves it or locks
 -- it
 abbrev pub shows_taken : PodId → Request → Reply → Bool
-shows_taken draw (Open spot which.Own) (Refused Missing left) = spot_eq spot (pod_at Embryo draw)
+shows_taken draw (Open spot which.Own) (Refused Missing left) = spot_eq spot (pod_spot draw Embryo)
 shows_taken draw (TryLock handle Exclusive) (Refused Locked left) = true
-shows_taken draw (MoveFolder from to) (Refused Missing left) = spot_eq from (pod_at Embryo draw)
-shows_taken draw (MoveFolder from to) (Refused Exists left) = spot_eq from (pod_at Embryo draw)
+shows_taken draw (MoveFolder from to) (Refused Missing left) = spot_eq from (pod_spot draw Embryo)
+shows_taken draw (MoveFolder from to) (Refused Exists left) = spot_eq from (pod_spot draw Embryo)
 shows_taken draw request reply = false
 
 -- the move of the folder to prepare
 abbrev pub is_move_to_prepare : PodId → Request → Reply → Bool
-is_move_to_prepare draw (MoveFolder from to) Done = spot_eq from (pod_at Embryo draw) && spot_eq to (pod_at Prepare draw)
+is_move_to_prepare draw (MoveFolder from to) Done = spot_eq from (pod_spot draw Embryo) && spot_eq to (pod_spot draw Prepare)
 is_move_to_prepare draw request reply = false
 
 -- its move from there to prepared or to run

@@ -20,7 +20,7 @@ use Rattle.folder_building.specs.declared.plan.PlanEntry.{PlanEntry}
 use Rattle.folder_building.specs.Plans.{AreMade}
 use Rattle.pod_build.specs.declared.make_error.MakeError.{MakeError}
 use Rattle.pod_locks.specs.declared.owned.Owned.{Owned}
-use Rattle.pod_build.specs.MakingRequests.{pod_at}
+use Rattle.dir_model.specs.Spots.{pod_spot}
 use Rattle.pod_build.specs.Progress.{seen_making, holding, in_prepare, handed, and_own}
 use Rattle.pod_build.specs.Work.{Owns, MayMake}
 
@@ -50,14 +50,14 @@ WherePlanFilled to plan draw old After = (intent : Intent) (hs : List Held) (ent
 -- it moved the folder on
 pub record IsHanded (draw : PodId) (to : Area) (intent : Intent) (hs : List Held) (entries : List Entry) (old new : DirAt) : Type 0 where
   pub knows : Knows new (seen_making intent hs (handed draw to entries))
-  pub moved : HasMovedPod old.process (pod_at Prepare draw) (pod_at to draw) entries intent old.trace new.trace
+  pub moved : HasMovedPod old.process (pod_spot draw Prepare) (pod_spot draw to) entries intent old.trace new.trace
 
 -- it has carried the plan out, everything was answered Ok and synced, and then it moved the folder on
 pub record HasMade (draw : PodId) (to : Area) (plan : List PlanEntry) (intent : Intent) (hs : List Held) (old new : DirAt) : Type 0 where
   pub entries : List Entry
   pub made : AreMade plan entries
   pub knows : Knows new (seen_making intent hs (handed draw to entries))
-  pub moved : HasMovedPod old.process (pod_at Prepare draw) (pod_at to draw) entries intent old.trace new.trace
+  pub moved : HasMovedPod old.process (pod_spot draw Prepare) (pod_spot draw to) entries intent old.trace new.trace
 
 -- what is open after the making of a pod that its maker keeps
 abbrev pub with_owned : Local → PodId → Result Owned MakeError → Local

@@ -29,7 +29,8 @@ use Rattle.pod_plan.specs.declared.choice.Choice.{Choice}
 use Rattle.pod_plan.specs.Choices.{IsChoice}
 use Rattle.pod_manifest.specs.Wishes.{Wishes}
 use Rattle.pod_plan.specs.FaithfulPods.{PlansFaithfully}
-use Rattle.pod_build.specs.MakingRequests.{pod_at, makes_pod}
+use Rattle.dir_model.specs.Spots.{pod_spot}
+use Rattle.pod_build.specs.MakingRequests.{makes_pod}
 use Rattle.pod_build.specs.Progress.{seen_making, handed, nothing_made}
 use Rattle.pod_build.specs.Work.{leads_to, WhereMakingPod}
 use Rattle.pod_build.specs.Makings.{HasMade}
@@ -83,7 +84,7 @@ pub record IsHandedOver (me : ℕ) (draw : PodId) (to : Area) (old new : List Ev
   pub later : List Event
   pub meanwhile : List Event
   pub begins : before ≡ old ++ meanwhile
-  pub moved : new ≡ before ++ event me (MoveFolder (pod_at Prepare draw) (pod_at to draw)) Done ∷ later
+  pub moved : new ≡ before ++ event me (MoveFolder (pod_spot draw Prepare) (pod_spot draw to)) Done ∷ later
   pub faithful : IsFaithfulBuild me before
 
 -- the pod came to the area by an own Ok move. Just before that it was made faithfully, of the best images for the references among
@@ -93,14 +94,14 @@ pub record IsPrepared (refs : List ImageRef) (options : Wishes) (me : ℕ) (draw
   pub later : List Event
   pub meanwhile : List Event
   pub begins : before ≡ old ++ meanwhile
-  pub moved : new ≡ before ++ event me (MoveFolder (pod_at Prepare draw) (pod_at to draw)) Done ∷ later
+  pub moved : new ≡ before ++ event me (MoveFolder (pod_spot draw Prepare) (pod_spot draw to)) Done ∷ later
   pub faithful : IsFaithfulBuild me before
   pub choice : Choice
   pub chosen : IsChoice faithful.images refs options choice
   pub manifest : faithful.manifest ≡ pod_data choice.manifest
   pub folder : ℕ
-  pub stands : folder_at (state_after (then_moved before me (pod_at Prepare draw) (pod_at to draw))).namespace (pod_at to draw) ≡ Some folder
-  pub holds : entries_in folder (state_after (then_moved before me (pod_at Prepare draw) (pod_at to draw))).entries ≡ faithful.built.making.entries
+  pub stands : folder_at (state_after (then_moved before me (pod_spot draw Prepare) (pod_spot draw to))).namespace (pod_spot draw to) ≡ Some folder
+  pub holds : entries_in folder (state_after (then_moved before me (pod_spot draw Prepare) (pod_spot draw to))).entries ≡ faithful.built.making.entries
 
 -- in every run: whatever a process hands over that has begun so, and has made nothing, it made faithfully
 abbrev pub MakesFaithfully : Area → Draw → ℕ → DirAt → DirAt → Type 0

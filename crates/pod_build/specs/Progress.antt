@@ -17,7 +17,7 @@ use Rattle.dir_rules.specs.declared.seen.Seen.{Seen}
 use Rattle.dir_rules.specs.Standing.{nothing_standing}
 use Rattle.dir_rules.specs.Conforms.{nothing_seen}
 use Rattle.pod_build.specs.declared.make_error.MakeError.{MakeError}
-use Rattle.pod_build.specs.MakingRequests.{pod_at}
+use Rattle.dir_model.specs.Spots.{pod_spot}
 
 -- how far the making of a pod has come
 pub record Progress : Type 0 where
@@ -46,23 +46,23 @@ nothing_made = record { made = false; embryo_under_lock = false; moves = []; mak
 
 -- an empty folder in embryo, under that area's lock
 abbrev pub in_embryo : PodId → Progress
-in_embryo draw = record { made = true; embryo_under_lock = true; moves = []; making = Some (holding (pod_at Embryo draw) []) }
+in_embryo draw = record { made = true; embryo_under_lock = true; moves = []; making = Some (holding (pod_spot draw Embryo) []) }
 
 -- the folder in prepare, with this in it
 abbrev pub in_prepare : PodId → List Entry → Progress
-in_prepare draw entries = record { made = true; embryo_under_lock = false; moves = pod_at Prepare draw ∷ []; making = Some (holding (pod_at Prepare draw) entries) }
+in_prepare draw entries = record { made = true; embryo_under_lock = false; moves = pod_spot draw Prepare ∷ []; making = Some (holding (pod_spot draw Prepare) entries) }
 
 -- it was moved on to this area
 abbrev pub handed : PodId → Area → List Entry → Progress
-handed draw to entries = record { made = true; embryo_under_lock = false; moves = pod_at to draw ∷ pod_at Prepare draw ∷ []; making = Some (holding (pod_at to draw) entries) }
+handed draw to entries = record { made = true; embryo_under_lock = false; moves = pod_spot draw to ∷ pod_spot draw Prepare ∷ []; making = Some (holding (pod_spot draw to) entries) }
 
 -- the pod's own lock, by a handle that was opened in embryo
 abbrev pub own_held : PodId → Handle → Option Mode → Held
-own_held draw handle lock = record { handle = handle; target = Own (pod_at Embryo draw); lock = lock; covered = false }
+own_held draw handle lock = record { handle = handle; target = Own (pod_spot draw Embryo); lock = lock; covered = false }
 
 -- and what is open with it
 abbrev pub and_own : Local → PodId → Handle → Local
-and_own m draw handle = record m { holdings = m.holdings ++ record { handle = handle; target = Own (pod_at Embryo draw); lock = Some Exclusive } ∷ [] }
+and_own m draw handle = record m { holdings = m.holdings ++ record { handle = handle; target = Own (pod_spot draw Embryo); lock = Some Exclusive } ∷ [] }
 
 abbrev pub with_own : Local → PodId → Result Handle MakeError → Local
 with_own m draw (Ok handle) = and_own m draw handle

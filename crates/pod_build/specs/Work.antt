@@ -19,7 +19,7 @@ use Rattle.dir_trait.specs.DirCalls.{DirAt, ExtendsBy}
 use Rattle.dir_trait.specs.Knowledge.{Knows}
 use Rattle.folder_building.specs.declared.plan.PlanEntry.{PlanEntry}
 use Rattle.pod_plan.specs.PodPlans.{ComesInTurn, MakesWhole}
-use Rattle.pod_build.specs.MakingRequests.{pod_at}
+use Rattle.dir_model.specs.Spots.{pod_spot}
 use Rattle.pod_build.specs.Progress.{Progress, seen_making, own_held}
 
 -- it has begun as one that makes a pod, with this draw
@@ -44,13 +44,13 @@ pub record MayMake (to : Area) (plan : List PlanEntry) (draw : PodId) (intent : 
 pub record MakesUnderImages (draw : PodId) (hs : List Held) : Type 0 where
   pub images : list_any (is_gate_shared Images) hs ≡ true
   pub free : is_open_on (Gate Embryo) hs ≡ false
-  pub apart : is_open_on (Own (pod_at Embryo draw)) hs ≡ false
+  pub apart : is_open_on (Own (pod_spot draw Embryo)) hs ≡ false
 
 -- it has both locks shared, and no handle on the pod's own
 pub record UnderMakingLocks (draw : PodId) (hs : List Held) : Type 0 where
   pub images : list_any (is_gate_shared Images) hs ≡ true
   pub embryo : list_any (is_gate_shared Embryo) hs ≡ true
-  pub apart : is_open_on (Own (pod_at Embryo draw)) hs ≡ false
+  pub apart : is_open_on (Own (pod_spot draw Embryo)) hs ≡ false
 
 -- its newest handle has the pod's own lock exclusively
 pub record Owns (draw : PodId) (hs : List Held) : Type 0 where
@@ -58,7 +58,7 @@ pub record Owns (draw : PodId) (hs : List Held) : Type 0 where
   pub others : List Held
   pub are : hs ≡ own_held draw own (Some Exclusive) ∷ others
   pub images : list_any (is_gate_shared Images) others ≡ true
-  pub apart : is_open_on (Own (pod_at Embryo draw)) others ≡ false
+  pub apart : is_open_on (Own (pod_spot draw Embryo)) others ≡ false
 
 -- wherever a process has begun so, has such handles and has come so far
 abbrev pub WhereMakingPod : (Intent → Type 0) → (List Held → Type 0) → Progress → DirAt → (Intent → List Held → Type 0) → Type 0
@@ -67,7 +67,7 @@ WhereMakingPod Began Under p old After = (intent : Intent) (hs : List Held) → 
 -- it has made no folder, or the one in embryo or prepare
 abbrev pub IsMakerFolder : PodId → Option Making → Type 0
 IsMakerFolder draw None = Unit {0}
-IsMakerFolder draw (Some m) = (m.spot ≡ pod_at Embryo draw) ⊎ (m.spot ≡ pod_at Prepare draw)
+IsMakerFolder draw (Some m) = (m.spot ≡ pod_spot draw Embryo) ⊎ (m.spot ≡ pod_spot draw Prepare)
 
 -- it has these handles, and at most its own folder in embryo or prepare
 pub record HasMakerFolder (draw : PodId) (intent : Intent) (hs : List Held) (new : DirAt) : Type 0 where

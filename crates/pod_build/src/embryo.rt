@@ -12,8 +12,7 @@ ghost use Rattle.pod_build.specs.MakingCauses.{MakingWorkCause, EmbryoCause, Mak
 use crate::make_error::{MakeError, change_refusal, lock_refusal, make_refusal};
 use crate::place::area_before;
 use dir_files::{lock_area, unlock_area};
-use dir_trait::{Area, Dir, Handle, Mode, PodId, Which};
-use pod_locks::pod_spot;
+use dir_trait::{Area, Dir, Handle, Mode, PodId, Spot, Which};
 use std::alloc::Global;
 
 // Makes the folder in embryo.
@@ -28,7 +27,7 @@ fn make_embryo<D: Dir>(alloc: Global, dir: &mut D, draw: PodId) -> Result<(), Ma
     ensures left { IfErr result (λ e. D.observed ≡ true → WhereMakingPod (IsMaker draw) (UnderMakingLocks draw) nothing_made (D.shown dir.old)
         (λ intent hs. HasMakerFolder draw intent hs (D.shown dir.new))) }
 {
-    let spot = pod_spot(draw, Area::Embryo);
+    let spot = Spot::of_pod(draw, Area::Embryo);
     match dir.make_folder(alloc, spot) {
         Ok(()) => Ok(()),
         Err(error) => Err(make_refusal(error)),
@@ -48,7 +47,7 @@ fn lock_own<D: Dir>(alloc: Global, dir: &mut D, draw: PodId) -> Result<Handle, M
     ensures left { IfErr result (λ e. D.observed ≡ true → WhereMakingPod (IsMaker draw) (UnderMakingLocks draw) (in_embryo draw) (D.shown dir.old)
         (λ intent hs. HasMakerFolder draw intent hs (D.shown dir.new))) }
 {
-    let spot = pod_spot(draw, Area::Embryo);
+    let spot = Spot::of_pod(draw, Area::Embryo);
     match dir.open(alloc, spot, Which::Own) {
         Ok(own) => match dir.try_lock(alloc, own, Mode::Exclusive) {
             Ok(()) => Ok(own),
@@ -73,8 +72,8 @@ fn leave_embryo<D: Dir>(alloc: Global, dir: &mut D, draw: PodId) -> Result<(), M
     ensures left { IfErr result (λ e. D.observed ≡ true → WhereMakingPod (IsMaker draw) (Owns draw) (in_embryo draw) (D.shown dir.old)
         (λ intent hs. Knows (D.shown dir.new) (seen_making intent hs (in_embryo draw)))) }
 {
-    let from = pod_spot(draw, area_before(Area::Prepare));
-    let to = pod_spot(draw, Area::Prepare);
+    let from = Spot::of_pod(draw, area_before(Area::Prepare));
+    let to = Spot::of_pod(draw, Area::Prepare);
     match dir.move_folder(alloc, from, to) {
         Ok(()) => Ok(()),
         Err(error) => Err(change_refusal(error)),

@@ -18,9 +18,8 @@ ghost use Rattle.pod_build.specs.Handovers.{is_handed_to, HandsOverMade};
 
 use crate::make_error::{MakeError, build_refusal, change_refusal};
 use crate::place::area_before;
-use dir_trait::{Area, Dir, PodId};
+use dir_trait::{Area, Dir, PodId, Spot};
 use folder_building::{PlanEntry, StoreSource, carry_out};
-use pod_locks::pod_spot;
 use std::alloc::Global;
 
 // Carries the plan out in the folder. The files come from images, whose lock the caller holds.
@@ -42,7 +41,7 @@ fn fill<D: Dir>(
     ensures left { IfErr result (λ e. D.observed ≡ true → (to : Area) → WhereMakingPod (MayMake to plan.now draw) (Owns draw) (in_prepare draw []) (D.shown dir.old)
         (λ intent hs. HasMakerFolder draw intent hs (D.shown dir.new))) }
 {
-    let spot = pod_spot(draw, Area::Prepare);
+    let spot = Spot::of_pod(draw, Area::Prepare);
     let mut source = StoreSource;
     match carry_out(alloc, dir, &mut source, spot, plan) {
         Ok(()) => Ok(()),
@@ -64,8 +63,8 @@ fn hand_over<D: Dir>(alloc: Global, dir: &mut D, draw: PodId, to: Area) -> Resul
     ensures left { IfErr result (λ e. D.observed ≡ true → (plan : List PlanEntry) → WherePlanFilled to plan draw (D.shown dir.old)
         (λ intent hs entries. Knows (D.shown dir.new) (seen_making intent hs (in_prepare draw entries)))) }
 {
-    let from = pod_spot(draw, area_before(to));
-    let there = pod_spot(draw, to);
+    let from = Spot::of_pod(draw, area_before(to));
+    let there = Spot::of_pod(draw, to);
     match dir.move_folder(alloc, from, there) {
         Ok(()) => Ok(()),
         Err(error) => Err(change_refusal(error)),

@@ -6,8 +6,9 @@ use Rattle.manifests.specs.PodData.{PodData}
 use Rattle.manifests.specs.PodForm.{pod_manifest}
 use Rattle.dir_model.specs.declared.pod.PodId.{PodId}
 use Rattle.dir_trait.specs.DirCalls.{DirAt}
-use Rattle.image_reading.specs.Files.{ReadsFile, LacksFile, most_of_manifest}
+use Rattle.image_reading.specs.Files.{ReadsFile, LacksFile}
 use Rattle.pod_files.specs.Places.{pod_file, pod_manifest_name, token_name}
+use Rattle.manifests.specs.ManifestSize.{most_of_manifest}
 
 -- the bytes are those of a pod manifest with this data
 abbrev pub IsManifestOf : PodData → List ℕ → Type 0

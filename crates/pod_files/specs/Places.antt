@@ -4,11 +4,11 @@ use Rattle.dir_model.specs.declared.area.Area.TheVariants.{Run}
 use Rattle.dir_model.specs.declared.item.Inner.{Inner}
 use Rattle.dir_model.specs.declared.pod.PodId.{PodId}
 use Rattle.dir_model.specs.declared.spot.Spot.{Spot}
-use Rattle.dir_model.specs.Pods.{pod_text}
+use Rattle.dir_model.specs.Spots.{pod_spot}
 use Rattle.dir_files.specs.Reads.{inner_at}
 
 abbrev pub run_spot : PodId → Spot
-run_spot pod = record { area = Run; name = pod_text pod.bytes }
+run_spot pod = pod_spot pod Run
 
 -- a file in its folder
 abbrev pub pod_file : PodId → List ℕ → Inner

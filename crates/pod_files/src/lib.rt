@@ -4,11 +4,9 @@
 mod error;
 mod manifest;
 mod part;
-mod place;
 mod token;
 
 pub use error::{FileError, file_error};
 pub use manifest::read_manifest;
 pub use part::read_part;
-pub use place::run_spot;
 pub use token::read_token;

@@ -7,9 +7,8 @@ ghost use Rattle.dir_files.specs.Reads.{ReadsUp, WasMissing};
 ghost use Rattle.pod_files.specs.Places.{pod_file};
 ghost use Rattle.pod_files.specs.Looks.{OnlyReadsPod};
 
-use crate::place::run_spot;
 use dir_files::{ReadError, read_file};
-use dir_trait::{Dir, PodId};
+use dir_trait::{Area, Dir, PodId, Spot};
 use std::alloc::Global;
 
 /// The bytes of the file at a path of the pod's folder in run, or its first `most`; none where no such file
@@ -31,5 +30,5 @@ pub fn read_part<D: Dir>(
         (WasMissing (pod_file pod path.now) (D.shown dir.old) (D.shown dir.new))
         (λ bytes. ReadsUp (pod_file pod path.now) most (D.shown dir.old) (D.shown dir.new) bytes.items)) }
 {
-    read_file(alloc, dir, run_spot(pod), path, most)
+    read_file(alloc, dir, Spot::of_pod(pod, Area::Run), path, most)
 }

@@ -16,7 +16,7 @@ use Rattle.dir_rules.specs.Rules.{root_of}
 use Rattle.dir_rules.specs.Standing.{is_in}
 use Rattle.folder_removal.specs.Removal.{asks_deletion_at}
 use Rattle.dir_files.specs.AreaLocks.{is_taking_area, closes}
-use Rattle.phase_read.specs.Read.{pod_spot}
+use Rattle.dir_model.specs.Spots.{pod_spot}
 use Rattle.pod_gc.specs.Requests.{lists_pod_area, lists_marks, deals_with_pod, sweeps}
 use Rattle.pod_gc.specs.Told.{pods_of, deals_with_pods}
 

@@ -17,7 +17,7 @@ use Rattle.dir_model.proofs.Chains.{and_call, and_more, extends_wider}
 use Rattle.dir_model.proofs.Lists.{and_left, or_last}
 use Rattle.dir_trait.specs.DirCalls.{DirAt, DirCall, ExtendsBy}
 use Rattle.dir_trait.specs.Effects.{OnlyAsks, LeavesOpen}
-use Rattle.phase_read.specs.Read.{pod_spot}
+use Rattle.dir_model.specs.Spots.{pod_spot}
 use Rattle.phase_read.proofs.Stages.{pod_spot_only}
 use Rattle.pod_locks.specs.Requests.{looks_at, moves_pod}
 use Rattle.pod_locks.specs.Taking.{takes_away, TookNothing}

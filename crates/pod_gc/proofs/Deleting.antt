@@ -43,7 +43,7 @@ use Rattle.folder_removal.specs.Removal as removal
 use Rattle.folder_removal.specs.Removal.{is_removal_area, asks_deletion_at, is_stray_deletion, EndsWithStrayDeletion, EndsRemoved}
 use Rattle.folder_removal.proofs.Strays.{stray_called}
 use Rattle.folder_removal.specs.Known.{is_there, MayDelete, KnowsBut, KnowsDeleted, Deletes, OnlyTries}
-use Rattle.phase_read.specs.Read.{pod_spot}
+use Rattle.dir_model.specs.Spots.{pod_spot}
 use Rattle.pod_locks.specs.ClaimHolding.{is_on_folder}
 use Rattle.pod_locks.proofs.ClaimSeen.{off, none_kind}
 use Rattle.pod_locks.specs.Work.{Grew}
@@ -211,11 +211,11 @@ deletes_own {pod} {a} {s} place h = subst (λ (x : Seen). MayDelete (pod_spot po
 pub owns_looked : {pod : PodId} {a : Area} {s z : Seen} → Looked s z → HasOwn pod a s → HasOwn pod a z
 owns_looked {pod} {a} {s} {z} l h = record {
   own = h.own;
-  base = record h.base { standing = record h.base.standing { looked = l.free ++ h.base.standing.looked } };
+  base = record h.base { standing = record h.base.standing { seen_unowned = l.free ++ h.base.standing.seen_unowned } };
   apart = h.apart;
   bare = h.bare;
   fresh = h.fresh;
-  is = l.same ∙ ap (λ (x : Seen). let r : Seen = record x { standing = record x.standing { looked = l.free ++ x.standing.looked } } in r) h.is;
+  is = l.same ∙ ap (λ (x : Seen). let r : Seen = record x { standing = record x.standing { seen_unowned = l.free ++ x.standing.seen_unowned } } in r) h.is;
 }
 
 pub but_deleted : {pod : PodId} {a : Area} {s : Seen} {new : DirAt} → IsBare s → KnowsDeleted (pod_spot pod a) s new → KeepsBut pod a s new

@@ -19,7 +19,7 @@ use Rattle.dir_trait.specs.Knowledge.{Knows, OnlyLooks}
 use Rattle.dir_trait.proofs.Knowing.{knows_call}
 use Rattle.dir_trait.proofs.Looking.{fresh_of}
 use Rattle.dir_trait.specs.Effects.{OnlyAsks, LeavesOpen, Given}
-use Rattle.phase_read.specs.Read.{pod_spot}
+use Rattle.dir_model.specs.Spots.{pod_spot}
 use Rattle.pod_locks.proofs.ClaimCalls.{lock_closed}
 use Rattle.pod_locks.proofs.ClaimSeen.{off, none_kind}
 use Rattle.pod_locks.proofs.Times.{at_part}

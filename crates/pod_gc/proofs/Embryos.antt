@@ -8,7 +8,7 @@ use Rattle.dir_model.specs.Pods.{pod_text}
 use Rattle.dir_rules.specs.declared.seen.Seen.{Seen}
 use Rattle.dir_trait.specs.DirCalls.{DirAt}
 use Rattle.dir_trait.specs.Effects.{Given}
-use Rattle.phase_read.specs.Read.{pod_spot}
+use Rattle.dir_model.specs.Spots.{pod_spot}
 use Rattle.pod_locks.proofs.ClaimSeen.{off}
 use Rattle.pod_locks.specs.Holding.{MayMove, KeepsReady}
 use Rattle.pod_gc.proofs.Stages.{spares}

@@ -37,7 +37,7 @@ use Rattle.dir_trait.specs.Effects.{OnlyAsks, Given}
 use Rattle.dir_files.specs.Listed.{ShowsDirectoryBetween}
 use Rattle.dir_files.proofs.Folders.{tells_absent, tells_present}
 use Rattle.folder_removal.proofs.Calls.{knows_list}
-use Rattle.phase_read.specs.Read.{pod_spot}
+use Rattle.dir_model.specs.Spots.{pod_spot}
 use Rattle.pod_locks.specs.ClaimHolding.{is_on_folder}
 use Rattle.pod_locks.proofs.Traces.{grown_none}
 use Rattle.pod_locks.specs.Holding.{is_in_garbage, KeepsHoldings, KeepsReady}

@@ -23,7 +23,8 @@ use Rattle.lifecycle.proofs.Draws.{conforming_left}
 use Rattle.lifecycle.proofs.Places.{none_stands, moved_there}
 use Rattle.lifecycle.proofs.Stays.{forward, stays_between}
 use Rattle.lifecycle.proofs.Step.{stands_from}
-use Rattle.phase_read.specs.Read.{pod_spot, WasFound, stages_before}
+use Rattle.dir_model.specs.Spots.{pod_spot}
+use Rattle.phase_read.specs.Read.{WasFound, stages_before}
 use Rattle.phase_read.proofs.InTurn.{left_out_grown}
 use Rattle.pod_locks.specs.Work.{Grew}
 use Rattle.pod_locks.proofs.Times.{at_part}

@@ -47,7 +47,7 @@ use Rattle.dir_trait.specs.Knowledge.{Knows}
 use Rattle.dir_trait.proofs.Knowing.{knows_call}
 use Rattle.dir_trait.specs.Effects.{OnlyAsks, Given}
 use Rattle.gate_reading.proofs.PlainPaths.{plain_own}
-use Rattle.phase_read.specs.Read.{pod_spot}
+use Rattle.dir_model.specs.Spots.{pod_spot}
 use Rattle.pod_locks.proofs.ClaimSeen.{off}
 use Rattle.pod_locks.proofs.Times.{at_part}
 use Rattle.pod_locks.proofs.Traces.{grown_none}
@@ -259,7 +259,7 @@ marks_exited {now} {s} pod may = record {
   bare = may.bare;
 }
 
-moves_marked : (pod : PodId) (z : Seen) → began_as is_remover z.standing ≡ true → has_place (pod_text pod.bytes) Run z.standing.looked ≡ true → list_any (spot_eq (pod_spot pod Run)) z.marked ≡ true
+moves_marked : (pod : PodId) (z : Seen) → began_as is_remover z.standing ≡ true → has_place (pod_text pod.bytes) Run z.standing.seen_unowned ≡ true → list_any (spot_eq (pod_spot pod Run)) z.marked ≡ true
     → list_any (is_deleting (pod_text pod.bytes)) z.standing.holdings ≡ false → is_open_on (target.Own (pod_spot pod Run)) z.standing.holdings ≡ false → IsBare z → MayMove pod Run ExitedGarbage z
 moves_marked pod z began free marked none alone bare = record { allowed = rw (same_bytes (pod_text pod.bytes), began, free, marked, none) refl; alone = alone; bare = bare }
 
@@ -269,7 +269,7 @@ moves_exited {now} {s} pod may m =
     let u = pod_text pod.bytes in
     moves_marked pod m.known
     (ap (λ (z : Standing). began_as is_remover z) m.standing ∙ may.began)
-    (ap (λ (z : Standing). has_place u Run z.looked) m.standing ∙ (marks_exited pod may).free)
+    (ap (λ (z : Standing). has_place u Run z.seen_unowned) m.standing ∙ (marks_exited pod may).free)
     m.marked
     (ap (λ (z : Standing). list_any (is_deleting u) z.holdings) m.standing ∙ spares_it pod s.standing.holdings may.apart)
     (ap (λ (z : Standing). is_open_on (target.Own (pod_spot pod Run)) z.holdings) m.standing ∙ off Own (pod_spot pod Run) s.standing.holdings may.apart)

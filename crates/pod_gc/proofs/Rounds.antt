@@ -35,7 +35,8 @@ use Rattle.lifecycle.specs.Executions.{IsConforming}
 use Rattle.phase_read.specs.declared.found.Found.TheVariants.{At}
 use Rattle.phase_read.specs.declared.found.LookError.{LookError}
 use Rattle.phase_read.specs.declared.found.LookError.TheVariants as look
-use Rattle.phase_read.specs.Read.{pod_spot, is_pod_spot, IsPhaseReading}
+use Rattle.dir_model.specs.Spots.{pod_spot}
+use Rattle.phase_read.specs.Read.{is_pod_spot, IsPhaseReading}
 use Rattle.folder_removal.specs.Removal.{KeepsFolders}
 use Rattle.phase_read.specs.Often.{ReadsAtMost}
 use Rattle.phase_read.specs.Exact.{AtOwnEvent, IsInPhase}

@@ -16,7 +16,7 @@ use Rattle.dir_rules.proofs.Looks.{deletes_none}
 use Rattle.dir_trait.specs.DirCalls.{DirAt}
 use Rattle.dir_trait.specs.Knowledge.{Knows}
 use Rattle.dir_trait.specs.Effects.{Given}
-use Rattle.phase_read.specs.Read.{pod_spot}
+use Rattle.dir_model.specs.Spots.{pod_spot}
 use Rattle.pod_locks.specs.ClaimHolding.{is_on_folder}
 use Rattle.pod_locks.proofs.ClaimSeen.{off, none_kind}
 use Rattle.pod_locks.specs.Holding.{covers, MayLook, LooksFree, with_look, MayMove, KeepsReady}

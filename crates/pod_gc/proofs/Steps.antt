@@ -29,7 +29,8 @@ use Rattle.lifecycle.specs.Executions.{IsConforming}
 use Rattle.lifecycle.proofs.Stays.{stays_between}
 use Rattle.phase_read.specs.declared.found.LookError.{LookError}
 use Rattle.phase_read.specs.declared.found.LookError.TheVariants as look
-use Rattle.phase_read.specs.Read.{pod_spot, HasPhase, is_pod_spot}
+use Rattle.dir_model.specs.Spots.{pod_spot}
+use Rattle.phase_read.specs.Read.{HasPhase, is_pod_spot}
 use Rattle.phase_read.specs.Exact.{AtOwnEvent, IsInPhase}
 use Rattle.phase_read.proofs.Exact.{found_exactly}
 use Rattle.pod_locks.specs.Work.{Grew}

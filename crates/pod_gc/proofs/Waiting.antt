@@ -24,7 +24,8 @@ use Rattle.dir_rules.specs.Rules.{asks_for, is_old}
 use Rattle.dir_trait.specs.DirCalls.{DirAt, HeldBetween}
 use Rattle.dir_trait.specs.Effects.{Given}
 use Rattle.lifecycle.specs.Executions.{IsConforming}
-use Rattle.phase_read.specs.Read.{pod_spot, HasPhase}
+use Rattle.dir_model.specs.Spots.{pod_spot}
+use Rattle.phase_read.specs.Read.{HasPhase}
 use Rattle.phase_read.specs.Exact.{AtOwnEvent, IsInPhase}
 use Rattle.phase_read.proofs.Exact.{found_exactly}
 use Rattle.phase_read.proofs.Stages.{has_phase}

@@ -9,7 +9,7 @@ use Rattle.dir_rules.specs.Marks.{mark_moment}
 use Rattle.dir_rules.specs.Rules.{root_of}
 use Rattle.dir_rules.specs.Seen.{later}
 use Rattle.dir_files.specs.Listed.{ShowsDirectory}
-use Rattle.phase_read.specs.Read.{pod_spot}
+use Rattle.dir_model.specs.Spots.{pod_spot}
 use Rattle.pod_locks.specs.Work.{Grew}
 use Rattle.pod_gc.specs.Requests.{lists_marks}
 

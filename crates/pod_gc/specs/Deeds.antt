@@ -20,7 +20,7 @@ use Rattle.dir_rules.specs.Standing.{is_in}
 use Rattle.dir_trait.specs.DirCalls.{DirAt, HeldBetween}
 use Rattle.dir_trait.specs.Effects.{Given}
 use Rattle.lifecycle.specs.Executions.{IsConforming}
-use Rattle.phase_read.specs.Read.{pod_spot}
+use Rattle.dir_model.specs.Spots.{pod_spot}
 use Rattle.phase_read.specs.Exact.{AtOwnEvent, IsInPhase}
 use Rattle.pod_locks.specs.Elsewhere.{is_owned_phase, IsOwnedElsewhere}
 use Rattle.pod_locks.specs.Causes.{IsAbsentAt, CannotOpenAt, Did, PodHeldByAnother, FreeOfOthers}

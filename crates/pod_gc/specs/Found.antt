@@ -15,7 +15,8 @@ use Rattle.dir_model.specs.Calls.{Extends, AtOwnStep}
 use Rattle.dir_model.specs.Replies.{is_look_at}
 use Rattle.dir_trait.specs.DirCalls.{DirAt}
 use Rattle.phase_read.specs.declared.found.Found.TheVariants.{At}
-use Rattle.phase_read.specs.Read.{pod_spot, is_pod_spot, IsPhaseReading}
+use Rattle.dir_model.specs.Spots.{pod_spot}
+use Rattle.phase_read.specs.Read.{is_pod_spot, IsPhaseReading}
 use Rattle.pod_locks.specs.Work.{Grew}
 use Rattle.pod_locks.specs.declared.setback.Setback.{Setback}
 use Rattle.pod_locks.specs.declared.setback.Setback.TheVariants.{Missing, Busy}

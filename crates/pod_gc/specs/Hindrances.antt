@@ -14,7 +14,7 @@ use Rattle.dir_model.specs.State.{folder_at}
 use Rattle.dir_model.specs.Trace.{state_after}
 use Rattle.dir_model.specs.Trees.{has_file}
 use Rattle.lifecycle.specs.PodMachine.{pod_phase, pod_owner}
-use Rattle.phase_read.specs.Read.{pod_spot}
+use Rattle.dir_model.specs.Spots.{pod_spot}
 use Rattle.pod_locks.specs.ClaimCauses.{is_held_elsewhere}
 use Rattle.pod_locks.specs.Causes.{WasStrayStep}
 use Rattle.pod_gc.specs.declared.remove_error.RemoveError.{RemoveError}

@@ -21,7 +21,7 @@ use Rattle.dir_model.specs.Trees.{has_any}
 use Rattle.dir_rules.specs.Marks.{marked_mark}
 use Rattle.dir_trait.specs.DirCalls.{DirAt, ExtendsBy, HeldBetween}
 use Rattle.folder_removal.specs.Removal.{EndsWithStrayDeletion}
-use Rattle.phase_read.specs.Read.{pod_spot}
+use Rattle.dir_model.specs.Spots.{pod_spot}
 use Rattle.pod_locks.specs.declared.setback.Setback.{Setback}
 use Rattle.pod_locks.specs.declared.setback.Setback.TheVariants.{Missing, NoManifest, Busy, DirFault, Stray, NoMemory}
 use Rattle.pod_locks.specs.ClaimCauses.{OpensOwnAlone}

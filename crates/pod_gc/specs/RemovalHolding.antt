@@ -16,7 +16,7 @@ use Rattle.dir_rules.specs.Seen.{is_free, forget_items}
 use Rattle.dir_rules.specs.Rules.{asks_for}
 use Rattle.dir_trait.specs.DirCalls.{DirAt}
 use Rattle.dir_trait.specs.Knowledge.{Knows}
-use Rattle.phase_read.specs.Read.{pod_spot}
+use Rattle.dir_model.specs.Spots.{pod_spot}
 use Rattle.pod_locks.specs.ClaimHolding.{is_on_folder}
 use Rattle.pod_locks.specs.Holding.{with_pod_lock, is_in_garbage, IsBare, KeepsHoldings}
 

@@ -10,7 +10,8 @@ use Rattle.dir_model.specs.declared.request.Request.TheVariants.{Open, TryLock, 
 use Rattle.dir_model.specs.State.{spot_eq}
 use Rattle.dir_rules.specs.Marks.{marked_mark}
 use Rattle.folder_removal.specs.Removal.{asks_deletion_at}
-use Rattle.phase_read.specs.Read.{pod_spot, is_pod_spot}
+use Rattle.dir_model.specs.Spots.{pod_spot}
+use Rattle.phase_read.specs.Read.{is_pod_spot}
 use Rattle.pod_locks.specs.Requests.{looks_at, moves_pod}
 
 -- a pod in this phase may be removed: nobody makes, runs or deletes it

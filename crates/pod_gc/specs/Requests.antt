@@ -12,7 +12,7 @@ use Rattle.dir_rules.specs.Marks.{marked_mark}
 use Rattle.dir_rules.specs.Standing.{is_in}
 use Rattle.dir_rules.specs.Seen.{inner_eq}
 use Rattle.dir_rules.specs.Rules.{root_of}
-use Rattle.phase_read.specs.Read.{pod_spot}
+use Rattle.dir_model.specs.Spots.{pod_spot}
 use Rattle.pod_locks.specs.Requests.{looks_at, moves_pod}
 use Rattle.pod_gc.specs.RemovalRequests.{puts_aside, removes}
 

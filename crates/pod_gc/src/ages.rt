@@ -2,7 +2,7 @@
 ghost use Rattle.std.specs.Prelude.{◌≡◌, ◌-◌, ◌+◌, ◌≤◌, ◌↔◌, ℕ, true, Ok, Some, None, length, drop, cond, nat_le, IsTrue, codes, IfOk, IfErr, IfSome};
 ghost use Rattle.dir_model.specs.State.{stands};
 ghost use Rattle.dir_trait.specs.DirCalls.{HeldBetween};
-ghost use Rattle.phase_read.specs.Read.{pod_spot};
+ghost use Rattle.dir_model.specs.Spots.{pod_spot};
 ghost use Rattle.dir_trait.specs.Local.{IsActive};
 ghost use Rattle.dir_trait.specs.Effects.{OnlyAsks, Given};
 ghost use Rattle.pod_locks.specs.Holding.{KeepsReady};
@@ -15,9 +15,8 @@ ghost use Rattle.pod_gc.specs.Sweeping.{NotesMark};
 
 use crate::gc_error::{GcError, listing_fault};
 use dir_files::items_of;
-use dir_trait::{Area, Dir, DirError, Item, PodId};
+use dir_trait::{Area, Dir, DirError, Item, PodId, Spot};
 use marks::{later, moment_of};
-use pod_locks::pod_spot;
 use std::alloc::Global;
 
 /// The times of a sweep, in seconds, by which its contract tells the ages of pods.
@@ -90,7 +89,7 @@ pub(crate) fn marked_at<D: Dir>(
     ensures noted { IfOk result (λ found. IfSome found (λ moment. D.observed ≡ true → (now : ℕ) → text.now ≡ codes "created-"
         → Given (MayRemove now) (D.shown dir.old) (λ s. NotesMark pod moment s (D.shown dir.new)))) }
 {
-    match items_of(alloc, dir, pod_spot(pod, area), "") {
+    match items_of(alloc, dir, Spot::of_pod(pod, area), "") {
         Ok(items) => Ok(Some(greatest(text, items.as_slice()))),
         Err(DirError::Missing) => Ok(None),
         Err(error) => Err(listing_fault(error)),

@@ -10,7 +10,7 @@ ghost use Rattle.dir_trait.specs.DirCalls.{ExtendsBy, LockToldBetween};
 ghost use Rattle.dir_trait.specs.Local.{IsActive};
 ghost use Rattle.dir_trait.specs.Effects.{OnlyAsks, Given};
 ghost use Rattle.phase_read.specs.Often.{ReadsAtMost};
-ghost use Rattle.phase_read.specs.Read.{pod_spot};
+ghost use Rattle.dir_model.specs.Spots.{pod_spot};
 ghost use Rattle.pod_gc.specs.RemovalRequests.{may_lie_dead, removes, marks_at, puts_aside};
 ghost use Rattle.pod_gc.specs.Requests.{goes_to};
 ghost use Rattle.pod_locks.specs.Holding.{KeepsReady};
@@ -19,9 +19,9 @@ ghost use Rattle.pod_locks.specs.Causes.{StepWasStopped, NeverStray, IsAbsentAt,
 ghost use Rattle.pod_locks.specs.Taking.{TakesNothing};
 ghost use Rattle.pod_gc.specs.RemovalCauses.{BusyByPeeks, IsMarkedBetween, MarkedFirst};
 
-use dir_trait::{Area, Dir, DirError, PodId};
+use dir_trait::{Area, Dir, DirError, PodId, Spot};
 use marks::mark_text;
-use pod_locks::{Setback, pod_spot, probe, put_aside, set_back};
+use pod_locks::{Setback, probe, put_aside, set_back};
 use std::alloc::Global;
 
 /// The garbage place where a pod goes from an area.
@@ -50,7 +50,7 @@ fn mark<D: Dir>(alloc: Global, dir: &mut D, pod: PodId, now: u64) -> Result<(), 
         Ok(name) => name,
         Err(_) => return Err(Setback::NoMemory),
     };
-    match dir.make_file_in(alloc, pod_spot(pod, Area::Run), name.as_str()) {
+    match dir.make_file_in(alloc, Spot::of_pod(pod, Area::Run), name.as_str()) {
         Ok(()) => Ok(()),
         Err(DirError::Exists) => Ok(()),
         Err(error) => Err(set_back(error)),

@@ -12,17 +12,17 @@ ghost use Rattle.dir_trait.specs.Effects.{OnlyAsks, Given};
 ghost use Rattle.folder_removal.specs.Known.{StrayKnowing};
 ghost use Rattle.folder_removal.specs.Removal.{KeepsFolders};
 ghost use Rattle.phase_read.specs.Often.{ReadsAtMost};
-ghost use Rattle.phase_read.specs.Read.{pod_spot};
+ghost use Rattle.dir_model.specs.Spots.{pod_spot};
 ghost use Rattle.pod_gc.specs.RemovalRequests.{is_garbage_place, deletes_in, removes};
 ghost use Rattle.pod_locks.specs.Holding.{KeepsReady};
 ghost use Rattle.pod_gc.specs.RemovalHolding.{MayRemove, HasOwn, KeepsBut};
 ghost use Rattle.pod_locks.specs.Causes.{StepWasStopped, StrayByApp, IsAbsentAt, LockBusyElsewhere, FreeIfObserved, Did};
 ghost use Rattle.pod_gc.specs.RemovalCauses.{BusyByLooks, StoppedDeleting, MissedUntaken};
 
-use dir_trait::{Area, Dir, PodId, Which};
+use dir_trait::{Area, Dir, PodId, Spot, Which};
 use folder_removal::delete_folder;
 use phase_read::look;
-use pod_locks::{Setback, delete_setback, look_setback, pod_spot, take};
+use pod_locks::{Setback, delete_setback, look_setback, take};
 use std::alloc::Global;
 
 // Deletes the pod's folder under its own lock.
@@ -44,7 +44,7 @@ fn delete_standing<D: Dir>(
     ensures kept { IfErr result (λ e. D.observed ≡ true → KeepsFolders (D.shown dir.old) (D.shown dir.new)) }
     ensures known { D.observed ≡ true → Given (HasOwn pod area) (D.shown dir.old) (λ s. KeepsBut pod area s (D.shown dir.new)) }
 {
-    match delete_folder(alloc, dir, pod_spot(pod, area)) {
+    match delete_folder(alloc, dir, Spot::of_pod(pod, area)) {
         Ok(()) => Ok(()),
         Err(error) => Err(delete_setback(error)),
     }
@@ -72,7 +72,7 @@ fn delete_if_there<D: Dir>(
     ensures kept { IfErr result (λ e. D.observed ≡ true → KeepsFolders (D.shown dir.old) (D.shown dir.new)) }
     ensures known { D.observed ≡ true → Given (HasOwn pod area) (D.shown dir.old) (λ s. KeepsBut pod area s (D.shown dir.new)) }
 {
-    match look(alloc, dir, pod_spot(pod, area)) {
+    match look(alloc, dir, Spot::of_pod(pod, area)) {
         Ok(true) => delete_standing(alloc, dir, pod, area),
         Ok(false) => Err(Setback::Missing),
         Err(error) => Err(look_setback(error)),

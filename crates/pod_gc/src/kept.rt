@@ -14,9 +14,9 @@ ghost use Rattle.pod_gc.specs.Deeds.{DeedCause, SaysThere, DoesNothing, LeavesIf
 
 use crate::gc_error::{GcError, look_fault};
 use crate::line::{Deed, deed_of};
-use dir_trait::{Area, Dir, Phase, PodId};
+use dir_trait::{Area, Dir, Phase, PodId, Spot};
 use phase_read::look;
-use pod_locks::{Setback, pod_spot, probe};
+use pod_locks::{Setback, probe};
 use std::alloc::Global;
 
 /// What is said of a pod whose own lock told that it has this phase: it still stands there, or it may have
@@ -36,7 +36,7 @@ pub(crate) fn kept<D: Dir>(
     ensures peeks { D.observed ≡ true → ExtendsBy (peeks_at pod area) (D.shown dir.old) (D.shown dir.new) }
     ensures known { D.observed ≡ true → OnlyLooks (D.shown dir.old) (D.shown dir.new) }
 {
-    match look(alloc, dir, pod_spot(pod, area)) {
+    match look(alloc, dir, Spot::of_pod(pod, area)) {
         Ok(true) => Ok(Deed::Kept(phase)),
         Ok(false) => Ok(Deed::Left),
         Err(error) => Err(look_fault(error)),

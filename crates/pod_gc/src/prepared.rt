@@ -10,7 +10,7 @@ ghost use Rattle.dir_trait.specs.Local.{IsActive};
 ghost use Rattle.dir_trait.specs.Knowledge.{OnlyLooks};
 ghost use Rattle.dir_trait.specs.Effects.{OnlyAsks, Given};
 ghost use Rattle.phase_read.specs.Often.{ReadsAtMost};
-ghost use Rattle.phase_read.specs.Read.{pod_spot};
+ghost use Rattle.dir_model.specs.Spots.{pod_spot};
 ghost use Rattle.pod_locks.specs.Requests.{looks_at};
 ghost use Rattle.pod_gc.specs.RemovalRequests.{removes, puts_aside};
 ghost use Rattle.pod_locks.specs.Holding.{KeepsReady};
@@ -19,9 +19,9 @@ ghost use Rattle.pod_locks.specs.Causes.{StepWasStopped, NeverStray, IsAbsentAt,
 ghost use Rattle.pod_locks.specs.Taking.{TakesNothing};
 ghost use Rattle.pod_gc.specs.RemovalCauses.{RemovalStopsAlone, StoppedAlone, BusyInPrepared, BusyByLooks};
 
-use dir_trait::{Area, Dir, PodId, Which};
+use dir_trait::{Area, Dir, PodId, Spot, Which};
 use phase_read::look;
-use pod_locks::{Setback, look_setback, pod_spot, probe, put_aside, take};
+use pod_locks::{Setback, look_setback, probe, put_aside, take};
 use std::alloc::Global;
 
 // Moves the pod to garbage, once its own lock was had shared: its maker has given it up, and who would run
@@ -58,7 +58,7 @@ fn without_claim<D: Dir>(alloc: Global, dir: &mut D, pod: PodId) -> Setback
     ensures stopped { RemovalStopsAlone D.observed pod result (D.shown dir.old) (D.shown dir.new) }
     ensures known { D.observed ≡ true → OnlyLooks (D.shown dir.old) (D.shown dir.new) }
 {
-    match look(alloc, dir, pod_spot(pod, Area::Prepared)) {
+    match look(alloc, dir, Spot::of_pod(pod, Area::Prepared)) {
         Ok(true) => Setback::NoManifest,
         Ok(false) => Setback::Missing,
         Err(error) => look_setback(error),

@@ -98,12 +98,12 @@ plain_own pod h covered = record { number = refl; gate = refl; closes = λ a. re
 
 -- a lock that wasn't had is given up
 pub free_given : (pod : PodId) (which : Which) (h : Handle) (covered : Bool) (z : Seen) → Fresh h z.standing.holdings → seen_replied (and_held (on_prepared_lock pod which h None covered) z) (Close h) Done ≡ z
-free_given pod Own h covered z fresh = closed_plain z h (on_prepared_lock pod Own h None covered) z.standing.looked (plain_free pod Own h covered) fresh
-free_given pod Claim h covered z fresh = closed_plain z h (on_prepared_lock pod Claim h None covered) z.standing.looked (plain_free pod Claim h covered) fresh
+free_given pod Own h covered z fresh = closed_plain z h (on_prepared_lock pod Own h None covered) z.standing.seen_unowned (plain_free pod Own h covered) fresh
+free_given pod Claim h covered z fresh = closed_plain z h (on_prepared_lock pod Claim h None covered) z.standing.seen_unowned (plain_free pod Claim h covered) fresh
 
 -- and so is Own
 pub own_given : (pod : PodId) (h : Handle) (covered : Bool) (z : Seen) → Fresh h z.standing.holdings → seen_replied (and_held (on_prepared_lock pod Own h (Some Exclusive) covered) z) (Close h) Done ≡ z
-own_given pod h covered z fresh = closed_plain z h (on_prepared_lock pod Own h (Some Exclusive) covered) z.standing.looked (plain_own pod h covered) fresh
+own_given pod h covered z fresh = closed_plain z h (on_prepared_lock pod Own h (Some Exclusive) covered) z.standing.seen_unowned (plain_own pod h covered) fresh
 
 -- a lock of the pod is opened, asked for, and had or not
 pub not_opened : (pod : PodId) (which : Which) (z : Seen) (error : DirError) → seen_replied z (Open (in_prepared pod) which) (Refused error 0) ≡ z
@@ -210,9 +210,9 @@ module _ (pod : PodId) (claim : Handle) (t : Seen) (whole left : List Held)
   Within hs = record t { standing = record t.standing { holdings = hs } }
 
   abbrev Given : Bool → List Held → List (List ℕ) → Bool → List Inner → List ShownItem → List ShownArea → Bool → Seen
-  Given g hs names stored listed items areas k = record t {
+  Given g hs names image_under_lock listed items areas k = record t {
     standing = record t.standing { embryo_under_lock = not g && t.standing.embryo_under_lock; holdings = hs; seen_unowned_under_claim = names };
-    stored = not stored && t.stored;
+    image_under_lock = not image_under_lock && t.image_under_lock;
     listed = listed;
     items = items;
     areas = areas;

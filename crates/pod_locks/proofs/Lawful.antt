@@ -25,7 +25,7 @@ use Rattle.impossible_replies.proofs.Calls.{never_meets}
 use Rattle.impossible_replies.proofs.StrayDeletions.{wrote_within}
 use Rattle.lifecycle.specs.Executions.{IsConforming}
 use Rattle.lifecycle.proofs.Draws.{conforming_left}
-use Rattle.phase_read.specs.Read.{pod_spot}
+use Rattle.dir_model.specs.Spots.{pod_spot}
 use Rattle.pod_locks.specs.Work.{Grew}
 use Rattle.pod_locks.specs.declared.setback.Setback.TheVariants.{Stray}
 use Rattle.pod_locks.specs.Setbacks.{step_setback_of, step_lock_setback}

@@ -37,7 +37,7 @@ use Rattle.dir_rules.specs.Conforms.{seen_of, IsTied}
 use Rattle.dir_rules.proofs.Tied.{meanwhile_unseen, lived_meanwhile, Lives}
 use Rattle.dir_trait.proofs.Calls.{late_never}
 use Rattle.dir_files.proofs.OwnHandles.{open_as_seen}
-use Rattle.phase_read.specs.Read.{pod_spot}
+use Rattle.dir_model.specs.Spots.{pod_spot}
 use Rattle.pod_locks.specs.ClaimCauses.{is_lock}
 use Rattle.pod_locks.specs.Holding.{and_held}
 use Rattle.pod_locks.specs.Causes.{OpensAt, is_held_against, PodHeldByAnother, FreeOfOthers}

@@ -139,7 +139,7 @@ pub runs_it : {observed : Bool} {pod : PodId} {own : Handle} (a b : DirAt) → W
 runs_it {observed} {pod} {own} a b x t s may k = let h = x t s may k in record { seen = with_pod pod own h.known; knows = h.knows; runs = runs_pod pod own h.known }
 
 -- what is open after both
-pub went_twice : {observed : Bool} {pod : PodId} {l : Local} {a b c : DirAt} → WentClaiming observed 33 pod a.local a b → WentClaiming observed 33 pod l b c → WentClaiming observed 66 pod l a c
+pub went_twice : {observed : Bool} {pod : PodId} {l : Local} {a b c : DirAt} → WentClaiming observed 28 pod a.local a b → WentClaiming observed 28 pod l b c → WentClaiming observed 56 pod l a c
 went_twice w v = went_more w v
 
 pub owned_twice : (pod : PodId) (m : Local) (n : Local) (own own' : Handle) → n ≡ m → own' ≡ own → and_prepared_lock n pod Own own ≡ and_prepared_lock m pod Own own'

@@ -26,7 +26,7 @@ use Rattle.dir_rules.specs.LockRules.{is_open_on, may_open, may_lock_own, may_lo
 use Rattle.dir_rules.specs.Rules.{allows}
 use Rattle.dir_rules.specs.Conforms.{seen_replied}
 use Rattle.dir_rules.proofs.Looks.{Fresh, Plain, closed_plain, newest_found, newest_locked, alone_newest}
-use Rattle.phase_read.specs.Read.{pod_spot}
+use Rattle.dir_model.specs.Spots.{pod_spot}
 use Rattle.pod_locks.specs.Holding.{on_pod_lock, and_held, with_pod_lock, covers, MayLook, MayTakeLock, MayMove, with_look, KeepsHoldings, is_in_garbage}
 
 -- lists
@@ -94,12 +94,12 @@ module _ (pod : PodId) (a : Area) (h : Handle) (z : Seen) (fresh : Fresh h z.sta
   pub probed : seen_replied (seen_replied (seen_replied z (Open (pod_spot pod a) Own) (Opened h)) (TryLock h Shared) Done) (Close h) Done ≡ with_look pod a z
   probed =
       ap (λ (x : Seen). seen_replied x (Close h) Done) own_had
-      ∙ closed_plain (with_look pod a z) h (own_shared pod a h Covers) (with_look pod a z).standing.looked (plain_shared pod a h Covers) fresh
+      ∙ closed_plain (with_look pod a z) h (own_shared pod a h Covers) (with_look pod a z).standing.seen_unowned (plain_shared pod a h Covers) fresh
 
   pub not_probed : (error : DirError) → seen_replied (seen_replied (seen_replied z (Open (pod_spot pod a) Own) (Opened h)) (TryLock h Shared) (Refused error 0)) (Close h) Done ≡ z
   not_probed error =
       ap (λ (x : Seen). seen_replied x (Close h) Done) (own_unhad error)
-      ∙ closed_plain z h New z.standing.looked (plain_none pod a h Covers) fresh
+      ∙ closed_plain z h New z.standing.seen_unowned (plain_none pod a h Covers) fresh
 
 pub not_opened : (pod : PodId) (a : Area) (z : Seen) (error : DirError) → seen_replied z (Open (pod_spot pod a) Own) (Refused error 0) ≡ z
 not_opened pod a z error = refl
@@ -150,8 +150,8 @@ module _ (pod : PodId) (a : Area) (which : Which) (h : Handle) (z : Seen) (fresh
 
 -- one that wasn't had is given up
 pub lock_given : (pod : PodId) (a : Area) (which : Which) (h : Handle) (z : Seen) → Fresh h z.standing.holdings → seen_replied (and_held (on_pod_lock pod a which h None) z) (Close h) Done ≡ z
-lock_given pod a Own h z fresh = closed_plain z h (on_pod_lock pod a Own h None) z.standing.looked (plain_lock pod a Own h) fresh
-lock_given pod a Claim h z fresh = closed_plain z h (on_pod_lock pod a Claim h None) z.standing.looked (plain_lock pod a Claim h) fresh
+lock_given pod a Own h z fresh = closed_plain z h (on_pod_lock pod a Own h None) z.standing.seen_unowned (plain_lock pod a Own h) fresh
+lock_given pod a Claim h z fresh = closed_plain z h (on_pod_lock pod a Claim h None) z.standing.seen_unowned (plain_lock pod a Claim h) fresh
 
 -- the pod is moved
 

@@ -23,7 +23,7 @@ use Rattle.dir_rules.specs.declared.seen.Seen.{Seen}
 use Rattle.folder_removal.specs.Removal.{is_stray_deletion, WasCalledFor}
 use Rattle.impossible_replies.specs.Replies.{AppWroteOn}
 use Rattle.lifecycle.specs.Executions.{IsConforming}
-use Rattle.phase_read.specs.Read.{pod_spot}
+use Rattle.dir_model.specs.Spots.{pod_spot}
 use Rattle.pod_locks.specs.ClaimCauses.{is_lock}
 use Rattle.pod_locks.specs.Work.{InOrder}
 use Rattle.pod_locks.specs.declared.setback.Setback.{Setback}

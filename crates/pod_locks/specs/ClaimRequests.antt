@@ -6,7 +6,8 @@ use Rattle.dir_model.specs.declared.spot.Spot.{Spot}
 use Rattle.dir_model.specs.declared.request.Request.{Request}
 use Rattle.dir_model.specs.declared.request.Request.TheVariants.{Open, TryLock, Close, MoveFolder}
 use Rattle.dir_model.specs.State.{spot_eq}
-use Rattle.phase_read.specs.Read.{pod_spot, is_pod_spot}
+use Rattle.dir_model.specs.Spots.{pod_spot}
+use Rattle.phase_read.specs.Read.{is_pod_spot}
 
 -- where the pod waits to be run
 abbrev pub in_prepared : PodId → Spot

@@ -23,7 +23,7 @@ use Rattle.dir_rules.specs.LockRules.{is_open_on, may_open, may_lock_own, may_lo
 use Rattle.dir_rules.specs.Rules.{allows}
 use Rattle.dir_trait.specs.DirCalls.{DirAt, ExtendsBy}
 use Rattle.dir_trait.specs.Knowledge.{Knows}
-use Rattle.phase_read.specs.Read.{pod_spot}
+use Rattle.dir_model.specs.Spots.{pod_spot}
 use Rattle.pod_locks.specs.ClaimCauses.{is_lock}
 
 -- what is open, and a lock of the pod that was taken at this place
@@ -71,7 +71,7 @@ pub record MayLook (pod : PodId) (area : Area) (s : Seen) : Type 0 where
 abbrev pub with_look : PodId → Area → Seen → Seen
 with_look pod area s = record s {
   standing = record s.standing {
-    looked = own_spot (target.Own (pod_spot pod area)) ++ s.standing.looked;
+    seen_unowned = own_spot (target.Own (pod_spot pod area)) ++ s.standing.seen_unowned;
     seen_unowned_under_claim = cond (covers pod area s) (prepared_name (target.Own (pod_spot pod area))) [] ++ s.standing.seen_unowned_under_claim;
   };
 }

@@ -6,7 +6,7 @@ use Rattle.dir_model.specs.declared.request.Request.{Request}
 use Rattle.dir_model.specs.declared.request.Request.TheVariants.{Open, TryLock, Close, MoveFolder}
 use Rattle.dir_model.specs.Replies.{is_look_at}
 use Rattle.dir_model.specs.State.{spot_eq}
-use Rattle.phase_read.specs.Read.{pod_spot}
+use Rattle.dir_model.specs.Spots.{pod_spot}
 
 -- a lock of the pod's folder at this place is opened, asked for and given up
 abbrev pub looks_at : PodId → Area → Request → Bool

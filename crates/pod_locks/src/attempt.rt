@@ -37,7 +37,7 @@ fn is_prepared(phase: Phase) -> bool
 fn find_prepared<D: Dir>(alloc: Global, dir: &mut D, pod: PodId) -> Result<(), ClaimError>
     requires active { IsActive (D.shown dir.old).local }
     requires alone { has_own_open (D.shown dir.old).local (pod_text pod.bytes) ≡ false }
-    ensures went { WentClaiming D.observed 24 pod (D.shown dir.old).local (D.shown dir.old) (D.shown dir.new) }
+    ensures went { WentClaiming D.observed 19 pod (D.shown dir.old).local (D.shown dir.old) (D.shown dir.new) }
     ensures reads { ReadsAtMost 1 D.observed pod (D.shown dir.old) (D.shown dir.new) }
     ensures moves_nothing { D.observed ≡ true → MovedNothing (D.shown dir.old).process (D.shown dir.old).trace (D.shown dir.new).trace }
     ensures found { IfOk result (λ done. D.observed ≡ true
@@ -66,7 +66,7 @@ fn find_prepared<D: Dir>(alloc: Global, dir: &mut D, pod: PodId) -> Result<(), C
 pub(crate) fn attempt<D: Dir>(alloc: Global, dir: &mut D, pod: PodId) -> Result<Handle, Setback>
     requires active { IsActive (D.shown dir.old).local }
     requires alone { has_own_open (D.shown dir.old).local (pod_text pod.bytes) ≡ false }
-    ensures went { WentClaiming D.observed 33 pod (and_locked (D.shown dir.old).local pod lock.Own result) (D.shown dir.old) (D.shown dir.new) }
+    ensures went { WentClaiming D.observed 28 pod (and_locked (D.shown dir.old).local pod lock.Own result) (D.shown dir.old) (D.shown dir.new) }
     ensures reads { ReadsAtMost 1 D.observed pod (D.shown dir.old) (D.shown dir.new) }
     ensures unopened { IfOk result (λ own. IsUnopened (D.shown dir.old).local own) }
     ensures order { IfOk result (λ own. D.observed ≡ true

@@ -28,7 +28,7 @@ fn owned(pod: PodId, own: Handle) -> Owned
 }
 
 /// Claims a prepared pod: takes its activation lock and then its own lock, moves it from prepared to
-/// run, and gives the activation lock up. The pod's phase is read at most twice, by at most 66 calls in
+/// run, and gives the activation lock up. The pod's phase is read at most twice, by at most 56 calls in
 /// all. No handle of this process is open on the pod's own lock before; afterwards one is, which holds it
 /// exclusively, or the call is refused and everything is open that was open before.
 ///
@@ -43,7 +43,7 @@ pub fn claim<D: Dir>(alloc: Global, dir: &mut D, pod: PodId) -> Result<Owned, Cl
     requires active { IsActive (D.shown dir.old).local }
     requires alone { has_own_open (D.shown dir.old).local (pod_text pod.bytes) ≡ false }
     ensures owned { IfOk result (λ owned. IsOwned pod (D.shown dir.old).local owned) }
-    ensures went { WentClaiming D.observed 66 pod (and_owned (D.shown dir.old).local pod result) (D.shown dir.old) (D.shown dir.new) }
+    ensures went { WentClaiming D.observed 56 pod (and_owned (D.shown dir.old).local pod result) (D.shown dir.old) (D.shown dir.new) }
     ensures reads { ReadsAtMost 2 D.observed pod (D.shown dir.old) (D.shown dir.new) }
     ensures cause { IfErr result (λ e. ClaimCause D.observed pod e (D.shown dir.old) (D.shown dir.new)) }
     ensures by_other_process { IfErr result (λ e. WhereObservedKnew D.observed MayClaim (D.shown dir.old)

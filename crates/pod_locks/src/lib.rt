@@ -14,6 +14,5 @@ mod steps;
 pub use claim_error::ClaimError;
 pub use claiming::claim;
 pub use owned::Owned;
-pub use phase_read::pod_spot;
 pub use setback::{Setback, delete_setback, look_setback, set_back};
 pub use steps::{probe, put_aside, take};

@@ -14,8 +14,8 @@ ghost use Rattle.pod_locks.specs.Claims.{HasPod};
 use crate::claim_error::ClaimError;
 use crate::claim_setback::{Setback, look_refusal, set_back, step_setback};
 use crate::steps::take;
-use dir_trait::{Area, Dir, Handle, PodId, Which};
-use phase_read::{look, pod_spot};
+use dir_trait::{Area, Dir, Handle, PodId, Spot, Which};
+use phase_read::look;
 use std::alloc::Global;
 
 // Takes a lock of the pod in prepared.
@@ -66,8 +66,8 @@ fn run_under_claim<D: Dir>(alloc: Global, dir: &mut D, pod: PodId) -> Result<Han
     ensures left { IfErr result (λ e. WhereObservedKnew D.observed (HasClaim pod) (D.shown dir.old) (λ s. Knows (D.shown dir.new) s)) }
 {
     let own = take_prepared(alloc, dir, pod, Which::Own)?;
-    let from = pod_spot(pod, Area::Prepared);
-    let to = pod_spot(pod, Area::Run);
+    let from = Spot::of_pod(pod, Area::Prepared);
+    let to = Spot::of_pod(pod, Area::Run);
     match dir.move_folder(alloc, from, to) {
         Ok(()) => Ok(own),
         Err(error) => {
@@ -85,7 +85,7 @@ fn without_claim<D: Dir>(alloc: Global, dir: &mut D, pod: PodId) -> Setback
     ensures stopped { ClaimStopsAlone D.observed pod result (D.shown dir.old) (D.shown dir.new) }
     ensures left { D.observed ≡ true → OnlyLooks (D.shown dir.old) (D.shown dir.new) }
 {
-    match look(alloc, dir, pod_spot(pod, Area::Prepared)) {
+    match look(alloc, dir, Spot::of_pod(pod, Area::Prepared)) {
         Ok(true) => Setback::Refused(ClaimError::NoManifest),
         Ok(false) => Setback::Missing,
         Err(error) => Setback::Refused(look_refusal(error)),

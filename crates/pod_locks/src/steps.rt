@@ -10,7 +10,7 @@ ghost use Rattle.dir_trait.specs.Local.{IsActive, IsUnopened};
 ghost use Rattle.dir_trait.specs.DirCalls.{ExtendsBy, LockToldBetween};
 ghost use Rattle.dir_trait.specs.Knowledge.{Knows};
 ghost use Rattle.dir_trait.specs.Effects.{OnlyAsks, LeavesOpen, Given};
-ghost use Rattle.phase_read.specs.Read.{pod_spot};
+ghost use Rattle.dir_model.specs.Spots.{pod_spot};
 ghost use Rattle.pod_locks.specs.Requests.{looks_at, peeks_at, moves_pod};
 ghost use Rattle.pod_locks.specs.Holding.{and_taken, with_pod_lock, MayLook, MayTakeLock, MayMove, LooksFree, KeepsReady};
 ghost use Rattle.pod_locks.specs.Causes.{StepWasStopped, NeverStray, CannotOpenAt, IsAbsentAt, LockBusyElsewhere, FreeIfObserved, Did};
@@ -18,8 +18,7 @@ ghost use Rattle.pod_locks.specs.Taking.{TakesNothing};
 ghost use Rattle.pod_locks.specs.LockTaking.{TakesLock};
 
 use crate::setback::{Setback, lock_setback, set_back};
-use dir_trait::{Area, Dir, Handle, Mode, PodId, Which};
-use phase_read::pod_spot;
+use dir_trait::{Area, Dir, Handle, Mode, PodId, Spot, Which};
 use std::alloc::Global;
 
 /// Opens the pod's own lock at a place, takes it shared, and gives it up: so nobody held it exclusively,
@@ -39,7 +38,7 @@ pub fn probe<D: Dir>(alloc: Global, dir: &mut D, pod: PodId, area: Area) -> Resu
     ensures free { IfOk result (λ done. D.observed ≡ true → Given (MayLook pod area) (D.shown dir.old) (λ s. LooksFree pod area s (D.shown dir.new))) }
     ensures left { IfErr result (λ e. D.observed ≡ true → Given (MayLook pod area) (D.shown dir.old) (λ s. Knows (D.shown dir.new) s)) }
 {
-    match dir.open(alloc, pod_spot(pod, area), Which::Own) {
+    match dir.open(alloc, Spot::of_pod(pod, area), Which::Own) {
         Ok(handle) => {
             let answer = dir.try_lock(alloc, handle, Mode::Shared);
             dir.close(handle);
@@ -76,7 +75,7 @@ pub fn take<D: Dir>(
         (λ s. Knows (D.shown dir.new) (with_pod_lock pod area which handle s))) }
     ensures left { IfErr result (λ e. D.observed ≡ true → Given (MayTakeLock pod area which) (D.shown dir.old) (λ s. Knows (D.shown dir.new) s)) }
 {
-    match dir.open(alloc, pod_spot(pod, area), which) {
+    match dir.open(alloc, Spot::of_pod(pod, area), which) {
         Ok(handle) => match dir.try_lock(alloc, handle, Mode::Exclusive) {
             Ok(()) => Ok(handle),
             Err(error) => {
@@ -108,7 +107,7 @@ pub fn put_aside<D: Dir>(
     ensures takes_nothing { IfErr result (λ e. TakesNothing D.observed (D.shown dir.old) (D.shown dir.new)) }
     ensures ready { D.observed ≡ true → Given (MayMove pod from to) (D.shown dir.old) (λ s. KeepsReady s (D.shown dir.new)) }
 {
-    match dir.move_folder(alloc, pod_spot(pod, from), pod_spot(pod, to)) {
+    match dir.move_folder(alloc, Spot::of_pod(pod, from), Spot::of_pod(pod, to)) {
         Ok(()) => Ok(()),
         Err(error) => Err(set_back(error)),
     }

@@ -24,7 +24,7 @@ use Rattle.dir_trait.specs.Knowledge.{Knows, OnlyLooks}
 use Rattle.dir_trait.proofs.ListCalls.{list_extends, local_items}
 use Rattle.dir_files.specs.Reads.{inner_at, OnlyReads, may_read, reads_at}
 use Rattle.folder_removal.proofs.Calls.{knows_list}
-use Rattle.phase_read.specs.Read.{pod_spot}
+use Rattle.dir_model.specs.Spots.{pod_spot}
 use Rattle.phase_read.proofs.Exact.{stage_of}
 use Rattle.pod_lookup.specs.Looks.{OnlyLooksFor}
 use Rattle.pod_report.specs.Requests.{KeepsHandles, OnlyAsksFor, visits, lists_in, inspects}

@@ -13,7 +13,7 @@ use Rattle.dir_model.proofs.Lists.{all_weaker}
 use Rattle.dir_trait.specs.DirCalls.{DirAt}
 use Rattle.lifecycle.specs.Executions.{IsConforming}
 use Rattle.phase_read.specs.Exact.{AtOwnEvent, IsInPhase}
-use Rattle.phase_read.specs.Read.{pod_spot}
+use Rattle.dir_model.specs.Spots.{pod_spot}
 use Rattle.phase_read.proofs.Exact.{event_within}
 use Rattle.pod_report.specs.declared.ends.AppEndText.{AppEndText}
 use Rattle.pod_report.specs.declared.status.PodStatus.{PodStatus}

@@ -21,7 +21,7 @@ use Rattle.lifecycle.proofs.Forward.{age_out, out_age}
 use Rattle.lifecycle.proofs.Invariant.{placed_age}
 use Rattle.lifecycle.proofs.Phases.{stands_exists}
 use Rattle.lifecycle.proofs.Stays.{stays_between}
-use Rattle.phase_read.specs.Read.{pod_spot}
+use Rattle.dir_model.specs.Spots.{pod_spot}
 use Rattle.phase_read.specs.Exact.{AtOwnEvent, IsInPhase, IsNowhere}
 use Rattle.phase_read.proofs.Exact.{event_within, stage_of}
 use Rattle.lifecycle.proofs.Looking.{past, off_place, ended_at, gone_phase}

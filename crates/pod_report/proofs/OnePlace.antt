@@ -15,7 +15,7 @@ use Rattle.lifecycle.specs.Executions.{IsConforming}
 use Rattle.lifecycle.specs.PodMachine.{pod_state}
 use Rattle.lifecycle.proofs.Moves.{place_once}
 use Rattle.lifecycle.proofs.Phases.{stands_exists}
-use Rattle.phase_read.specs.Read.{pod_spot}
+use Rattle.dir_model.specs.Spots.{pod_spot}
 
 -- a stage by its rank
 abbrev stage_at : ℕ → Area

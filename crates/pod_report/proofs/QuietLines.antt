@@ -28,7 +28,8 @@ use Rattle.lifecycle.specs.Ownership.{place_in}
 use Rattle.lifecycle.specs.PodMachine.{pod_state}
 use Rattle.lifecycle.proofs.Phases.{stands_exists, phase_of_place}
 use Rattle.phase_read.specs.Exact.{AtOwnEvent, IsNowhere}
-use Rattle.phase_read.specs.Read.{pod_spot, stages}
+use Rattle.dir_model.specs.Spots.{pod_spot}
+use Rattle.phase_read.specs.Read.{stages}
 use Rattle.pod_lookup.proofs.InOrder.{head_named}
 use Rattle.pod_lookup.proofs.Shown.{conforms}
 use Rattle.pod_lookup.proofs.Existed.{has_phase}

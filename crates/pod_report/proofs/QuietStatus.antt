@@ -16,7 +16,7 @@ use Rattle.dir_model.specs.Trees.{items_in}
 use Rattle.dir_model.proofs.Lists.{all_weaker}
 use Rattle.lifecycle.specs.Executions.{IsConforming}
 use Rattle.phase_read.specs.Exact.{AtOwnEvent}
-use Rattle.phase_read.specs.Read.{pod_spot}
+use Rattle.dir_model.specs.Spots.{pod_spot}
 use Rattle.pod_lookup.proofs.InOrder.{Rising}
 use Rattle.pod_report.specs.declared.ends.AppEndText.{AppEndText}
 use Rattle.pod_report.specs.declared.status.PodStatus.{PodStatus}

@@ -29,7 +29,8 @@ use Rattle.dir_trait.specs.Knowledge.{OnlyLooks}
 use Rattle.phase_read.proofs.Stages.{pod_spot_only}
 use Rattle.dir_files.specs.Reads.{inner_at, file_at, TellsFile, IsPiece, WasMissing, OnlyReads, reads_at}
 use Rattle.dir_files.proofs.Reading.{missing_more}
-use Rattle.phase_read.specs.Read.{pod_spot, is_pod_spot}
+use Rattle.dir_model.specs.Spots.{pod_spot}
+use Rattle.phase_read.specs.Read.{is_pod_spot}
 use Rattle.phase_read.proofs.Exact.{stage_of}
 use Rattle.lifecycle.proofs.Looking.{at_most}
 use Rattle.pod_report.proofs.Asking.{looks_read, looks_places}

@@ -8,7 +8,7 @@ use Rattle.dir_model.specs.Calls.{AtOwnStep}
 use Rattle.dir_model.specs.State.{stands}
 use Rattle.dir_model.proofs.Moments.{at_after}
 use Rattle.dir_trait.specs.DirCalls.{DirAt, HeldBetween}
-use Rattle.phase_read.specs.Read.{pod_spot}
+use Rattle.dir_model.specs.Spots.{pod_spot}
 use Rattle.pod_report.specs.declared.ends.AppEndText.{AppEndText}
 use Rattle.pod_report.specs.Inspections.{TellsMarks, TellsEnds, SeesStatus, SeesAt}
 use Rattle.pod_report.specs.Requests.{OnlyAsksFor}

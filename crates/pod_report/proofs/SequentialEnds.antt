@@ -14,7 +14,7 @@ use Rattle.dir_model.specs.Trees.{items_in}
 use Rattle.dir_model.proofs.Lists.{any_of_map}
 use Rattle.dir_rules.specs.Marks.{status_directory}
 use Rattle.dir_files.specs.Reads.{inner_at, file_at}
-use Rattle.phase_read.specs.Read.{pod_spot}
+use Rattle.dir_model.specs.Spots.{pod_spot}
 use Rattle.pod_lookup.specs.Pods.{in_order}
 use Rattle.pod_lookup.proofs.InOrder.{Rising, one_order, order_has, order_rises}
 use Rattle.pod_lookup.proofs.Names.{has_filter}

@@ -9,7 +9,7 @@ use Rattle.dir_model.specs.State.{DirState, stands, is_owned_at}
 use Rattle.dir_model.proofs.Lists.{same_self}
 use Rattle.phase_read.specs.declared.found.Found.{Found}
 use Rattle.phase_read.specs.declared.found.Found.TheVariants.{At, Gone}
-use Rattle.phase_read.specs.Read.{pod_spot}
+use Rattle.dir_model.specs.Spots.{pod_spot}
 use Rattle.phase_read.specs.Sequential.{found_in, sequential_read}
 
 module _ (s : DirState) (pod : PodId) where

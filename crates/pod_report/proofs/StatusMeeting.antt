@@ -34,7 +34,7 @@ use Rattle.dir_files.proofs.Folders.{not_own}
 use Rattle.gate_reading.proofs.Listed.{throughout, sometime}
 use Rattle.lifecycle.specs.Executions.{IsConforming}
 use Rattle.lifecycle.proofs.Stays.{stays_between}
-use Rattle.phase_read.specs.Read.{pod_spot}
+use Rattle.dir_model.specs.Spots.{pod_spot}
 use Rattle.phase_read.specs.Exact.{AtOwnEvent, IsInPhase}
 use Rattle.phase_read.proofs.Exact.{event_within, stage_of}
 use Rattle.pod_lookup.proofs.Shown.{conforms}

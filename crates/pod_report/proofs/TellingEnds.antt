@@ -25,7 +25,7 @@ use Rattle.dir_trait.specs.DirCalls.{DirAt, ListCall}
 use Rattle.dir_files.specs.Listed.{ShowsDirectoryBetween}
 use Rattle.dir_files.specs.Reads.{inner_at, file_at, TellsFile, IsPiece}
 use Rattle.dir_files.proofs.Folders.{tells_absent}
-use Rattle.phase_read.specs.Read.{pod_spot}
+use Rattle.dir_model.specs.Spots.{pod_spot}
 use Rattle.pod_lookup.proofs.InOrder.{has_push}
 use Rattle.pod_report.specs.declared.ends.AppEndText.{AppEndText}
 use Rattle.pod_report.specs.Ends.{IsStatusText, IsNoStatus, status_file, HasEndedIn, HasNoEndIn, ended_apps}

@@ -9,7 +9,7 @@ use Rattle.dir_model.specs.Listings.{is_named, has_item}
 use Rattle.dir_model.specs.State.{DirState, folder_at}
 use Rattle.dir_model.specs.Trees.{items_in}
 use Rattle.dir_rules.specs.Marks.{created_moment}
-use Rattle.phase_read.specs.Read.{pod_spot}
+use Rattle.dir_model.specs.Spots.{pod_spot}
 
 -- something of this name stands directly in the pod's folder, wherever that stands
 pub record HasInFolder (pod : PodId) (name : List ℕ) (s : DirState) : Type 0 where

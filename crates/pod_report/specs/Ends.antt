@@ -8,7 +8,7 @@ use Rattle.dir_model.specs.Areas.{is_stage}
 use Rattle.dir_model.specs.State.{DirState}
 use Rattle.dir_rules.specs.Marks.{status_directory}
 use Rattle.dir_files.specs.Reads.{inner_at, file_at}
-use Rattle.phase_read.specs.Read.{pod_spot}
+use Rattle.dir_model.specs.Spots.{pod_spot}
 use Rattle.pod_report.specs.declared.ends.AppEndText.{AppEndText}
 
 -- a status in decimal, and a line feed

@@ -19,7 +19,7 @@ use Rattle.dir_trait.specs.DirCalls.{DirAt}
 use Rattle.dir_files.specs.Listed.{ShowsDirectory}
 use Rattle.dir_files.specs.Reads.{inner_at}
 use Rattle.phase_read.specs.Exact.{AtOwnEvent, IsNowhere}
-use Rattle.phase_read.specs.Read.{pod_spot}
+use Rattle.dir_model.specs.Spots.{pod_spot}
 use Rattle.pod_report.specs.declared.ends.AppEndText.{AppEndText}
 use Rattle.pod_report.specs.declared.inspect.Inspection.{Inspection}
 use Rattle.pod_report.specs.declared.inspect.Inspection.TheVariants.{Gone, Missed, Met}

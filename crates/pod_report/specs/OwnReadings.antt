@@ -9,7 +9,8 @@ use Rattle.dir_model.specs.Calls.{AtOwnStep}
 use Rattle.dir_model.specs.State.{stands}
 use Rattle.dir_trait.specs.DirCalls.{DirAt}
 use Rattle.phase_read.specs.declared.found.Found.TheVariants.{At, Gone}
-use Rattle.phase_read.specs.Read.{IsPhaseReading, pod_spot}
+use Rattle.dir_model.specs.Spots.{pod_spot}
+use Rattle.phase_read.specs.Read.{IsPhaseReading}
 use Rattle.pod_report.specs.declared.error.ReportError.{ReportError}
 use Rattle.pod_report.specs.declared.error.ReportError.TheVariants.{NoPod}
 use Rattle.pod_report.specs.declared.inspect.Inspection.{Inspection}

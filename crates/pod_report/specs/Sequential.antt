@@ -14,7 +14,7 @@ use Rattle.dir_rules.specs.Seen.{created_among}
 use Rattle.dir_files.specs.Reads.{inner_at, file_at}
 use Rattle.phase_read.specs.declared.found.Found.{Found}
 use Rattle.phase_read.specs.declared.found.Found.TheVariants.{At, Gone}
-use Rattle.phase_read.specs.Read.{pod_spot}
+use Rattle.dir_model.specs.Spots.{pod_spot}
 use Rattle.phase_read.specs.Sequential.{sequential_read}
 use Rattle.pod_lookup.specs.Pods.{in_order}
 use Rattle.pod_report.specs.declared.ends.AppEndText.{AppEndText}

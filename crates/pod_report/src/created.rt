@@ -10,9 +10,8 @@ ghost use Rattle.pod_report.specs.Requests.{OnlyAsksFor, inspects};
 
 use crate::error::{ReportError, read_fault};
 use dir_files::items_of;
-use dir_trait::{Area, Dir, DirError, Item, PodId};
+use dir_trait::{Area, Dir, DirError, Item, PodId, Spot};
 use marks::{created_moment, later};
-use phase_read::pod_spot;
 use std::alloc::Global;
 
 fn greatest(items: &[Item]) -> Option<u64>
@@ -40,7 +39,7 @@ pub(crate) fn created_at<D: Dir>(
     ensures answer_holds { IfOk result (λ created. D.observed ≡ true
         → TellsMarks pod area created (D.shown dir.old).process (D.shown dir.old).trace (D.shown dir.new).trace) }
 {
-    match items_of(alloc, dir, pod_spot(pod, area), "") {
+    match items_of(alloc, dir, Spot::of_pod(pod, area), "") {
         Ok(items) => Ok(greatest(items.as_slice())),
         Err(DirError::Missing) => Ok(None),
         Err(error) => Err(read_fault(error)),

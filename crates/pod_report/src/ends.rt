@@ -15,8 +15,7 @@ use crate::error::{ReportError, read_fault};
 use crate::whole::read_whole;
 use ac_types::Sequence;
 use dir_files::items_of;
-use dir_trait::{Area, Dir, DirError, FileName, Item, PodId};
-use phase_read::pod_spot;
+use dir_trait::{Area, Dir, DirError, FileName, Item, PodId, Spot};
 use std::alloc::{AllocError, Global};
 
 // One byte more than the longest text of a status has, so that a longer one is told from it.
@@ -58,7 +57,7 @@ fn end_at<D: Dir>(
     ensures answer_holds { IfOk result (λ status. D.observed ≡ true → (app : List ℕ) → path.now ≡ status_path app
         → TellsEnd pod area app status (D.shown dir.old).process (D.shown dir.old).trace (D.shown dir.new).trace) }
 {
-    match read_whole(alloc, dir, pod_spot(pod, area), path, MOST) {
+    match read_whole(alloc, dir, Spot::of_pod(pod, area), path, MOST) {
         Ok(Some(bytes)) => status_in(alloc, &bytes),
         Ok(None) => Ok(None),
         Err(error) => Err(error),
@@ -159,7 +158,12 @@ pub(crate) fn ends_at<D: Dir>(
     ensures answer_holds { IfOk result (λ ends. D.observed ≡ true
         → TellsEnds pod area ends.items (D.shown dir.old).process (D.shown dir.old).trace (D.shown dir.new).trace) }
 {
-    match items_of(alloc, dir, pod_spot(pod, area), "stage1/rootfs/rkt/status") {
+    match items_of(
+        alloc,
+        dir,
+        Spot::of_pod(pod, area),
+        "stage1/rootfs/rkt/status",
+    ) {
         Ok(items) => ends_of(alloc, dir, pod, area, items.as_slice()),
         Err(DirError::Missing) => Ok(Vec::new(alloc)),
         Err(error) => Err(read_fault(error)),

@@ -5,7 +5,7 @@ ghost use Rattle.dir_trait.specs.Causes.{Rose};
 ghost use Rattle.dir_trait.specs.DirCalls.{HeldBetween};
 ghost use Rattle.dir_trait.specs.Local.{IsActive};
 ghost use Rattle.dir_trait.specs.State.{stands};
-ghost use Rattle.phase_read.specs.Read.{pod_spot};
+ghost use Rattle.dir_model.specs.Spots.{pod_spot};
 ghost use Rattle.pod_report.specs.Outside.{IsReportFailure};
 ghost use Rattle.pod_report.specs.Requests.{OnlyAsksFor, visits};
 ghost use Rattle.pod_report.specs.Sights.{IsKnownSight, IsSightOf, SeesNoFile, Sees};
@@ -13,9 +13,9 @@ ghost use Rattle.pod_report.specs.Sights.{IsKnownSight, IsSightOf, SeesNoFile, S
 use crate::error::{ReportError, look_fault};
 use crate::whole::read_whole;
 use ac_types::ReadError;
-use dir_trait::{Area, Dir, PodId};
+use dir_trait::{Area, Dir, PodId, Spot};
 use manifests::{MOST_OF_MANIFEST, PodManifest, read_pod};
-use phase_read::{look, pod_spot};
+use phase_read::look;
 use std::alloc::Global;
 
 /// What is seen of a pod's manifest at one place.
@@ -57,7 +57,7 @@ pub(crate) fn is_there<D: Dir>(
     ensures there { IfOk result (λ there. D.observed ≡ true
         → HeldBetween (D.shown dir.old) (D.shown dir.new) (λ s. stands s.namespace (pod_spot pod area) ≡ there)) }
 {
-    match look(alloc, dir, pod_spot(pod, area)) {
+    match look(alloc, dir, Spot::of_pod(pod, area)) {
         Ok(there) => Ok(there),
         Err(error) => Err(look_fault(error)),
     }
@@ -101,7 +101,7 @@ pub(crate) fn see_manifest<D: Dir>(
     ensures seen { IfOk result (λ sight. D.observed ≡ true → Sees pod area sight (D.shown dir.old) (D.shown dir.new)) }
     ensures manifest { IfOk result IsKnownSight }
 {
-    match read_whole(alloc, dir, pod_spot(pod, area), "pod", MOST_OF_MANIFEST) {
+    match read_whole(alloc, dir, Spot::of_pod(pod, area), "pod", MOST_OF_MANIFEST) {
         Ok(Some(bytes)) => sight_of(alloc, &bytes),
         Ok(None) => sight_missing(alloc, dir, pod, area),
         Err(error) => Err(error),

@@ -25,7 +25,7 @@ use Rattle.folder_contents.proofs.Spots.{in_area, one_location}
 use Rattle.image_store.specs.Requests.{imports_at}
 use Rattle.image_removal.specs.Requests.{away_spot, removes_at, sweeps_store}
 use Rattle.image_reading.specs.Places.{image_spot}
-use Rattle.phase_read.specs.Read.{pod_spot}
+use Rattle.dir_model.specs.Spots.{pod_spot}
 use Rattle.pod_locks.specs.ClaimRequests.{in_prepared, in_run}
 use Rattle.pod_gc.specs.RemovalRequests.{removes}
 use Rattle.pod_gc.specs.Requests.{sweeps as sweeps_pods}

@@ -23,7 +23,7 @@ use Rattle.folder_contents.specs.UnderGate.{is_taken_from}
 use Rattle.folder_contents.proofs.Along.{happens}
 use Rattle.folder_contents.proofs.Spots.{one_location}
 use Rattle.folder_contents.proofs.Unmoved.{unmoved}
-use Rattle.pod_build.specs.MakingRequests.{pod_at}
+use Rattle.dir_model.specs.Spots.{pod_spot}
 use Rattle.pod_build.specs.Preparations.{IsPrepared}
 use Rattle.commands.specs.Prepare.{prepares_pod}
 use Rattle.commands.specs.PrepareQuiet.{StandsPrepared}
@@ -32,7 +32,7 @@ use Rattle.pod_manifest.specs.Wishes.{Wishes}
 
 module _ (draw : PodId) where
   abbrev spot : Spot
-  spot = pod_at Prepared draw
+  spot = pod_spot draw Prepared
 
   abbrev asks : Request → Bool
   asks = in_process (prepares_pod draw)
@@ -40,12 +40,12 @@ module _ (draw : PodId) where
   -- its moves begin in embryo or in prepare, and it removes no folder
   moves_away : (from to : Spot) → asks (MoveFolder from to) ≡ true → spot_eq from spot ≡ false
   moves_away from to h =
-      by (spot_eq from (pod_at Embryo draw)) (spot_eq to (pod_at Prepare draw)) (spot_eq from (pod_at Prepare draw)) (spot_eq to (pod_at Prepared draw)) refl refl h
+      by (spot_eq from (pod_spot draw Embryo)) (spot_eq to (pod_spot draw Prepare)) (spot_eq from (pod_spot draw Prepare)) (spot_eq to (pod_spot draw Prepared)) refl refl h
     where
-      by : (a b c d : Bool) → spot_eq from (pod_at Embryo draw) ≡ a → spot_eq from (pod_at Prepare draw) ≡ c →
+      by : (a b c d : Bool) → spot_eq from (pod_spot draw Embryo) ≡ a → spot_eq from (pod_spot draw Prepare) ≡ c →
           ((((a && b) || ((c && d) || false)) || false) || false) ≡ true → spot_eq from spot ≡ false
-      by true b c d e f h = subst (λ (z : Spot). spot_eq z spot ≡ false) (sym (one_location from (pod_at Embryo draw) e)) refl
-      by false b true d e f h = subst (λ (z : Spot). spot_eq z spot ≡ false) (sym (one_location from (pod_at Prepare draw) f)) refl
+      by true b c d e f h = subst (λ (z : Spot). spot_eq z spot ≡ false) (sym (one_location from (pod_spot draw Embryo) e)) refl
+      by false b true d e f h = subst (λ (z : Spot). spot_eq z spot ≡ false) (sym (one_location from (pod_spot draw Prepare) f)) refl
       by false b false d e f h = cc
 
   asked_leaves : (request : Request) (reply : Reply) → asks request ≡ true → is_taken_from spot request reply ≡ false
@@ -89,8 +89,8 @@ module _ (draw : PodId) where
   pod_stands {me} {old} {new} {refs} {wishes} ext quiet conforming x =
       let own : AllByRecursion (λ e. e.process ≡ me) ext.more =
       subst (λ (l : List Event). AllByRecursion (λ e. e.process ≡ me) l) (same_rest old quiet.more ext.more (sym quiet.grown ∙ ext.grown)) quiet.own in
-      let step : Event = event me (MoveFolder (pod_at Prepare draw) spot) Done in
-      let first : List Event = then_moved x.before me (pod_at Prepare draw) spot in
+      let step : Event = event me (MoveFolder (pod_spot draw Prepare) spot) Done in
+      let first : List Event = then_moved x.before me (pod_spot draw Prepare) spot in
       let whole : new ≡ first ++ x.later = x.moved ∙ sym (append_assoc x.before (step ∷ []) x.later) in
       let parted : ext.more ≡ (x.meanwhile ++ step ∷ []) ++ x.later = same_rest old ext.more ((x.meanwhile ++ step ∷ []) ++ x.later)
       (sym ext.grown ∙ (x.moved ∙ (ap (λ (h : List Event). h ++ step ∷ x.later) x.begins ∙ simp append_assoc))) in

@@ -17,7 +17,7 @@ use Rattle.commands.specs.Answers.{inside_in}
 use Rattle.commands.specs.CatManifest.{cat_manifest_report}
 use Rattle.commands.specs.PodList.{list_report}
 use Rattle.commands.specs.Status.{status_report}
-use Rattle.commands.specs.Validate.{ReadsFileAlone, most_read}
+use Rattle.commands.specs.Validate.{ReadsFileAlone}
 use Rattle.rkt_cli.specs.Tasks.{Task}
 use Rattle.rkt_cli.specs.Tasks.{Status, PodList, CatManifest, Validate, ImageList, ImageImport, ImageRm, ImageGc, Prepare, RunPrepared, Run, Rm, Gc, Metadata, Demo}
 use Rattle.rkt_cli.specs.Commands.{command_in, intent_of, looks, asks, runs_apps, ReadsOnly}
@@ -38,6 +38,7 @@ use Rattle.rkt_cli.proofs.Removals.{removal_printed, sweep_printed}
 use Rattle.rkt_cli.proofs.Reported.{report_printed}
 use Rattle.rkt_cli.proofs.ServiceRan.{service_printed}
 use Rattle.rkt_cli.proofs.Sessions.{all_parts}
+use Rattle.manifests.specs.ManifestSize.{most_of_manifest}
 
 abbrev TaskPrints : Task → Draw → BundleSeen → List ℕ → Type 0
 TaskPrints task draw bundle text = (command_in task).prints draw bundle text
@@ -97,7 +98,7 @@ over_of line now draw None before after o old new end status p printed is = ap (
 over_of line now draw (Some intent) before after o old new end status (inl s) printed is = inl s.local
 over_of line now draw (Some intent) before after o old new end status (inr n) printed is = inr (is ∙ ap end_status ((subst (λ (o : CommandOutcome). Printed o old new end) n.is printed).refused.0), n.local)
 
-nothing_given : (given : ℕ) → given ≤ given + most_read
+nothing_given : (given : ℕ) → given ≤ given + most_of_manifest
 nothing_given given = omega arith
 
 pub reads_nothing : (line : Task) (old new : BundleSeen) → new ≡ old → ReadsOnly line old new

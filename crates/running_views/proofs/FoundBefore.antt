@@ -8,7 +8,6 @@ use Rattle.dir_model.specs.declared.pod.PodId.{PodId}
 use Rattle.dir_model.specs.State.{DirState}
 use Rattle.dir_model.specs.Trace.{state_after}
 use Rattle.dir_trait.specs.DirCalls.{DirAt}
-use Rattle.image_reading.specs.Files.{most_of_manifest}
 use Rattle.pod_files.specs.Files.{IsManifestOf, IsNoManifest, ReadsNoPodManifest, most_of_token}
 use Rattle.pod_files.specs.Places.{pod_file, pod_manifest_name, token_name}
 use Rattle.pod_report.specs.Requests.{OnlyAsksFor}
@@ -22,6 +21,7 @@ use Rattle.running_views.specs.Views.{HasImageIn, HaveImagesIn, IsViewIn, FindsI
 use Rattle.running_views.proofs.Limits.{short_image, whole_image, digits_length, short_token, whole_token}
 use Rattle.running_views.proofs.QuietReads.{front_before, lacks_not}
 use Rattle.running_views.proofs.Running.{runs_before, stopped_before}
+use Rattle.manifests.specs.ManifestSize.{most_of_manifest}
 
 pub some_same : (x y : List ℕ) → Some x ≡ Some y → x ≡ y
 some_same x y is = cc

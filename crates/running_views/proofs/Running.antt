@@ -22,7 +22,7 @@ use Rattle.lifecycle.proofs.Phases.{phase_of_place}
 use Rattle.lifecycle.proofs.Stays.{one_folder}
 use Rattle.phase_read.specs.declared.found.Found.{Found}
 use Rattle.phase_read.specs.declared.found.Found.TheVariants.{At, Gone}
-use Rattle.phase_read.specs.Read.{pod_spot}
+use Rattle.dir_model.specs.Spots.{pod_spot}
 use Rattle.phase_read.specs.Sequential.{sequential_read}
 use Rattle.pod_lookup.proofs.Shown.{conforms}
 use Rattle.pod_report.specs.Requests.{OnlyAsksFor}

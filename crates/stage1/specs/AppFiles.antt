@@ -4,11 +4,12 @@ use Rattle.tree_digest.specs.declared.line.ListingLine.{ListingLine}
 use Rattle.tree_digest.specs.Listings.{entries_of}
 use Rattle.dir_model.specs.declared.pod.PodId.{PodId}
 use Rattle.dir_trait.specs.DirCalls.{DirAt}
-use Rattle.image_reading.specs.Files.{ReadsFile, LacksFile, IsListingOf, IsNoListing as IsNoListingText, most_of_tree}
+use Rattle.image_reading.specs.Files.{ReadsFile, LacksFile, IsListingOf, IsNoListing as IsNoListingText}
 use Rattle.stage1.specs.declared.root.Root.{Root}
 use Rattle.stage1.specs.AppPlaces.{tree_path}
 use Rattle.pod_files.specs.Files.{ReadsPodManifest, ReadsNoPodManifest, ReadsToken, ReadsNoToken}
 use Rattle.pod_files.specs.Places.{pod_file}
+use Rattle.tree_digest.specs.ListingSize.{most_of_tree}
 
 -- the bytes are the listing of the root, and were kept
 pub record IsAppRootOf (bytes : List ℕ) (root : Root) : Type 0 where

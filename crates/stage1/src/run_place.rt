@@ -3,8 +3,7 @@ ghost use Rattle.std.specs.Prelude.{◌≡◌, IfOk, string_bytes};
 ghost use Rattle.stage1.specs.AppPlaces.{tree_path, told_path, app_root_of};
 
 use ac_types::{AcName, NoMemory, Text};
-use dir_trait::{FileName, PodId};
-use pod_files::run_spot;
+use dir_trait::{Area, FileName, PodId, Spot};
 use spawner::RootPlace;
 use std::alloc::Global;
 
@@ -35,7 +34,7 @@ pub(crate) fn root_of(pod: PodId, app: &AcName) -> RootPlace
 {
     match FileName::of(app.as_str()) {
         Some(name) => RootPlace {
-            spot: run_spot(pod),
+            spot: Spot::of_pod(pod, Area::Run),
             app: name,
         },
         None => unreachable!(),

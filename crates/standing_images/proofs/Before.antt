@@ -33,7 +33,7 @@ use Rattle.gate_reading.proofs.AreaNames.{image_named}
 use Rattle.gate_reading.proofs.StoredFiles.{same_file}
 use Rattle.image_reading.specs.Within.{Within}
 use Rattle.image_reading.specs.Places.{image_spot, image_inner, manifest_name, id_name, IsImageAbsent, IsPresent}
-use Rattle.image_reading.specs.Files.{IsImageManifestOf, IsIdOf, ReadsFile, ReadsImageManifest, ReadsId, ShowsImportMarks, most_of_manifest, most_of_id}
+use Rattle.image_reading.specs.Files.{IsImageManifestOf, IsIdOf, ReadsFile, ReadsImageManifest, ReadsId, ShowsImportMarks, most_of_id}
 use Rattle.image_reading.specs.Images.{ReadsImage}
 use Rattle.image_reading.specs.Store.{ReadsStore}
 use Rattle.image_reading.proofs.Values.{id_front}
@@ -43,6 +43,7 @@ use Rattle.standing_images.proofs.Keys.{key_among, keys_rise}
 use Rattle.standing_images.proofs.Moments.{has_mark, is_newest}
 use Rattle.standing_images.proofs.Pieces.{all_told, is_front}
 use Rattle.standing_images.proofs.Shown.{shows_names}
+use Rattle.manifests.specs.ManifestSize.{most_of_manifest}
 
 module _ (me : ℕ) (old new : List Event) (stay : ImagesStay old new) where
   abbrev s : DirState

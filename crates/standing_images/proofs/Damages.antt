@@ -19,7 +19,7 @@ use Rattle.gate_reading.specs.Files.{is_outside_stage1}
 use Rattle.lifecycle.proofs.Places.{same_name}
 use Rattle.image_reading.specs.declared.error.StoreError.TheVariants.{Damaged}
 use Rattle.image_reading.specs.Places.{some_key, key_of_name, keys_among, image_spot, image_inner, manifest_name, id_name, mark_name}
-use Rattle.image_reading.specs.Files.{IsNoImageManifest, IsNoId, IsKeptOf, ReadsFile, LacksFile, ReadsNoImageManifest, LacksId, LacksMoment, most_of_manifest, most_of_id}
+use Rattle.image_reading.specs.Files.{IsNoImageManifest, IsNoId, IsKeptOf, ReadsFile, LacksFile, ReadsNoImageManifest, LacksId, LacksMoment, most_of_id}
 use Rattle.image_reading.specs.Images as read
 use Rattle.image_reading.specs.Images.{ReadsImage}
 use Rattle.image_reading.specs.Store.{keys, LacksListed}
@@ -32,6 +32,7 @@ use Rattle.standing_images.proofs.Members.{contains_none, contains_first, contai
 use Rattle.standing_images.proofs.Moments.{none_shown}
 use Rattle.standing_images.proofs.OneDamage.{store_whole}
 use Rattle.standing_images.proofs.OneStore.{later_above, rest_rise}
+use Rattle.manifests.specs.ManifestSize.{most_of_manifest}
 
 -- a key that is read of a name has 32 bytes
 key_bytes : (name : List ℕ) (key : StoreKey) → key_of_name name ≡ Some key → AreBytes 32 key.bytes

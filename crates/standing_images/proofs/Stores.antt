@@ -27,7 +27,7 @@ use Rattle.dir_files.specs.Listed.{ShowsArea, ShowsDirectory}
 use Rattle.gate_reading.specs.Areas.{is_image}
 use Rattle.gate_reading.specs.Gate.{GoesOnUnderLock}
 use Rattle.image_reading.specs.Places.{image_spot, image_inner, manifest_name, id_name}
-use Rattle.image_reading.specs.Files.{IsImageManifestOf, IsIdOf, ReadsImageManifest, ReadsId, most_of_manifest, most_of_id}
+use Rattle.image_reading.specs.Files.{IsImageManifestOf, IsIdOf, ReadsImageManifest, ReadsId, most_of_id}
 use Rattle.image_reading.specs.Images.{ReadsImage}
 use Rattle.image_reading.specs.Looks.{reads_images}
 use Rattle.image_reading.specs.Store.{keys, ReadsStore}
@@ -39,6 +39,7 @@ use Rattle.standing_images.proofs.AtEnd.{end, whole, file_front}
 use Rattle.standing_images.proofs.Listed.{lead, start, ends_own, items_last, names_whole}
 use Rattle.standing_images.proofs.Moments.{has_mark, is_newest}
 use Rattle.standing_images.proofs.Keys.{key_among, keys_rise}
+use Rattle.manifests.specs.ManifestSize.{most_of_manifest}
 
 module _ {asks : Request → Bool} {s : Seen} {old new : DirAt} (g : GoesOnUnderLock asks s old new) (l : LastOwn old.process g.extends.more) where
   manifest_stands : (key : StoreKey) (manifest : ImageManifest) → ReadsImageManifest key manifest old new →

@@ -3,6 +3,7 @@ pub mod ErrorTexts
 pub mod Fields
 pub mod FileChecks
 pub mod Lines
+pub mod ListingSize
 pub mod Listings
 pub mod RefusalNumbers
 pub mod Steps

@@ -1,11 +1,12 @@
 use Rattle.std.proofs.Common.{◌≡◌, ◌≤◌, ◌∙◌, ℕ, length, List, true, sym, subst}
 use Rattle.dir_files.specs.Reads.{ReadsUp}
 use Rattle.image_reading.specs.Places.{image_inner, stored_path, tree_name}
-use Rattle.image_reading.specs.Files.{IsListingOf, IsNoListing, most_of_tree}
+use Rattle.image_reading.specs.Files.{IsListingOf, IsNoListing}
 use Rattle.image_reading.proofs.Places.{tree_path}
 use Rattle.image_reading.proofs.Values.{tree_front, no_tree_front}
 use Rattle.image_reading.proofs.Files.{some_read, some_lacks, some_whole}
 use Rattle.image_reading.proofs.file.read_listing.Goals as goal
+use Rattle.tree_digest.specs.ListingSize.{most_of_tree}
 
 pub read_part-requires-clause-path : goal.read_part-requires-clause-path
 read_part-requires-clause-path g c = tree_path

@@ -1,10 +1,11 @@
 use Rattle.std.proofs.Common.{refl}
 use Rattle.image_reading.specs.Places.{image_inner, stored_path, manifest_name}
-use Rattle.image_reading.specs.Files.{IsKeptOf, IsNoImageManifest, most_of_manifest}
+use Rattle.image_reading.specs.Files.{IsKeptOf, IsNoImageManifest}
 use Rattle.image_reading.proofs.Places.{manifest_path}
 use Rattle.image_reading.proofs.Values.{manifest_front, no_manifest_front}
 use Rattle.image_reading.proofs.Files.{some_read, some_lacks, some_whole}
 use Rattle.image_reading.proofs.file.read_manifest.Goals as goal
+use Rattle.manifests.specs.ManifestSize.{most_of_manifest}
 
 pub read_part-requires-clause-path : goal.read_part-requires-clause-path
 read_part-requires-clause-path g c = manifest_path

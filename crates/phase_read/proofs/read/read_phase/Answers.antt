@@ -5,8 +5,9 @@ use Rattle.dir_model.specs.declared.spot.Spot.{Spot}
 use Rattle.dir_model.specs.declared.area.Area.{Area}
 use Rattle.dir_model.proofs.Chains.{and_more, extends_wider}
 use Rattle.dir_model.proofs.Spots.{look_wider}
-use Rattle.phase_read.specs.Read.{WasFound, HasPhase, LeftOut, is_pod_spot, stages_before, pod_spot}
-use Rattle.phase_read.proofs.Stages.{next_rank, next_within, next_before, last_stages, pod_spot_only}
+use Rattle.dir_model.specs.Spots.{pod_spot}
+use Rattle.phase_read.specs.Read.{WasFound, HasPhase, LeftOut, is_pod_spot, stages_before}
+use Rattle.phase_read.proofs.Stages.{next_rank, next_within, next_before, next_misses, misses_most, last_stages, pod_spot_only}
 use Rattle.phase_read.proofs.InTurn.{and_left_out}
 use Rattle.dir_trait.proofs.Looking.{looks_more}
 use Rattle.dir_model.proofs.Moments.{at_after}
@@ -40,7 +41,7 @@ places-preserved g c =
     let named = λ (text : List ℕ). AtOwnStep (shown c.places.dir).process now new (λ s. stands s.namespace (record { area = c.places.area; name = text }) ≡ false) in
     let next = next_rank c.places.area c.in-Some-next.next c.in-Some-next.ensures in
     record {
-      counted = omega (arith, c.in_ok-phase.ensures.counted_missing (ap Ok c.in_default.is), next);
+      counted = omega (arith, c.in_ok-phase.ensures.counted_missing (ap Ok c.in_default.is), i.counted, next_misses c.places.area c.in-Some-next.next c.in-Some-next.ensures);
       below = next_within c.places.area c.in-Some-next.next c.in-Some-next.ensures;
       same = c.read_at.ensures.same ∙ i.same;
       faults = omega (arith, c.read_at.ensures.faults, i.faults);
@@ -118,3 +119,12 @@ pub returns-in-None-clause-reads : goal.returns-in-None-clause-reads
 returns-in-None-clause-reads g c =
     let i = c.places.invariant in
     record { reads = λ t. asks_more 1 (omega (arith, i.below)) (i.reads t) i.same (reads_area c.args.pod c.places.area c.name-name.result c.name-name.ensures.text (λ is. c.read_at.ensures.once is t) (c.read_at.ensures.extends t)) }
+
+pub returns-in_err-phase-clause-counted : goal.returns-in_err-phase-clause-counted
+returns-in_err-phase-clause-counted g c = omega (arith, c.read_at.ensures.counted, c.places.invariant.counted, misses_most c.places.area)
+
+pub returns-in-Some-clause-counted : goal.returns-in-Some-clause-counted
+returns-in-Some-clause-counted g c = omega (arith, c.read_at.ensures.counted, c.places.invariant.counted, misses_most c.places.area)
+
+pub returns-in-None-clause-counted : goal.returns-in-None-clause-counted
+returns-in-None-clause-counted g c = omega (arith, c.read_at.ensures.counted, c.places.invariant.counted, misses_most c.places.area)

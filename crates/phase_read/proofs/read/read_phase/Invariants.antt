@@ -1,9 +1,9 @@
-use Rattle.std.proofs.Common.{◌≡◌, ◌+◌, ◌*◌, ◌-◌, ◌≤◌, min, true}
+use Rattle.std.proofs.Common.{◌≡◌, ◌+◌, ◌-◌, ◌≤◌, min, true}
 use Rattle.dir_model.specs.Areas.{rank}
 use Rattle.dir_model.specs.Replies.{is_look_at}
 use Rattle.dir_trait.specs.DirCalls.{ExtendsBy}
 use Rattle.dir_trait.specs.Knowledge.{OnlyLooks}
-use Rattle.phase_read.specs.Read.{LeftOut, is_pod_spot, stages_before}
+use Rattle.phase_read.specs.Read.{LeftOut, calls_of_misses, is_pod_spot, stages_before}
 use Rattle.phase_read.specs.Often.{AsksAtMost, begins_read}
 use Rattle.phase_read.proofs.read.read_phase.Given as goal
 
@@ -11,7 +11,7 @@ abbrev pub invariant-places : goal.invariant-places
 invariant-places g l =
     let shown = g.D.Dir.shown in
     record {
-      counted : (shown l.dir).calls + 3 * (min 1 (rank l.area)) ≤ (shown l.fn.dir).calls + 4 * rank l.area;
+      counted : (shown l.dir).calls ≤ (shown l.fn.dir).calls + calls_of_misses (stages_before l.area);
       below : rank l.area ≤ 5;
       same : (shown l.dir).process ≡ (shown l.fn.dir).process;
       faults : (shown l.fn.dir).faults ≤ (shown l.dir).faults;

@@ -5,7 +5,8 @@ use Rattle.dir_model.specs.declared.spot.Spot.{Spot}
 use Rattle.dir_model.specs.Replies.{may_refuse}
 use Rattle.dir_model.proofs.Lists.{and_both}
 use Rattle.pod_build.specs.declared.make_error.MakeError.TheVariants.{Stray}
-use Rattle.pod_build.specs.MakingRequests.{pod_at, is_move_to_prepare}
+use Rattle.dir_model.specs.Spots.{pod_spot}
+use Rattle.pod_build.specs.MakingRequests.{is_move_to_prepare}
 use Rattle.dir_model.specs.declared.request.Request.TheVariants.{MoveFolder}
 use Rattle.dir_model.proofs.Spots.{spot_self}
 use Rattle.dir_trait.proofs.Calls.{with_spots}
@@ -17,13 +18,13 @@ use Rattle.pod_build.proofs.Knowing.{knows_left, knows_unleft}
 use Rattle.pod_build.proofs.embryo.leave_embryo.Goals as goal
 
 pub returns-in-Ok-clause-worked : goal.returns-in-Ok-clause-worked
-returns-in-Ok-clause-worked g c = worked_leave c.args.draw (Ok tt) (with_spots (in_area c.args.draw c.pod_spot-from.ensures c.area_before.ensures) c.pod_spot-to.ensures c.in-Ok.ensures.called)
+returns-in-Ok-clause-worked g c = worked_leave c.args.draw (Ok tt) (with_spots (in_area c.args.draw c.of_pod-from.ensures c.area_before.ensures) c.of_pod-to.ensures c.in-Ok.ensures.called)
 
 pub returns-in-Ok-clause-moved : goal.returns-in-Ok-clause-moved
-returns-in-Ok-clause-moved g c t = knows_left {draw = c.args.draw} t (with_spots (in_area c.args.draw c.pod_spot-from.ensures c.area_before.ensures) c.pod_spot-to.ensures c.in-Ok.ensures.called)
+returns-in-Ok-clause-moved g c t = knows_left {draw = c.args.draw} t (with_spots (in_area c.args.draw c.of_pod-from.ensures c.area_before.ensures) c.of_pod-to.ensures c.in-Ok.ensures.called)
 
 pub returns-in-Err-clause-worked : goal.returns-in-Err-clause-worked
-returns-in-Err-clause-worked g c = worked_leave c.args.draw (Err c.in-Err.error) (with_spots (in_area c.args.draw c.pod_spot-from.ensures c.area_before.ensures) c.pod_spot-to.ensures c.in-Err.ensures.called)
+returns-in-Err-clause-worked g c = worked_leave c.args.draw (Err c.in-Err.error) (with_spots (in_area c.args.draw c.of_pod-from.ensures c.area_before.ensures) c.of_pod-to.ensures c.in-Err.ensures.called)
 
 pub returns-in-Err-clause-cause : goal.returns-in-Err-clause-cause
 returns-in-Err-clause-cause g c =
@@ -33,15 +34,15 @@ returns-in-Err-clause-cause g c =
     (change_cause e (λ is. c.in-Err.ensures.cause (ap Err is)))
 
 pub returns-in-Err-clause-left : goal.returns-in-Err-clause-left
-returns-in-Err-clause-left g c t = knows_unleft {draw = c.args.draw} t c.in-Err.error (with_spots (in_area c.args.draw c.pod_spot-from.ensures c.area_before.ensures) c.pod_spot-to.ensures c.in-Err.ensures.called)
+returns-in-Err-clause-left g c t = knows_unleft {draw = c.args.draw} t c.in-Err.error (with_spots (in_area c.args.draw c.of_pod-from.ensures c.area_before.ensures) c.of_pod-to.ensures c.in-Err.ensures.called)
 
 pub returns-in-Ok-clause-brings : goal.returns-in-Ok-clause-brings
-returns-in-Ok-clause-brings g c t = answered_self (is_move_to_prepare c.args.draw) (and_both _ _ (spot_self (pod_at Embryo c.args.draw)) (spot_self (pod_at Prepare c.args.draw))) ((with_spots (in_area c.args.draw c.pod_spot-from.ensures c.area_before.ensures) c.pod_spot-to.ensures c.in-Ok.ensures.called).step t)
+returns-in-Ok-clause-brings g c t = answered_self (is_move_to_prepare c.args.draw) (and_both _ _ (spot_self (pod_spot c.args.draw Embryo)) (spot_self (pod_spot c.args.draw Prepare))) ((with_spots (in_area c.args.draw c.of_pod-from.ensures c.area_before.ensures) c.of_pod-to.ensures c.in-Ok.ensures.called).step t)
 
 pub returns-in-Err-clause-stray : goal.returns-in-Err-clause-stray
 returns-in-Err-clause-stray g c h t =
     let e = c.in-Err.error in
     let is : c.change_refusal.result ≡ Stray = cc in
-    let may = subst (λ (s : Spot). may_refuse (MoveFolder s c.pod_spot-to.result) e ≡ true) (in_area c.args.draw c.pod_spot-from.ensures c.area_before.ensures) c.in-Err.ensures.refusals in
-    let asks = subst (λ (s : Spot). may_refuse (MoveFolder (pod_at Embryo c.args.draw) s) e ≡ true) c.pod_spot-to.ensures may in
-    shows_call (MoveFolder (pod_at Embryo c.args.draw) (pod_at Prepare c.args.draw)) (Refused e 0) tt (taken_move c.args.draw (pod_at Prepare c.args.draw) e asks (sym c.change_refusal.ensures ∙ is)) ((with_spots (in_area c.args.draw c.pod_spot-from.ensures c.area_before.ensures) c.pod_spot-to.ensures c.in-Err.ensures.called).step t)
+    let may = subst (λ (s : Spot). may_refuse (MoveFolder s c.of_pod-to.result) e ≡ true) (in_area c.args.draw c.of_pod-from.ensures c.area_before.ensures) c.in-Err.ensures.refusals in
+    let asks = subst (λ (s : Spot). may_refuse (MoveFolder (pod_spot c.args.draw Embryo) s) e ≡ true) c.of_pod-to.ensures may in
+    shows_call (MoveFolder (pod_spot c.args.draw Embryo) (pod_spot c.args.draw Prepare)) (Refused e 0) tt (taken_move c.args.draw (pod_spot c.args.draw Prepare) e asks (sym c.change_refusal.ensures ∙ is)) ((with_spots (in_area c.args.draw c.of_pod-from.ensures c.area_before.ensures) c.of_pod-to.ensures c.in-Err.ensures.called).step t)

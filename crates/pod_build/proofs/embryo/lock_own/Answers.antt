@@ -6,7 +6,7 @@ use Rattle.dir_model.specs.Calls.{CallStep}
 use Rattle.dir_model.specs.Replies.{may_refuse}
 use Rattle.dir_model.proofs.Chains.{nothing_yet, and_call}
 use Rattle.pod_build.specs.declared.make_error.MakeError.TheVariants.{Stray}
-use Rattle.pod_build.specs.MakingRequests.{pod_at}
+use Rattle.dir_model.specs.Spots.{pod_spot}
 use Rattle.dir_model.specs.declared.opening.Target.TheVariants.{Own}
 use Rattle.dir_model.specs.declared.request.Request.TheVariants.{Open, TryLock}
 use Rattle.dir_model.specs.declared.spot.Mode.TheVariants.{Exclusive}
@@ -26,20 +26,20 @@ use Rattle.pod_build.proofs.embryo.lock_own.Goals as goal
 pub try_lock-requires-clause-unlocked : goal.try_lock-requires-clause-unlocked
 try_lock-requires-clause-unlocked g c =
     let before = (g.D.Dir.shown c.args.dir.now).local in
-    let unlocked = unlocked_new before c.in-Ok.own (Own c.pod_spot-spot.result) c.in-Ok.ensures.unopened in
+    let unlocked = unlocked_new before c.in-Ok.own (Own c.of_pod-spot.result) c.in-Ok.ensures.unopened in
     subst (λ (m : Local). IsUnlocked m c.in-Ok.own) (sym c.in-Ok.ensures.called.local) unlocked
 
 pub returns-in-Ok-try_lock-clause-went : goal.returns-in-Ok-try_lock-clause-went
 returns-in-Ok-try_lock-clause-went g c =
-    went_locked c.args.draw c.in-Ok.own c.in-Ok.ensures.unopened (with_spot (λ s. Open s which.Own) c.pod_spot-spot.ensures c.in-Ok.ensures.called) c.in-Ok-try_lock.ensures.called
+    went_locked c.args.draw c.in-Ok.own c.in-Ok.ensures.unopened (with_spot (λ s. Open s which.Own) c.of_pod-spot.ensures c.in-Ok.ensures.called) c.in-Ok-try_lock.ensures.called
 
 pub returns-in-Ok-try_lock-clause-held : goal.returns-in-Ok-try_lock-clause-held
 returns-in-Ok-try_lock-clause-held g c t =
-    knows_locked {draw = c.args.draw} t c.in-Ok.ensures.unopened (with_spot (λ s. Open s which.Own) c.pod_spot-spot.ensures c.in-Ok.ensures.called) c.in-Ok-try_lock.ensures.called
+    knows_locked {draw = c.args.draw} t c.in-Ok.ensures.unopened (with_spot (λ s. Open s which.Own) c.of_pod-spot.ensures c.in-Ok.ensures.called) c.in-Ok-try_lock.ensures.called
 
 pub returns-in-Err-try_lock-clause-went : goal.returns-in-Err-try_lock-clause-went
 returns-in-Err-try_lock-clause-went g c =
-    went_unlocked c.args.draw c.in-Ok.own c.in-Err-try_lock.error c.in-Ok.ensures.unopened (with_spot (λ s. Open s which.Own) c.pod_spot-spot.ensures c.in-Ok.ensures.called) c.in-Err-try_lock.ensures.called c.close.ensures.called
+    went_unlocked c.args.draw c.in-Ok.own c.in-Err-try_lock.error c.in-Ok.ensures.unopened (with_spot (λ s. Open s which.Own) c.of_pod-spot.ensures c.in-Ok.ensures.called) c.in-Err-try_lock.ensures.called c.close.ensures.called
 
 pub returns-in-Err-try_lock-clause-cause : goal.returns-in-Err-try_lock-clause-cause
 returns-in-Err-try_lock-clause-cause g c =
@@ -54,10 +54,10 @@ returns-in-Err-try_lock-clause-cause g c =
 
 pub returns-in-Err-try_lock-clause-left : goal.returns-in-Err-try_lock-clause-left
 returns-in-Err-try_lock-clause-left g c t =
-    knows_unlocked {draw = c.args.draw} c.in-Err-try_lock.error t c.in-Ok.ensures.unopened (with_spot (λ s. Open s which.Own) c.pod_spot-spot.ensures c.in-Ok.ensures.called) c.in-Err-try_lock.ensures.called c.close.ensures.called
+    knows_unlocked {draw = c.args.draw} c.in-Err-try_lock.error t c.in-Ok.ensures.unopened (with_spot (λ s. Open s which.Own) c.of_pod-spot.ensures c.in-Ok.ensures.called) c.in-Err-try_lock.ensures.called c.close.ensures.called
 
 pub returns-in-Err-clause-went : goal.returns-in-Err-clause-went
-returns-in-Err-clause-went g c = went_unopened c.args.draw c.in-Err.error (with_spot (λ s. Open s which.Own) c.pod_spot-spot.ensures c.in-Err.ensures.called)
+returns-in-Err-clause-went g c = went_unopened c.args.draw c.in-Err.error (with_spot (λ s. Open s which.Own) c.of_pod-spot.ensures c.in-Err.ensures.called)
 
 pub returns-in-Err-clause-cause : goal.returns-in-Err-clause-cause
 returns-in-Err-clause-cause g c =
@@ -67,24 +67,24 @@ returns-in-Err-clause-cause g c =
     (change_cause e (λ is. c.in-Err.ensures.cause (ap Err is)))
 
 pub returns-in-Err-clause-left : goal.returns-in-Err-clause-left
-returns-in-Err-clause-left g c t = knows_unopened {draw = c.args.draw} c.in-Err.error t (with_spot (λ s. Open s which.Own) c.pod_spot-spot.ensures c.in-Err.ensures.called)
+returns-in-Err-clause-left g c t = knows_unopened {draw = c.args.draw} c.in-Err.error t (with_spot (λ s. Open s which.Own) c.of_pod-spot.ensures c.in-Err.ensures.called)
 
 pub returns-in-Ok-try_lock-clause-locks : goal.returns-in-Ok-try_lock-clause-locks
 returns-in-Ok-try_lock-clause-locks g c t =
-    let opens = with_spot (λ s. Open s which.Own) c.pod_spot-spot.ensures c.in-Ok.ensures.called in
-    and_call (and_call nothing_yet refl (spot_self (pod_at Embryo c.args.draw)) (opens.step t)) opens.same refl (c.in-Ok-try_lock.ensures.called.step t)
+    let opens = with_spot (λ s. Open s which.Own) c.of_pod-spot.ensures c.in-Ok.ensures.called in
+    and_call (and_call nothing_yet refl (spot_self (pod_spot c.args.draw Embryo)) (opens.step t)) opens.same refl (c.in-Ok-try_lock.ensures.called.step t)
 
 pub returns-in-Err-try_lock-clause-stray : goal.returns-in-Err-try_lock-clause-stray
 returns-in-Err-try_lock-clause-stray g c h t =
     let e = c.in-Err-try_lock.error in
     let is : c.change_refusal.result ≡ Stray = cc in
-    let opens = with_spot (λ s. Open s which.Own) c.pod_spot-spot.ensures c.in-Ok.ensures.called in
+    let opens = with_spot (λ s. Open s which.Own) c.of_pod-spot.ensures c.in-Ok.ensures.called in
     let asks = c.in-Err-try_lock.ensures in
     let D = g.D.Dir in
     let old = D.shown c.args.dir.now in
     let mid = D.shown c.«open».new.self in
-    let lock : WasOpenedThere c.args.draw mid.process mid.trace (TryLock c.in-Ok.own Exclusive) = (old.trace, subst (λ (p : ℕ). CallStep p old.trace (Open (pod_at Embryo c.args.draw) which.Own) (Opened c.in-Ok.own) mid.trace) (sym opens.same) (opens.step t)) in
-    taken_before (taken_after (and_call nothing_yet refl (spot_self (pod_at Embryo c.args.draw)) (opens.step t)) opens.same
+    let lock : WasOpenedThere c.args.draw mid.process mid.trace (TryLock c.in-Ok.own Exclusive) = (old.trace, subst (λ (p : ℕ). CallStep p old.trace (Open (pod_spot c.args.draw Embryo) which.Own) (Opened c.in-Ok.own) mid.trace) (sym opens.same) (opens.step t)) in
+    taken_before (taken_after (and_call nothing_yet refl (spot_self (pod_spot c.args.draw Embryo)) (opens.step t)) opens.same
     (shows_call (TryLock c.in-Ok.own _) (Refused e 0) lock (taken_lock c.args.draw c.in-Ok.own e asks.refusals (sym c.change_refusal.ensures ∙ is)) (asks.called.step t)))
     ((follows_close c.close.ensures.faultless c.close.ensures.called).extends t)
 
@@ -92,6 +92,6 @@ pub returns-in-Err-clause-stray : goal.returns-in-Err-clause-stray
 returns-in-Err-clause-stray g c h t =
     let e = c.in-Err.error in
     let is : c.change_refusal-in-Err.result ≡ Stray = cc in
-    shows_call (Open (pod_at Embryo c.args.draw) which.Own) (Refused e 0) tt
-    (taken_open c.args.draw e (subst (λ (s : Spot). may_refuse (Open s which.Own) e ≡ true) c.pod_spot-spot.ensures c.in-Err.ensures.refusals) (sym c.change_refusal-in-Err.ensures ∙ is))
-    ((with_spot (λ s. Open s which.Own) c.pod_spot-spot.ensures c.in-Err.ensures.called).step t)
+    shows_call (Open (pod_spot c.args.draw Embryo) which.Own) (Refused e 0) tt
+    (taken_open c.args.draw e (subst (λ (s : Spot). may_refuse (Open s which.Own) e ≡ true) c.of_pod-spot.ensures c.in-Err.ensures.refusals) (sym c.change_refusal-in-Err.ensures ∙ is))
+    ((with_spot (λ s. Open s which.Own) c.of_pod-spot.ensures c.in-Err.ensures.called).step t)

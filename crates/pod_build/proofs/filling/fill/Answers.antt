@@ -14,18 +14,18 @@ use Rattle.dir_trait.specs.Effects.{OnlyAsks}
 pub returns-in-Ok-clause-worked : goal.returns-in-Ok-clause-worked
 returns-in-Ok-clause-worked g c =
     let D = g.D.Dir in
-    subst (λ (s : Spot). OnlyAsks D.observed (either (builds_at s) reads_image_files) (D.shown c.args.dir.now) (D.shown c.carry_out.new.dir)) c.pod_spot-spot.ensures c.carry_out.ensures.worked
+    subst (λ (s : Spot). OnlyAsks D.observed (either (builds_at s) reads_image_files) (D.shown c.args.dir.now) (D.shown c.carry_out.new.dir)) c.of_pod-spot.ensures c.carry_out.ensures.worked
 
 pub returns-in-Err-clause-worked : goal.returns-in-Err-clause-worked
 returns-in-Err-clause-worked g c =
     let D = g.D.Dir in
-    subst (λ (s : Spot). OnlyAsks D.observed (either (builds_at s) reads_image_files) (D.shown c.args.dir.now) (D.shown c.carry_out.new.dir)) c.pod_spot-spot.ensures c.carry_out.ensures.worked
+    subst (λ (s : Spot). OnlyAsks D.observed (either (builds_at s) reads_image_files) (D.shown c.args.dir.now) (D.shown c.carry_out.new.dir)) c.of_pod-spot.ensures c.carry_out.ensures.worked
 
 pub returns-in-Ok-clause-filled : goal.returns-in-Ok-clause-filled
-returns-in-Ok-clause-filled g c t to intent hs may owns k = has_filled c.args.draw to c.args.plan.now _ intent hs may owns c.pod_spot-spot.ensures t k c.in-Ok.ensures.done refl
+returns-in-Ok-clause-filled g c t to intent hs may owns k = has_filled c.args.draw to c.args.plan.now _ intent hs may owns c.of_pod-spot.ensures t k c.in-Ok.ensures.done refl
 
 pub returns-in-Err-clause-left : goal.returns-in-Err-clause-left
-returns-in-Err-clause-left g c t to intent hs may owns k = has_begun c.args.draw to c.args.plan.now _ intent hs may owns c.pod_spot-spot.ensures k (c.in-Err.ensures.refused t) refl
+returns-in-Err-clause-left g c t to intent hs may owns k = has_begun c.args.draw to c.args.plan.now _ intent hs may owns c.of_pod-spot.ensures k (c.in-Err.ensures.refused t) refl
 
 pub returns-in-Err-clause-cause : goal.returns-in-Err-clause-cause
 returns-in-Err-clause-cause g c =
@@ -38,13 +38,13 @@ pub returns-in-Err-clause-stray : goal.returns-in-Err-clause-stray
 returns-in-Err-clause-stray g c h t =
     let D = g.D.Dir in
     let is : c.build_refusal.result ≡ Stray = cc in
-    pod_changed c.args.draw c.pod_spot-spot.result (D.shown c.args.dir.now) (D.shown c.carry_out.new.dir) c.pod_spot-spot.ensures (c.in-Err.ensures.stray (ap Err (build_stray c.in-Err.error (sym c.build_refusal.ensures ∙ is))) t)
+    pod_changed c.args.draw c.of_pod-spot.result (D.shown c.args.dir.now) (D.shown c.carry_out.new.dir) c.of_pod-spot.ensures (c.in-Err.ensures.stray (ap Err (build_stray c.in-Err.error (sym c.build_refusal.ensures ∙ is))) t)
 
 pub returns-in-Ok-clause-had : goal.returns-in-Ok-clause-had
 returns-in-Ok-clause-had g c = c.in-Ok.ensures.had
 
 pub returns-in-Ok-clause-trees : goal.returns-in-Ok-clause-trees
-returns-in-Ok-clause-trees g c free = filled_unread c.pod_spot-spot.result c.args.plan.now free c.carry_out.ensures.copies
+returns-in-Ok-clause-trees g c free = filled_unread c.of_pod-spot.result c.args.plan.now free c.carry_out.ensures.copies
 
 pub returns-in-Err-clause-trees : goal.returns-in-Err-clause-trees
-returns-in-Err-clause-trees g c free = filled_unread c.pod_spot-spot.result c.args.plan.now free c.carry_out.ensures.copies
+returns-in-Err-clause-trees g c free = filled_unread c.of_pod-spot.result c.args.plan.now free c.carry_out.ensures.copies

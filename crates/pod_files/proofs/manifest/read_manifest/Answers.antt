@@ -2,13 +2,13 @@ use Rattle.std.proofs.Common.{◌≡◌, inl, true}
 use Rattle.plain_laws.proofs.Results.{if_ok, if_err}
 use Rattle.dir_laws.proofs.Names.{manifest_form}
 use Rattle.manifests.specs.PodData.{pod_data}
-use Rattle.image_reading.specs.Files.{most_of_manifest}
 use Rattle.pod_files.specs.Places.{pod_file, pod_manifest_name}
 use Rattle.pod_files.specs.Files.{IsManifestOf, IsNoManifest, ReadsPodManifest, ReadsNoPodManifest}
 use Rattle.pod_files.specs.Lacks.{IsFileLack}
 use Rattle.pod_files.proofs.Reading.{taken_so, not_taken}
 use Rattle.pod_files.proofs.Lacking.{lack_why}
 use Rattle.pod_files.proofs.manifest.read_manifest.Goals as goal
+use Rattle.manifests.specs.ManifestSize.{most_of_manifest}
 
 pub read_part-requires-clause-path : goal.read_part-requires-clause-path
 read_part-requires-clause-path g c = manifest_form

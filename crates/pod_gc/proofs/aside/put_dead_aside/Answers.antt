@@ -10,7 +10,7 @@ use Rattle.dir_model.specs.declared.request.Reply.TheVariants.{Done}
 use Rattle.dir_trait.specs.DirCalls.{ExtendsBy, LockToldBetween}
 use Rattle.dir_trait.specs.Effects.{OnlyAsks, Given}
 use Rattle.folder_building.proofs.Working.{worked_more, worked_wider}
-use Rattle.phase_read.specs.Read.{pod_spot}
+use Rattle.dir_model.specs.Spots.{pod_spot}
 use Rattle.pod_locks.proofs.Times.{deeds_part}
 use Rattle.pod_locks.proofs.Traces.{grown_none, grown_more}
 use Rattle.pod_locks.proofs.Within.{told_within}

@@ -13,7 +13,7 @@ use Rattle.dir_model.specs.declared.request.Reply.TheVariants.{Done}
 use Rattle.dir_model.specs.declared.request.Request.TheVariants.{MoveFolder}
 use Rattle.dir_trait.specs.DirCalls.{ExtendsBy}
 use Rattle.dir_trait.specs.Effects.{Given}
-use Rattle.phase_read.specs.Read.{pod_spot}
+use Rattle.dir_model.specs.Spots.{pod_spot}
 use Rattle.pod_locks.specs.declared.setback.Setback.TheVariants as stop
 use Rattle.pod_locks.specs.Causes.{StepWasStopped, IsAbsentAt, LockBusyElsewhere, Did, FreeIfObserved}
 use Rattle.pod_locks.specs.Taking.{TakesNothing}

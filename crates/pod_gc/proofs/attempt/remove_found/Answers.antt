@@ -5,7 +5,7 @@ use Rattle.dir_model.specs.declared.spot.Mode.TheVariants.{Exclusive}
 use Rattle.dir_model.specs.declared.request.Request.TheVariants.{RemoveFolder}
 use Rattle.dir_model.specs.declared.request.Reply.TheVariants.{Done}
 use Rattle.folder_building.proofs.Working.{worked_more}
-use Rattle.phase_read.specs.Read.{pod_spot}
+use Rattle.dir_model.specs.Spots.{pod_spot}
 use Rattle.pod_locks.proofs.Traces.{grown_none}
 use Rattle.pod_locks.specs.Causes.{StepWasStopped, IsAbsentAt, LockBusyElsewhere, FreeIfObserved, Did}
 use Rattle.pod_locks.proofs.Calls.{follows_none, follows_work}

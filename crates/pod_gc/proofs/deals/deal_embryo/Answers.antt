@@ -7,7 +7,7 @@ use Rattle.dir_model.specs.declared.request.Request.TheVariants.{MoveFolder}
 use Rattle.dir_model.specs.declared.request.Reply.TheVariants.{Done}
 use Rattle.dir_model.proofs.Chains.{extends_wider}
 use Rattle.dir_trait.specs.DirCalls.{ExtendsBy}
-use Rattle.phase_read.specs.Read.{pod_spot}
+use Rattle.dir_model.specs.Spots.{pod_spot}
 use Rattle.pod_locks.specs.Causes.{StepWasStopped, IsAbsentAt, Did}
 use Rattle.pod_gc.specs.declared.gc_error.GcError.{GcError}
 use Rattle.pod_gc.specs.declared.line.Deed.{Deed}

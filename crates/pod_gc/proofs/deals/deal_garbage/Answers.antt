@@ -8,7 +8,7 @@ use Rattle.dir_model.specs.declared.request.Reply.TheVariants.{Done}
 use Rattle.dir_trait.specs.DirCalls.{ExtendsBy}
 use Rattle.dir_trait.specs.Effects.{Given}
 use Rattle.folder_building.proofs.Working.{worked_wider}
-use Rattle.phase_read.specs.Read.{pod_spot}
+use Rattle.dir_model.specs.Spots.{pod_spot}
 use Rattle.pod_locks.specs.Causes.{StepWasStopped, IsAbsentAt, LockBusyElsewhere, Did, FreeIfObserved}
 use Rattle.pod_gc.specs.RemovalHolding.{MayRemove}
 use Rattle.dir_model.specs.declared.spot.Which.TheVariants.{Own}

@@ -6,7 +6,7 @@ use Rattle.dir_model.specs.State.{stands}
 use Rattle.dir_trait.specs.DirCalls.{HeldBetween}
 use Rattle.dir_trait.specs.Effects.{Given}
 use Rattle.folder_building.proofs.Working.{worked_more, worked_wider}
-use Rattle.phase_read.specs.Read.{pod_spot}
+use Rattle.dir_model.specs.Spots.{pod_spot}
 use Rattle.pod_locks.proofs.Calls.{follows_work}
 use Rattle.pod_gc.specs.RemovalHolding.{MayRemove}
 use Rattle.pod_gc.specs.declared.line.Deed.TheVariants.{Kept}

@@ -7,7 +7,7 @@ use Rattle.dir_model.specs.declared.area.Phase.TheVariants as phase
 use Rattle.dir_model.specs.declared.request.Request.TheVariants.{MoveFolder}
 use Rattle.dir_model.specs.declared.request.Reply.TheVariants.{Done}
 use Rattle.folder_building.proofs.Working.{worked_none}
-use Rattle.phase_read.specs.Read.{pod_spot}
+use Rattle.dir_model.specs.Spots.{pod_spot}
 use Rattle.pod_locks.specs.Causes.{Did, FreeIfObserved}
 use Rattle.pod_locks.specs.Taking.{TakesNothing}
 use Rattle.pod_gc.specs.RemovalCauses.{StoppedAlone, BusyInPrepared, MissedUntaken}

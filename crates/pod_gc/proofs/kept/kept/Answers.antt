@@ -7,23 +7,23 @@ use Rattle.pod_gc.proofs.Lawful.{look_never}
 use Rattle.pod_gc.proofs.kept.kept.Goals as goal
 
 pub returns-in-Ok-true-clause-worked : goal.returns-in-Ok-true-clause-worked
-returns-in-Ok-true-clause-worked g c = let l = c.look.ensures in worked_look c.args.pod c.args.area (g.D.Dir.shown c.args.dir.now) (g.D.Dir.shown c.look.new.dir) c.pod_spot.ensures l.same l.faults l.local l.extends
+returns-in-Ok-true-clause-worked g c = let l = c.look.ensures in worked_look c.args.pod c.args.area (g.D.Dir.shown c.args.dir.now) (g.D.Dir.shown c.look.new.dir) c.of_pod.ensures l.same l.faults l.local l.extends
 
 pub returns-in-Ok-false-clause-worked : goal.returns-in-Ok-false-clause-worked
-returns-in-Ok-false-clause-worked g c = let l = c.look.ensures in worked_look c.args.pod c.args.area (g.D.Dir.shown c.args.dir.now) (g.D.Dir.shown c.look.new.dir) c.pod_spot.ensures l.same l.faults l.local l.extends
+returns-in-Ok-false-clause-worked g c = let l = c.look.ensures in worked_look c.args.pod c.args.area (g.D.Dir.shown c.args.dir.now) (g.D.Dir.shown c.look.new.dir) c.of_pod.ensures l.same l.faults l.local l.extends
 
 pub returns-in-Err-clause-worked : goal.returns-in-Err-clause-worked
-returns-in-Err-clause-worked g c = let l = c.look.ensures in worked_look c.args.pod c.args.area (g.D.Dir.shown c.args.dir.now) (g.D.Dir.shown c.look.new.dir) c.pod_spot.ensures l.same l.faults l.local l.extends
+returns-in-Err-clause-worked g c = let l = c.look.ensures in worked_look c.args.pod c.args.area (g.D.Dir.shown c.args.dir.now) (g.D.Dir.shown c.look.new.dir) c.of_pod.ensures l.same l.faults l.local l.extends
 
 pub returns-in-Ok-true-clause-said : goal.returns-in-Ok-true-clause-said
 returns-in-Ok-true-clause-said g c =
     let e = rw c.in-Ok-true.field-0-test at c.in-Ok-true.ensures in
-    says_there c.args.pod c.args.area c.args.phase (g.D.Dir.shown c.args.dir.now) (g.D.Dir.shown c.look.new.dir) c.pod_spot.ensures e.there
+    says_there c.args.pod c.args.area c.args.phase (g.D.Dir.shown c.args.dir.now) (g.D.Dir.shown c.look.new.dir) c.of_pod.ensures e.there
 
 pub returns-in-Ok-false-clause-said : goal.returns-in-Ok-false-clause-said
 returns-in-Ok-false-clause-said g c =
     let e = rw c.in-Ok-false.field-0-test at c.in-Ok-false.ensures in
-    says_gone c.args.pod c.args.area c.args.phase (g.D.Dir.shown c.args.dir.now) (g.D.Dir.shown c.look.new.dir) c.pod_spot.ensures e.there
+    says_gone c.args.pod c.args.area c.args.phase (g.D.Dir.shown c.args.dir.now) (g.D.Dir.shown c.look.new.dir) c.of_pod.ensures e.there
 
 pub returns-in-Err-clause-cause : goal.returns-in-Err-clause-cause
 returns-in-Err-clause-cause g c =
@@ -32,13 +32,13 @@ returns-in-Err-clause-cause g c =
     (look_cause c.in-Err.error (λ is. c.look.ensures.cause (c.in-Err.is ∙ ap Err is)))
 
 pub returns-in-Ok-true-clause-peeks : goal.returns-in-Ok-true-clause-peeks
-returns-in-Ok-true-clause-peeks g c = peeks_here c.args.pod c.args.area (g.D.Dir.shown c.args.dir.now) (g.D.Dir.shown c.look.new.dir) c.pod_spot.ensures c.look.ensures.extends
+returns-in-Ok-true-clause-peeks g c = peeks_here c.args.pod c.args.area (g.D.Dir.shown c.args.dir.now) (g.D.Dir.shown c.look.new.dir) c.of_pod.ensures c.look.ensures.extends
 
 pub returns-in-Ok-false-clause-peeks : goal.returns-in-Ok-false-clause-peeks
-returns-in-Ok-false-clause-peeks g c = peeks_here c.args.pod c.args.area (g.D.Dir.shown c.args.dir.now) (g.D.Dir.shown c.look.new.dir) c.pod_spot.ensures c.look.ensures.extends
+returns-in-Ok-false-clause-peeks g c = peeks_here c.args.pod c.args.area (g.D.Dir.shown c.args.dir.now) (g.D.Dir.shown c.look.new.dir) c.of_pod.ensures c.look.ensures.extends
 
 pub returns-in-Err-clause-peeks : goal.returns-in-Err-clause-peeks
-returns-in-Err-clause-peeks g c = peeks_here c.args.pod c.args.area (g.D.Dir.shown c.args.dir.now) (g.D.Dir.shown c.look.new.dir) c.pod_spot.ensures c.look.ensures.extends
+returns-in-Err-clause-peeks g c = peeks_here c.args.pod c.args.area (g.D.Dir.shown c.args.dir.now) (g.D.Dir.shown c.look.new.dir) c.of_pod.ensures c.look.ensures.extends
 
 pub returns-in-Err-clause-never : goal.returns-in-Err-clause-never
 returns-in-Err-clause-never g c is = look_never c.in-Err.error (sym c.look_fault.ensures ∙ is)

@@ -8,7 +8,7 @@ use Rattle.dir_model.specs.declared.request.Reply.TheVariants.{Done}
 use Rattle.dir_model.specs.Local.{Local}
 use Rattle.dir_trait.specs.DirCalls.{ExtendsBy, LockToldBetween}
 use Rattle.dir_trait.specs.Effects.{LeavesOpen, Given}
-use Rattle.phase_read.specs.Read.{pod_spot}
+use Rattle.dir_model.specs.Spots.{pod_spot}
 use Rattle.pod_locks.proofs.Times.{deeds_part}
 use Rattle.pod_locks.specs.Requests.{looks_at}
 use Rattle.pod_locks.specs.Holding.{and_taken}

@@ -1,6 +1,5 @@
 use Rattle.std.proofs.Common.{◌≡◌, inl, true, refl}
 use Rattle.plain_laws.proofs.Results.{if_ok, if_err}
-use Rattle.image_reading.specs.Files.{most_of_tree}
 use Rattle.stage1.specs.AppPlaces.{tree_path, told_path}
 use Rattle.stage1.specs.AppFiles.{IsAppRootOf, IsNoListing, ReadsRoot, LacksRootListing}
 use Rattle.stage1.specs.LoadRefusals.{IsDamageFor}
@@ -9,6 +8,7 @@ use Rattle.pod_files.proofs.Reading.{taken_so, not_taken}
 use Rattle.pod_files.specs.Places.{pod_file}
 use Rattle.stage1.proofs.Lacking.{damage_why, damage_for, damage_outside}
 use Rattle.stage1.proofs.root.root_at.Goals as goal
+use Rattle.tree_digest.specs.ListingSize.{most_of_tree}
 
 pub read_part-requires-clause-path : goal.read_part-requires-clause-path
 read_part-requires-clause-path g c = rw c.requires.path (tree_form c.args.app.now c.as_str-name.ensures.kind)
