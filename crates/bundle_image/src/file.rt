@@ -9,7 +9,7 @@ use dir_trait::{Bundle, BundleError};
 use std::alloc::{AllocError, Global};
 
 // How much one read asks for at most.
-const PIECE: usize = 65_536;
+pub(crate) const PIECE: usize = 65_536;
 
 fn out_of_memory(_error: AllocError) -> BundleError
     ensures { result ≡ BundleError.NoMemory }

@@ -5,14 +5,12 @@ ghost use Rattle.dir_trait.specs.Bundles.{bytes_of_node};
 ghost use Rattle.bundle_image.specs.FileSums.{HashingHasTaken, TakesBytes, IsSumOf};
 ghost use Rattle.bundle_image.specs.Reads.{ReadsWithin};
 
+use crate::file::PIECE;
 use crate::refusal::no_memory;
 use dir_trait::{Bundle, BundleError};
 use sha2::{Digest, Sha512};
 use std::alloc::Global;
 use tree_digest::refusals::MAX_FILE;
-
-// How much one read asks for at most.
-const PIECE: usize = 65_536;
 
 /// The size of a file and the SHA-512 of its bytes.
 #[derive(Drop)]
