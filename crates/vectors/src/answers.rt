@@ -12,6 +12,7 @@ use crate::names::{
 };
 use crate::parts::{image_parts_answer, pod_parts_answer};
 use crate::paths::{below_answer, listed_answer, parent_answer, path_answer};
+use crate::phases::phase_answer;
 use crate::sections::{json_answer, section_answer, written_section_answer};
 use crate::sequences::{no_memory_answer, numbers_answer};
 use crate::wide::wide_answer;
@@ -71,6 +72,7 @@ fn words_answer(page: &mut Page, call: &str, words: &[String]) {
         "map-listing" => map_listing_answer(page, words),
         "line" => line_answer(page, words),
         "image-digest" => image_digest_answer(page, words),
+        "phase" => phase_answer(page, words),
         "file-check" => file_check_answer(page, words),
         "bundle" => bundle_answer(page, words, Told::Listing),
         "bundle-parts" => bundle_answer(page, words, Told::Parts),

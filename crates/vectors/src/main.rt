@@ -12,6 +12,7 @@ mod maps;
 mod names;
 mod parts;
 mod paths;
+mod phases;
 mod sections;
 mod sequences;
 mod wide;
