@@ -122,7 +122,7 @@ mounted.
   --mount=MOUNT    where each app has that volume
   VOLUME           NAME,kind=host,source=PLACE, that with ,readOnly=true behind
                    it, or NAME,kind=empty; PLACE is an absolute path that has no
-                   .. in it
+                   .. and no comma in it
   MOUNT            volume=NAME,target=PLACE
 
 exit status: 0 done, 1 usage, 5 busy, 6 bad manifest,
@@ -166,7 +166,7 @@ have ended it prints the pod's uuid and a line app-NAME=STATUS for each.
                       127.0.0.1:18112 where it isn't given
   VOLUME              NAME,kind=host,source=PLACE, that with ,readOnly=true
                       behind it, or NAME,kind=empty; PLACE is an absolute path
-                      that has no .. in it
+                      that has no .. and no comma in it
   MOUNT               volume=NAME,target=PLACE
   ADDRESS             1 to 255 printable characters of ASCII, but no space and
                       no /
