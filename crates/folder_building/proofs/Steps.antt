@@ -35,7 +35,7 @@ not_run s spot _ h = cc
 
 here_same : (s : Seen) (m new : Making) (spot : Spot) (area : Area) → new.spot ≡ m.spot → makes_here (with_making s new) spot area ≡ makes_here (with_making s m) spot area
 here_same s m new spot Prepare e = ap (λ (x : Spot). (spot_eq x spot && is_making_area spot.area) && holds_own spot.name s.standing) e
-here_same s m new spot Incoming e = ap (λ (x : Spot). (spot_eq x spot && is_making_area spot.area) && s.stored) e
+here_same s m new spot Incoming e = ap (λ (x : Spot). (spot_eq x spot && is_making_area spot.area) && s.image_under_lock) e
 here_same s m new spot _ e = refl
 
 -- a change in the folder keeps its place

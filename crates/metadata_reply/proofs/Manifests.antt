@@ -1,8 +1,8 @@
 -- The manifests of the images of a pod.
-use Rattle.std.proofs.Common.{◌≡◌, ℕ, ◌+◌, ◌<◌, Bool, IsTrue, List, [], ◌∷◌, ◌++◌, length, map, take, get_or, Result, Ok, Err, IfOk, sym, ap, subst, ◌∙◌}
+use Rattle.std.proofs.Common.{◌≡◌, ◌≢◌, ℕ, ◌+◌, ◌<◌, Bool, IsTrue, List, [], ◌∷◌, ◌++◌, length, map, take, get_or, Result, Ok, Err, IfOk, sym, ap, subst, ◌∙◌}
 use Rattle.std.specs.List.{All}
-use Rattle.std.proofs.lemmas.List.{take_more, map-append, length-map}
-use Rattle.std.proofs.lemmas.List.Elements.{All-push}
+use Rattle.std.proofs.lemmas.List.{take_more, map-append, length-map, get_or-map}
+use Rattle.std.proofs.lemmas.List.Elements.{All-push, All-get_or}
 use Rattle.manifests.specs.PodData.{runtime_app_data}
 use Rattle.metadata_reply.specs.declared.view.ImageBytes.{ImageBytes}
 use Rattle.metadata_reply.specs.declared.view.PodView.{PodView}
@@ -28,3 +28,15 @@ whole_when_read (Ok read) v images are paired h = λ yes.
       paired = length-map v.images image_bytes ∙ (sizes ∙ sym (length-map v.manifest.apps runtime_app_data));
       readable = subst AllRead are (h yes);
     }
+
+-- where all were read, so was this one
+pub one_of_all : (images : List ImageBytes) (i : ℕ) (image : ImageBytes) → i < length images → image ≡ get_or images i image → AllRead images → HasReading image.bytes
+one_of_all images i image within is all =
+    let inside : i < length (map image_bytes images) = subst (λ (n : ℕ). i < n) (sym (length-map images image_bytes)) within in
+    subst HasReading (get_or-map image_bytes images i image image.bytes within ∙ ap image_bytes (sym is))
+    (All-get_or HasReading (map image_bytes images) i image.bytes inside all)
+
+-- a view that isn't whole: it has more or fewer images than apps
+pub other_count : (v : PodView) (images : List ImageBytes) → images ≡ v.images → length images ≢ length v.manifest.apps → IsWholeView (view_data v) → ⊥
+other_count v images are other whole =
+    other (ap (λ (xs : List ImageBytes). length xs) are ∙ (sym (length-map v.images image_bytes) ∙ (whole.paired ∙ length-map v.manifest.apps runtime_app_data)))

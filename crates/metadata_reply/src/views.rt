@@ -1,5 +1,5 @@
 // Views of pods: how they are made of what was read, and tested.
-ghost use Rattle.std.specs.Prelude.{◌≡◌, map, All, IfOk, IsTrue};
+ghost use Rattle.std.specs.Prelude.{◌≡◌, map, All, IfOk, IsTrue, Ok, false};
 ghost use Rattle.manifests.specs.ManifestRules.{IsPodManifest};
 ghost use Rattle.manifests.specs.PodData.{pod_data};
 ghost use Rattle.metadata_reply.specs.Views.{image_bytes, view_data, HasReading, IsWholeView};
@@ -12,7 +12,8 @@ use std::alloc::Global;
 
 /// Whether the bytes are an image manifest. `NoMemory` where memory ran out.
 fn has_reading(alloc: Global, bytes: &[u8]) -> Result<bool, NoMemory>
-    ensures { IfOk result (λ read. IsTrue read → HasReading bytes.now) }
+    ensures read { IfOk result (λ read. IsTrue read → HasReading bytes.now) }
+    ensures unread { result ≡ Ok false → HasReading bytes.now → ⊥ }
 {
     match read_image(alloc, bytes) {
         Ok(_) => Ok(true),
@@ -23,7 +24,8 @@ fn has_reading(alloc: Global, bytes: &[u8]) -> Result<bool, NoMemory>
 
 /// Whether each of these is one. `NoMemory` where memory ran out.
 fn all_have_readings(alloc: Global, images: &[ImageBytes]) -> Result<bool, NoMemory>
-    ensures { IfOk result (λ read. IsTrue read → All HasReading (map image_bytes images.now)) }
+    ensures read { IfOk result (λ read. IsTrue read → All HasReading (map image_bytes images.now)) }
+    ensures unread { result ≡ Ok false → All HasReading (map image_bytes images.now) → ⊥ }
 {
     'images: for image in images {
         if !has_reading(alloc, image.bytes.as_slice())? {
@@ -49,7 +51,8 @@ impl PodView {
     /// Whether there is an image for each app, each with a manifest that may be read. `NoMemory` where
     /// memory ran out.
     pub fn is_whole(&self, alloc: Global) -> Result<bool, NoMemory>
-        ensures { IfOk result (λ whole. IsTrue whole → IsWholeView (view_data self.now)) }
+        ensures whole { IfOk result (λ whole. IsTrue whole → IsWholeView (view_data self.now)) }
+        ensures lacking { result ≡ Ok false → IsWholeView (view_data self.now) → ⊥ }
     {
         let images = self.images.as_slice();
         if images.len() != self.manifest.apps.as_slice().len() {
