@@ -1,5 +1,6 @@
 // Which call a line makes.
 use crate::bundles::{Told, bundle_answer, failing_answers};
+use crate::command_lines::is_command_line;
 use crate::documents::{document_answer, image_answer, pod_answer};
 use crate::fields::field_answer;
 use crate::listings::{
@@ -84,6 +85,9 @@ fn words_answer(page: &mut Page, call: &str, words: &[String]) {
 
 /// What the call of a line answers. Refused where the line says something that isn't known.
 pub fn answer(page: &mut Page, names: &TextNames, line: &str) {
+    if is_command_line(page, line) {
+        return;
+    }
     let (call, rest) = line.split_once(' ').unwrap_or((line, ""));
     let bytes = names.bytes_of(page, rest);
     if is_bytes_call(page, call, bytes.as_slice()) {

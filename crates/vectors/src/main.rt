@@ -1,10 +1,13 @@
-//! Plays a script of single calls of the libraries of names, manifests, paths, trees and bundles: prints each
-//! line again, and below it what the call really answers. A script that says what comes is its own
-//! expectation.
+//! Plays a script of single calls of the libraries of names, manifests, paths, trees, bundles and command
+//! lines: prints each line again, and below it what the call really answers. A script that says what comes is
+//! its own expectation.
 #![tactic(auto)]
 
 mod answers;
+mod asked_pods;
 mod bundles;
+mod command_lines;
+mod command_words;
 mod documents;
 mod fields;
 mod listings;

@@ -1,5 +1,6 @@
 // What words are read as, as a text.
-use crate::pods::print_asked;
+use crate::asked_pods::print_asked;
+use crate::command_words::words_of;
 use ac_types::StoreKey;
 use rkt_words::{Asked, Line, WordsError, read_line};
 use scripts::Page;
@@ -50,8 +51,8 @@ fn print_line(page: &mut Page, line: &Line) {
     }
 }
 
-/// What the words are read as: the command with its values, or `usage` and the place of what is wrong.
-pub fn print_answer(page: &mut Page, words: &[String]) {
+// What the words are read as: the command with its values, or `usage` and the place of what is wrong.
+fn print_read(page: &mut Page, words: &[String]) {
     match read_line(page.alloc(), words) {
         Ok(line) => print_line(page, &line),
         Err(WordsError::Usage(place)) => {
@@ -60,4 +61,15 @@ pub fn print_answer(page: &mut Page, words: &[String]) {
         }
         Err(WordsError::NoMemory) => page.no_memory(),
     }
+}
+
+/// `rkt WORDS`: what the words are read as. False where the line is no command line.
+pub fn is_command_line(page: &mut Page, line: &str) -> bool {
+    let words = match line.split_once(' ') {
+        None if line == "rkt" => Vec::new(page.alloc()),
+        Some(("rkt", rest)) => words_of(page, rest),
+        _ => return false,
+    };
+    print_read(page, words.as_slice());
+    true
 }

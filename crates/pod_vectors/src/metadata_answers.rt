@@ -1,7 +1,7 @@
 // Which call a line makes.
-use crate::pods::ServedPod;
 use crate::replies::{Found, written_answer};
 use crate::requests::request_answer;
+use crate::served_pods::ServedPod;
 use crate::signatures::{sign_answer, verify_answer};
 use scripts::{Page, Unread};
 use short_texts::TextNames;
@@ -30,22 +30,10 @@ fn reply_line(page: &mut Page, pod: &Option<ServedPod>, input: &[u8]) {
     }
 }
 
-// What is written to a connection with the input of a line, or what the request is that it is.
-fn input_answer(page: &mut Page, pod: &Option<ServedPod>, call: &str, input: &[u8]) {
-    match call {
-        "request" => request_answer(page, input),
-        "reply" => reply_line(page, pod, input),
-        _ => page.unread(Unread::Line),
-    }
-}
-
-/// What the call of a line answers: `sign`, `verify`, `request`, or `reply` where the pod of the block runs.
-/// Refused where the line says something that isn't known.
-pub fn answer(page: &mut Page, names: &TextNames, pod: &Option<ServedPod>, line: &str) {
-    let (call, rest) = line.split_once(' ').unwrap_or((line, ""));
+// The signatures of some words. False where the call is another.
+fn is_signature_call(page: &mut Page, names: &TextNames, call: &str, rest: &str) -> bool {
     if call != "sign" && call != "verify" {
-        let input = names.bytes_of(page, rest);
-        return input_answer(page, pod, call, input.as_slice());
+        return false;
     }
     let words = names.words_of(page, rest);
     if call == "sign" {
@@ -53,4 +41,26 @@ pub fn answer(page: &mut Page, names: &TextNames, pod: &Option<ServedPod>, line:
     } else {
         verify_answer(page, words.as_slice());
     }
+    true
+}
+
+/// The calls of the metadata service: `sign`, `verify`, `request`, or `reply` where the pod of the block runs.
+/// False where the line is another call.
+pub fn is_metadata_call(
+    page: &mut Page,
+    names: &TextNames,
+    pod: &Option<ServedPod>,
+    line: &str,
+) -> bool {
+    let (call, rest) = line.split_once(' ').unwrap_or((line, ""));
+    if call != "request" && call != "reply" {
+        return is_signature_call(page, names, call, rest);
+    }
+    let input = names.bytes_of(page, rest);
+    if call == "request" {
+        request_answer(page, input.as_slice());
+    } else {
+        reply_line(page, pod, input.as_slice());
+    }
+    true
 }
