@@ -60,11 +60,11 @@ pub none_open : (m : Local) (name : List ℕ) → m.holdings ≡ [] → has_own_
 none_open m name none = subst (λ (hs : List Holding). has_own_open (record m { holdings = hs }) name ≡ false) (sym none) refl
 
 -- what is open after a claim
-pub claimed_went : {observed : Bool} {a b : DirAt} (m : Local) (pod : PodId) (r : Result Owned ClaimError) (owned : Owned) → r ≡ Ok owned → claiming.WentClaiming observed 66 pod (and_owned m pod r) a b → claiming.WentClaiming observed 66 pod (and_prepared_lock m pod Own owned.own) a b
-claimed_went {observed} {a} {b} m pod r owned is w = subst (λ (x : Result Owned ClaimError). claiming.WentClaiming observed 66 pod (and_owned m pod x) a b) is w
+pub claimed_went : {observed : Bool} {a b : DirAt} (m : Local) (pod : PodId) (r : Result Owned ClaimError) (owned : Owned) → r ≡ Ok owned → claiming.WentClaiming observed 56 pod (and_owned m pod r) a b → claiming.WentClaiming observed 56 pod (and_prepared_lock m pod Own owned.own) a b
+claimed_went {observed} {a} {b} m pod r owned is w = subst (λ (x : Result Owned ClaimError). claiming.WentClaiming observed 56 pod (and_owned m pod x) a b) is w
 
-pub unclaimed_went : {observed : Bool} {a b : DirAt} (m : Local) (pod : PodId) (r : Result Owned ClaimError) (e : ClaimError) → r ≡ Err e → claiming.WentClaiming observed 66 pod (and_owned m pod r) a b → claiming.WentClaiming observed 66 pod m a b
-unclaimed_went {observed} {a} {b} m pod r e is w = subst (λ (x : Result Owned ClaimError). claiming.WentClaiming observed 66 pod (and_owned m pod x) a b) is w
+pub unclaimed_went : {observed : Bool} {a b : DirAt} (m : Local) (pod : PodId) (r : Result Owned ClaimError) (e : ClaimError) → r ≡ Err e → claiming.WentClaiming observed 56 pod (and_owned m pod r) a b → claiming.WentClaiming observed 56 pod m a b
+unclaimed_went {observed} {a} {b} m pod r e is w = subst (λ (x : Result Owned ClaimError). claiming.WentClaiming observed 56 pod (and_owned m pod x) a b) is w
 
 -- its requests
 claims_in : (pod : PodId) (r : Request) → claims pod r ≡ true → runs_prepared pod r ≡ true
@@ -82,7 +82,7 @@ runs_in pod own r is = by (closes own r) (claims pod r) (closes_claims pod own r
     by false true so h = refl
     by false false so h = h
 
-pub claimed_worked : {observed : Bool} {a b c : DirAt} {m : Local} (pod : PodId) (owned : Owned) (h : Holding) → IsOwned pod m owned → h.handle ≡ owned.own → a.local.holdings ≡ [] → claiming.WentClaiming observed 66 pod (and_holding a.local h) a b →
+pub claimed_worked : {observed : Bool} {a b c : DirAt} {m : Local} (pod : PodId) (owned : Owned) (h : Holding) → IsOwned pod m owned → h.handle ≡ owned.own → a.local.holdings ≡ [] → claiming.WentClaiming observed 56 pod (and_holding a.local h) a b →
     LeavesOpen observed (runs_and_closes owned.pod owned.own) (without b.local owned.own) b c → OnlyAsks observed (runs_prepared pod) a c
 claimed_worked {observed} {a} {b} {c} pod owned h own is none w v = record {
   same = v.same ∙ w.same;
@@ -91,7 +91,7 @@ claimed_worked {observed} {a} {b} {c} pod owned h own is none w v = record {
   extends = λ t. and_more (extends_wider (claims_in pod) (w.extends t)) w.same (extends_wider (runs_in pod owned.own) (subst (λ (p : PodId). ExtendsBy (runs_and_closes p owned.own) b c) own.is (v.extends t)));
 }
 
-pub unclaimed_worked : {observed : Bool} {a b : DirAt} (pod : PodId) → claiming.WentClaiming observed 66 pod a.local a b → OnlyAsks observed (runs_prepared pod) a b
+pub unclaimed_worked : {observed : Bool} {a b : DirAt} (pod : PodId) → claiming.WentClaiming observed 56 pod a.local a b → OnlyAsks observed (runs_prepared pod) a b
 unclaimed_worked pod w = record { same = w.same; faults = w.faults; local = w.local_is; extends = λ t. extends_wider (claims_in pod) (w.extends t) }
 
 -- it keeps the local rules
