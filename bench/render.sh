@@ -1,7 +1,7 @@
 #!/bin/sh
 # Times the rendering of large images in several shapes. It takes the built program
-# `measure_render`, which `rt run` in crates/measure_render leaves.
-program=${1:-crates/measure_render/out/measure_render}
+# `measure`, which `rt run` in crates/measure leaves.
+program=${1:-crates/measure/out/measure}
 for words in "flat 256 1023" "flat 64 4095" "chain 32 8191" "chain 4 65535" "late 32 65535" "late 32 262000" "halves 255 2047" "uneven 255 1856" "deep 4 1600" "deep 4 6400"; do
     echo "== $words"
     # shellcheck disable=SC2086

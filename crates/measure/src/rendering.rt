@@ -1,6 +1,4 @@
-//! Renders images over each other, as many and as large as it is told, to measure the time.
-#![tactic(auto)]
-
+// Images that are rendered over each other.
 use ac_types::{AcIdentifier, ImageId, NoMemory, Sequence, StoreKey, Text};
 use anyhow::Result;
 use dep_match::{Stored, closure};
@@ -8,7 +6,6 @@ use manifests::{Dependencies, Dependency, ImageManifest};
 use path_map::{AbsPath, Entry, Meta, PathMap};
 use render::render_tree;
 use std::alloc::Global;
-use std::env;
 
 /// Which image needs which, and where the files lie.
 #[derive(Clone, Copy)]
@@ -158,7 +155,7 @@ fn image(alloc: Global, plan: Plan, number: u32) -> Result<Stored> {
 }
 
 /// The images of a plan.
-fn images(alloc: Global, plan: Plan) -> Result<Vec<Stored>> {
+fn images_of(alloc: Global, plan: Plan) -> Result<Vec<Stored>> {
     let mut list = Vec::new(alloc);
     for number in 0..plan.images.saturating_add(1) {
         let image = image(alloc, plan, number)?;
@@ -194,12 +191,6 @@ fn render(rt: &(impl Print + Alloc<A = Global>), list: &[Stored], maps: &[PathMa
     Ok(())
 }
 
-fn run(rt: &(impl Print + Alloc<A = Global>), plan: Plan) -> Result<()> {
-    let list = images(rt.alloc(), plan)?;
-    let maps = maps(rt.alloc(), plan)?;
-    render(rt, list.as_slice(), maps.as_slice())
-}
-
 /// The shape of a word.
 fn shape_of(word: &str) -> Shape {
     match word {
@@ -212,23 +203,19 @@ fn shape_of(word: &str) -> Shape {
     }
 }
 
-fn main(rt: HostRuntime) -> Result<()> {
-    let mut plan = Plan {
-        shape: Shape::Flat,
-        images: 8,
-        files: 64,
+/// `SHAPE IMAGES FILES`: renders so many images with so many files.
+pub fn measure_rendering(
+    rt: &(impl Print + Alloc<A = Global>),
+    word: &str,
+    images: u32,
+    files: u32,
+) -> Result<()> {
+    let plan = Plan {
+        shape: shape_of(word),
+        images,
+        files,
     };
-    for (place, arg) in env::args(&rt)?.enumerate() {
-        let word = arg.as_str();
-        if place == 1 {
-            plan.shape = shape_of(word);
-        }
-        if place == 2 {
-            plan.images = word.parse::<u32>()?;
-        }
-        if place == 3 {
-            plan.files = word.parse::<u32>()?;
-        }
-    }
-    run(&rt, plan)
+    let list = images_of(rt.alloc(), plan)?;
+    let maps = maps(rt.alloc(), plan)?;
+    render(rt, list.as_slice(), maps.as_slice())
 }
