@@ -83,6 +83,24 @@ same 'its mark' 1 "$(ls "$(area run)/$pod" | grep -c '^started-asks$')"
 same 'its status' 0 "$(cat "$(area run)/$pod/stage1/rootfs/rkt/status/asks")"
 expect 'it is run once' 4 '' 'rkt: wrong phase: exited' "$rkt" run-prepared "$pod"
 expect 'it is removed' 0 "removed $pod" '' "$rkt" rm "$pod"
+
+# The same of a pod whose bytes are chosen in the place of the random source: its uuid and its token are those.
+{ head -c 15 /dev/zero && printf '\001' && printf '\021%.0s' {1..16} && head -c 64 /dev/zero; } >"$tmp/drawn"
+chosen() {
+    unshare -m sh -c 'mount --bind "$0" /dev/urandom && exec "$@"' "$tmp/drawn" "$@"
+}
+if chosen true 2>/dev/null; then
+    pod=00000000-0000-4000-8000-000000000001
+    token=11111111111111111111111111111111
+    expect 'a pod of chosen bytes' 0 $pod '' chosen "$rkt" prepare example.com/asks
+    expect 'it is run too' 0 app-asks=0 '' "$rkt" run-prepared $pod
+    same 'it was running too' state=running "$(head -n 1 "$(root $pod asks)/phase")"
+    same 'it is exited too' state=exited "$(phase $pod)"
+    same 'it sees its token' "AC_METADATA_URL=http://127.0.0.1:18112/$token" "$(grep '^AC_METADATA_URL=' "$(root $pod asks)/seen")"
+    expect 'it is removed too' 0 "removed $pod" '' "$rkt" rm $pod
+else
+    skip 'a pod of chosen bytes: no file may be mounted over another here'
+fi
 expect 'and is gone' 2 '' 'rkt: no such pod' "$rkt" run-prepared "$pod"
 pod=$("$rkt" prepare example.com/asks)
 expect 'another is run by the beginning of its uuid' 0 app-asks=0 '' "$rkt" run-prepared --metadata=10.0.0.1:80 "${pod:0:13}"
