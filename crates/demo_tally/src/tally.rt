@@ -1,5 +1,5 @@
 // The numbers of a demo, counted over its history.
-ghost use Rattle.std.specs.Prelude.{◌≡◌, ◌==◌, IfSome};
+ghost use Rattle.std.specs.Prelude.{◌≡◌, ◌==◌, ◌≤◌, IfSome, None};
 ghost use Rattle.std.specs.List.{count_by};
 ghost use Rattle.demo_tally.specs.Tallies.{is_deed_done, is_deed, deeds_in, lines_written, lines_tallied, tally_of};
 
@@ -72,7 +72,8 @@ fn lines_written(request: &Request, reply: &Reply) -> usize
 
 /// How many entries the renderings of the pods have that were made. None where that is no 64-bit number.
 pub fn entries_in(events: &[Event]) -> Option<u64>
-    ensures { IfSome result (λ count. count ≡ lines_tallied events.now) }
+    ensures counted { IfSome result (λ count. count ≡ lines_tallied events.now) }
+    ensures too_many { result ≡ None → 18446744073709551616 ≤ lines_tallied events.now }
 {
     let mut count: u64 = 0;
     'events: for event in events {
@@ -83,7 +84,8 @@ pub fn entries_in(events: &[Event]) -> Option<u64>
 
 /// The numbers of a demo. None where one is no 64-bit number.
 pub fn tally_of(history: &History, failed: u64, left: u64) -> Option<Numbers>
-    ensures { IfSome result (λ numbers. numbers ≡ tally_of history.now.items failed left) }
+    ensures counted { IfSome result (λ numbers. numbers ≡ tally_of history.now.items failed left) }
+    ensures too_many { result ≡ None → 18446744073709551616 ≤ lines_tallied history.now.items }
 {
     let events = history.as_slice();
     let entries = entries_in(events)?;
