@@ -1,7 +1,8 @@
 -- What the lists that change stand for.
 use Rattle.std.specs.Prelude.{Option, List, ℕ, option_map, map}
 use Rattle.dir_model.specs.declared.item.Inner.{Inner}
-use Rattle.dir_model.specs.declared.tree.TreeNode.TheVariants.{Piece}
+use Rattle.dir_model.specs.declared.tree.TreeNode.TheVariants.{Dir, Piece}
+use Rattle.dir_rules.specs.Marks.{parent}
 use Rattle.dir_rules.specs.Seen.{making_with_entry, making_changed}
 use Rattle.dir_rules.specs.declared.seen.Making.{Making}
 use Rattle.dir_rules.specs.declared.seen.Created.{Created}
@@ -19,6 +20,10 @@ table_making t = record { spot = t.spot; clean = t.clean; entries = t.entries.it
 -- a piece of a file was made: its entry, and the directory or file that is to be synced for it
 abbrev pub making_with_piece : Inner → List ℕ → List ℕ → Option Making → Option Making
 making_with_piece inner piece unsynced making = making_changed inner.spot (making_with_entry inner.path (Piece piece) unsynced) making
+
+-- a directory was made: its entry, and the directory above it, which is to be synced
+abbrev pub making_with_dir : Inner → Option Making → Option Making
+making_with_dir inner making = making_changed inner.spot (making_with_entry inner.path Dir (parent inner.path)) making
 
 abbrev pub created_of : CreatedMark → Created
 created_of t = record { name = t.name; moment = t.moment }

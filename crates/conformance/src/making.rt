@@ -4,7 +4,7 @@ ghost use Rattle.std.specs.List.{list_any};
 ghost use Rattle.dir_rules.specs.Marks.{parent, is_below_status, is_later_mark};
 ghost use Rattle.dir_rules.specs.Seen.{is_making_area, makes_at, making_with_entry, with_path_synced, spoilt, making_changed, moved_making};
 ghost use Rattle.dir_rules.specs.Rules.{has_made_none, is_dir, has_path_among, has_dir_among, has_file_among, is_all_done, is_whole_pod, of_making, is_in_directory, is_new_path, may_sync_entry};
-ghost use Rattle.conformance.specs.Tables.{table_making, making_with_piece};
+ghost use Rattle.conformance.specs.Tables.{table_making, making_with_dir, making_with_piece};
 
 use crate::table::MakingTable;
 use dir_model::{Area, Bytes, Inner, NoMemory, Spot, TreeNode};
@@ -82,7 +82,7 @@ fn add_piece(
 
 /// A directory was made. Refused only where memory ran out.
 pub fn note_dir(making: &mut Option<MakingTable>, inner: &Inner) -> Result<(), NoMemory>
-    ensures { OnOk result (option_map table_making making.new ≡ making_changed inner.now.spot (making_with_entry inner.now.path TreeNode.Dir (parent inner.now.path)) (option_map table_making making.old)) }
+    ensures { OnOk result (option_map table_making making.new ≡ making_with_dir inner.now (option_map table_making making.old)) }
 {
     if !makes_at(making, &inner.spot) {
         return Ok(());
