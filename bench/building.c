@@ -1,5 +1,5 @@
 /* Makes 100 directories of 100 files with 100 bytes each in a new folder, and syncs every file, every
-   directory and the folder: what building_check is compared with. Prints the milliseconds. */
+   directory and the folder: what `host_tools build` is compared with. Prints the milliseconds. */
 #include <fcntl.h>
 #include <stdio.h>
 #include <stdlib.h>

@@ -1,12 +1,12 @@
 #!/usr/bin/env bash
-# Folders that are filled by a plan on a host, by the program building_check: what stands in them, what is
-# refused, and that everything is synced before the folder is moved. The plan is its standard input:
+# Folders that are filled by a plan on a host, by the tool `build` of host_tools: what stands in them, what
+# is refused, and that everything is synced before the folder is moved. The plan is its standard input:
 #   d PATH                   a directory
 #   g PATH [TEXT]            a file with that text
 #   c PATH SIZE SHA FROM     a file that is copied from a path below the folder that the second word names
 set -u
 cd "$(dirname "$0")/../.." || exit 1
-program=building_check
+program=host_tools
 . tests/host/checks.bash
 
 # A tracer names paths without links.
@@ -33,7 +33,7 @@ copies_of() {
 
 # filled NAME WANTED KEY PLAN: WANTED are the lines that are printed, parted by `|`.
 filled() {
-    same "$1" "$2" "$(timeout 60 "$check" "$3" "$bundle" <"$4" 2>&1 | paste -sd'|')"
+    same "$1" "$2" "$(timeout 60 "$check" build "$3" "$bundle" <"$4" 2>&1 | paste -sd'|')"
 }
 
 count() {
@@ -114,12 +114,12 @@ unsynced() {
         }' "$1" | sort
 }
 trace() {
-    timeout 60 strace -qq -y -s 8 -o "$tmp/trace" "$@" "$check" "$key" "$bundle" <"$tmp/plan" 2>&1 | paste -sd'|'
+    timeout 60 strace -qq -y -s 8 -o "$tmp/trace" "$@" "$check" build "$key" "$bundle" <"$tmp/plan" 2>&1 | paste -sd'|'
 }
 calls='trace=mkdir,mkdirat,open,openat,write,pwrite64,fsync,fdatasync,rename,renameat,renameat2'
 trace_host() {
     rm -rf "$incoming" "$images"
-    "$check" "$key" "$bundle" <"$tmp/twice" >/dev/null 2>&1
+    "$check" build "$key" "$bundle" <"$tmp/twice" >/dev/null 2>&1
     rm -rf "${incoming:?}"/*
     same 'a folder is filled under a tracer' ok "$(trace -e "$calls")"
     same 'all is synced after its last change and before the move' "$(($(wc -l <"$tmp/plan") + 1))" "$(unsynced "$tmp/trace")"

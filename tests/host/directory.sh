@@ -1,9 +1,9 @@
 #!/usr/bin/env bash
-# The directory of a host, by the program dir_check: locks among processes, listings among makers and
+# The directory of a host, by the tool `dir` of host_tools: locks among processes, listings among makers and
 # removers, files that are appended to and read in pieces, removals, and what isn't reached.
 set -u
 cd "$(dirname "$0")/../.." || exit 1
-program=dir_check
+program=host_tools
 . tests/host/checks.bash
 
 # A tracer names paths without links.
@@ -18,12 +18,12 @@ other=00000000-0000-4000-8000-000000000002
 calls() {
     local name=$1 wanted=$2
     shift 2
-    same "$name" "$wanted" "$(timeout 60 "$check" "$@" 2>&1 </dev/null | paste -sd'|')"
+    same "$name" "$wanted" "$(timeout 60 "$check" dir "$@" 2>&1 </dev/null | paste -sd'|')"
 }
 
 # A process that makes its calls and holds what it locked until `let_go`. Its answers are in `held`.
 take() {
-    coproc holder { exec "$check" "$@" hold 2>&1; }
+    coproc holder { exec "$check" dir "$@" hold 2>&1; }
     holder_id=$holder_PID
     held=''
     local line
@@ -126,7 +126,7 @@ calls 'no link is followed' 'missing|missing|missing|missing|missing|missing|mis
 
 # Nor one that comes in the way of a directory between two calls at it: what stands behind it is another.
 mkdir -p "$tmp/elsewhere/deep"
-coproc holder { exec "$check" "make-dir run $pod way" "make-dir run $pod way/deep" "make-file run $pod way/deep/f" hold \
+coproc holder { exec "$check" dir "make-dir run $pod way" "make-dir run $pod way/deep" "make-file run $pod way/deep/f" hold \
     "make-file run $pod way/deep/g" "remove-file run $pod way/deep/f" 2>&1; }
 holder_id=$holder_PID
 exec 7<&"${holder[0]}"
@@ -207,13 +207,13 @@ for size in 1 2 3 4095 4096 4097 $(seq 65526 65546) 131072 300000; do
     else
         cp "$tmp/wanted" "$inside/f"
     fi
-    "$check" "copy run $pod f $size" </dev/null >"$tmp/read" 2>&1
+    "$check" dir "copy run $pod f $size" </dev/null >"$tmp/read" 2>&1
     same "pieces of $size" '' "$(cmp "$inside/f" "$tmp/read" 2>&1)"
 done
 for size in 65535 65536 65537; do
     head -c "$size" "$tmp/wanted" >"$inside/f"
     for piece in 65535 65536 65537; do
-        "$check" "copy run $pod f $piece" </dev/null >"$tmp/read" 2>&1
+        "$check" dir "copy run $pod f $piece" </dev/null >"$tmp/read" 2>&1
         same "$size bytes in pieces of $piece" '' "$(cmp "$inside/f" "$tmp/read" 2>&1)"
     done
 done
@@ -241,9 +241,9 @@ fi
 as_other() {
     local name=$1 wanted=$2
     shift 2
-    same "$name" "$wanted" "$("${as_user[@]}" "$check" "$@" 2>&1 </dev/null | paste -sd'|')"
+    same "$name" "$wanted" "$("${as_user[@]}" "$check" dir "$@" 2>&1 </dev/null | paste -sd'|')"
 }
-if [ ${#as_user[@]} -eq 0 ] || "${as_user[@]}" "$check" >/dev/null 2>&1; then
+if [ ${#as_user[@]} -eq 0 ] || "${as_user[@]}" "$check" dir >/dev/null 2>&1; then
     mkdir "$inside/sealed"
     : >"$inside/sealed/f"
     chmod 744 "$inside/sealed"
@@ -267,7 +267,7 @@ where() {
     shift 2
     rm -rf "$tmp/here"
     mkdir "$tmp/here"
-    same "$name" ok "$(cd "$tmp/here" && env "$@" "$check" 'sync run' 2>&1 </dev/null)"
+    same "$name" ok "$(cd "$tmp/here" && env "$@" "$check" dir 'sync run' 2>&1 </dev/null)"
     same "$name: its areas" "$all_areas" "$(cd "$tmp/here/$folder" && find . -mindepth 2 -type d | sort | tr '\n' ' ')"
 }
 where 'RKT_DIR unset' rkt -u RKT_DIR
@@ -295,7 +295,7 @@ broken() {
     local name=$1 wanted=$2 change=$3 line
     shift 3
     rm -rf "$tmp/broken"
-    coproc holder { RKT_DIR=$tmp/broken exec "$check" 'sync run' hold "$@" 2>&1; }
+    coproc holder { RKT_DIR=$tmp/broken exec "$check" dir 'sync run' hold "$@" 2>&1; }
     holder_id=$holder_PID
     exec 7<&"${holder[0]}"
     read -r line <&7
@@ -340,7 +340,7 @@ made() {
     [ -z "$3" ] || about=(-P "$3")
     shift 4
     same "$name" "$wanted" "$(timeout 60 strace -qq -y -o "$tmp/trace" "${about[@]}" -e "trace=${answer%%:*}" -e "inject=$answer" \
-        "$check" "$@" 2>&1 </dev/null | paste -sd'|')"
+        "$check" dir "$@" 2>&1 </dev/null | paste -sd'|')"
 }
 trace_host() {
     mkdir "$inside/s"
@@ -356,7 +356,7 @@ trace_host() {
     made 'a folder that has gone before its move' missing '' rename:error=ENOENT "move run $pod garbage $pod"
     made 'a folder that came before the move' exists '' rename:error=ENOTEMPTY "move run $pod garbage $pod"
     timeout 60 strace -qq -o "$tmp/trace" -P "$RKT_DIR/pods/garbage/$pod" -e trace=newfstatat,statx,lstat \
-        -e inject=newfstatat,statx,lstat:delay_enter=2000000 "$check" "move run $pod garbage $pod" >"$tmp/out" 2>&1 </dev/null &
+        -e inject=newfstatat,statx,lstat:delay_enter=2000000 "$check" dir "move run $pod garbage $pod" >"$tmp/out" 2>&1 </dev/null &
     sleep 0.5
     mv "$RKT_DIR/pods/run/$pod" "$RKT_DIR/pods/garbage/$pod"
     wait $!
@@ -367,7 +367,7 @@ trace_host() {
     made 'what is synced' 'ok|ok|ok|ok' '' fsync:delay_enter=1 "sync run $pod f" "sync run $pod s" "sync run $pod " 'sync run'
     same 'is what was named' "$inside/f|$inside/s|$inside|$RKT_DIR/pods/run" "$(sed 's/.*<//; s/>.*//' "$tmp/trace" | paste -sd'|')"
     timeout 60 strace -qq -o "$tmp/trace" -P "$inside/f" -e trace=openat -e inject=openat:delay_enter=2000000 \
-        "$check" "copy run $pod f 99" >"$tmp/out" 2>&1 </dev/null &
+        "$check" dir "copy run $pod f 99" >"$tmp/out" 2>&1 </dev/null &
     sleep 0.5
     mv "$inside/f" "$inside/g"
     mkdir "$inside/f"
@@ -397,7 +397,7 @@ rm -f "$tmp/moved"
 move_about &
 whole=0
 while [ ! -e "$tmp/moved" ]; do
-    answer=$("$check" "list run $pod many" </dev/null | sed 's/ .*//' | uniq -c | tr -s ' \n' ' ')
+    answer=$("$check" dir "list run $pod many" </dev/null | sed 's/ .*//' | uniq -c | tr -s ' \n' ' ')
     case $answer in
         ' 1000 file 1 ok ') whole=$((whole + 1)) ;;
         ' 1 missing ') ;;
@@ -438,14 +438,14 @@ listed() {
     listings=$((listings + 1))
 }
 while [ ! -e "$tmp/churned" ]; do
-    "$check" 'list images' </dev/null >"$tmp/list"
+    "$check" dir 'list images' </dev/null >"$tmp/list"
     listed 'an area'
-    "$check" 'list images key d' </dev/null >"$tmp/list"
+    "$check" dir 'list images key d' </dev/null >"$tmp/list"
     listed 'a directory'
 done
 wait
 checks=$((checks + listings))
 [ $listings -ge 2 ] || fail 'no listing among makers and removers'
-same "all of them" 1001 "$("$check" "list images key d" </dev/null | wc -l)"
+same "all of them" 1001 "$("$check" dir "list images key d" </dev/null | wc -l)"
 
 finish

@@ -1,7 +1,7 @@
 """Calls that several processes make on a data folder of this host at once, and whether single steps in one order explain
 every answer.
 
-moments.py PROGRAM WORK SEED SECONDS: in the folder WORK eight processes of PROGRAM (dir_check) make random calls on a few
+moments.py PROGRAM WORK SEED SECONDS: in the folder WORK eight processes of PROGRAM (host_tools) make random calls on a few
 pods. A history has 4 to 8 processes with 3 to 5 calls each; each call is kept with its answer and the times before and
 after it. Then an order is searched in which each call takes its steps between its two times, one at a time, each answer is
 the one that the steps before it give, and at the end there stands what stands on the disk. Most calls are one step. A
@@ -355,7 +355,8 @@ class Crowd:
 
     def __init__(self, program, data):
         env = dict(os.environ, RKT_DIR=data)
-        self.members = [subprocess.Popen([program, "lines"], env=env, stdin=subprocess.PIPE, stdout=subprocess.PIPE, bufsize=0)
+        words = [program, "dir", "lines"]
+        self.members = [subprocess.Popen(words, env=env, stdin=subprocess.PIPE, stdout=subprocess.PIPE, bufsize=0)
                         for _ in range(PROCESSES)]
 
     def play(self, calls):

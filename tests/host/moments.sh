@@ -1,11 +1,12 @@
 #!/usr/bin/env bash
-# The directory of a host among eight processes of dir_check at once, which make random calls on a few pods: some thousand
-# short histories, for each of which an order of single steps has to be found that explains every answer (moments.py).
+# The directory of a host among eight processes of `host_tools dir` at once, which make random calls on a few pods:
+# some thousand short histories, for each of which an order of single steps has to be found that explains every answer
+# (moments.py).
 # With RKT_MOMENTS=long it goes on for ten minutes, else for forty seconds; RKT_SEED sets the seed, which is printed.
 set -u
 unset RKT_DIR
 cd "$(dirname "$0")/../.." || exit 1
-program=dir_check
+program=host_tools
 
 # In memory where there is room: the calls need no disk.
 if probe=$(mktemp -p /dev/shm 2>/dev/null); then

@@ -1,5 +1,5 @@
 #!/usr/bin/env bash
-# Programs that are started in the root of an app on a host, by the program spawn_check: what a program
+# Programs that are started in the root of an app on a host, by the tool `spawn` of host_tools: what a program
 # sees, how it ends, and what the making ready of a root changes. The lines of its standard input:
 #   l FILE          makes the links and sets the modes of a listing
 #   w WORD          adds a word of the program
@@ -9,7 +9,7 @@
 #   x N             waits for a child
 set -u
 cd "$(dirname "$0")/../.." || exit 1
-program=spawn_check
+program=host_tools
 . tests/host/checks.bash
 
 tmp=$(cd "$tmp" && pwd -P)
@@ -26,7 +26,7 @@ user=()
 says() {
     local name=$1 wanted=$2
     shift 2
-    same "$name" "$wanted" "$(printf '%s\n' "$@" | timeout 60 "${user[@]}" "$check" "$pod" web 2>&1 | paste -sd'|')"
+    same "$name" "$wanted" "$(printf '%s\n' "$@" | timeout 60 "${user[@]}" "$check" spawn "$pod" web 2>&1 | paste -sd'|')"
 }
 
 # A root with a program, as prepare leaves it: no links, and modes as they come.

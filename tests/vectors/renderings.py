@@ -1,4 +1,6 @@
-"""Writes blocks for the script of `pod_vectors`: random images, and what the root of the first of them holds.
+"""Writes the blocks at the end of `crates/vectors/stdin`, in the script of `pod_vectors`.
+
+Random images, and what the root of the first of them holds.
 
 The rule is the one of a rendering alone, on maps from paths to entries. A node's assembly: the assemblies of its
 children laid over each other in their order, then its own entries, then its whitelist. Nothing here is taken from the

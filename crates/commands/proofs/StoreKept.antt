@@ -107,24 +107,33 @@ asked_make : (a : Bool) → ((a || false) || false) ≡ true → a ≡ true
 asked_make true h = refl
 asked_make false h = cc
 
-prepares_elsewhere : (draw : PodId) (request : Request) → prepares_pod draw request ≡ true → BringsElsewhere request
-prepares_elsewhere draw (MakeFolder new) h =
+embryo_elsewhere : (draw : PodId) (new : Spot) → ((spot_eq new (pod_spot draw area.Embryo) || false) || false) ≡ true → is_in area.Images new.area ≡ false
+embryo_elsewhere draw new h =
     let e = asked_make (spot_eq new (pod_spot draw area.Embryo)) h in
     subst (λ (s : Spot). is_in area.Images s.area ≡ false) (sym (one_location new (pod_spot draw area.Embryo) e)) refl
-prepares_elsewhere draw (MoveFolder from to) h =
-    by (spot_eq from (pod_spot draw area.Embryo)) (spot_eq to (pod_spot draw area.Prepare)) (spot_eq from (pod_spot draw area.Prepare)) (spot_eq to (pod_spot draw area.Prepared)) refl refl h
+
+-- a move from embryo to prepare, or from there to such an area
+moved_on_elsewhere : (draw : PodId) (last : Area) → is_in area.Images last ≡ false → (from to : Spot) →
+    (((spot_eq from (pod_spot draw area.Embryo) && spot_eq to (pod_spot draw area.Prepare)) || ((spot_eq from (pod_spot draw area.Prepare) && spot_eq to (pod_spot draw last)) || false)) || false) ≡ true →
+    is_in area.Images to.area ≡ false
+moved_on_elsewhere draw last off from to h =
+    by (spot_eq from (pod_spot draw area.Embryo)) (spot_eq to (pod_spot draw area.Prepare)) (spot_eq from (pod_spot draw area.Prepare)) (spot_eq to (pod_spot draw last)) refl refl h
   where
     at : (here : Spot) → is_in area.Images here.area ≡ false → spot_eq to here ≡ true → is_in area.Images to.area ≡ false
-    at here off e = subst (λ (s : Spot). is_in area.Images s.area ≡ false) (sym (one_location to here e)) off
+    at here beside e = subst (λ (s : Spot). is_in area.Images s.area ≡ false) (sym (one_location to here e)) beside
 
-    by : (a b d g : Bool) → spot_eq to (pod_spot draw area.Prepare) ≡ b → spot_eq to (pod_spot draw area.Prepared) ≡ g →
+    by : (a b d g : Bool) → spot_eq to (pod_spot draw area.Prepare) ≡ b → spot_eq to (pod_spot draw last) ≡ g →
         (((a && b) || ((d && g) || false)) || false) ≡ true → is_in area.Images to.area ≡ false
     by a true d g e f h = at (pod_spot draw area.Prepare) refl e
-    by a false d true e f h = at (pod_spot draw area.Prepared) refl f
+    by a false d true e f h = at (pod_spot draw last) off f
     by true false true false e f h = cc
     by true false false false e f h = cc
     by false false true false e f h = cc
     by false false false false e f h = cc
+
+prepares_elsewhere : (draw : PodId) (request : Request) → prepares_pod draw request ≡ true → BringsElsewhere request
+prepares_elsewhere draw (MakeFolder new) h = embryo_elsewhere draw new h
+prepares_elsewhere draw (MoveFolder from to) h = moved_on_elsewhere draw area.Prepared refl from to h
 prepares_elsewhere draw request h = tt
 
 pub prepare_keeps : (draw : PodId) {me : ℕ} {old new : List Event} → Extends (in_process (prepares_pod draw)) me old new → Quiet me old new → ImagesStay old new
@@ -139,23 +148,8 @@ run_apart draw place is = by place.area is
     by a h = cc
 
 run_elsewhere : (draw : PodId) (request : Request) → makes_and_runs draw request ≡ true → BringsElsewhere request
-run_elsewhere draw (MakeFolder new) h =
-    let e = asked_make (spot_eq new (pod_spot draw area.Embryo)) h in
-    subst (λ (s : Spot). is_in area.Images s.area ≡ false) (sym (one_location new (pod_spot draw area.Embryo) e)) refl
-run_elsewhere draw (MoveFolder from to) h =
-    by (spot_eq from (pod_spot draw area.Embryo)) (spot_eq to (pod_spot draw area.Prepare)) (spot_eq from (pod_spot draw area.Prepare)) (spot_eq to (pod_spot draw area.Run)) refl refl h
-  where
-    at : (here : Spot) → is_in area.Images here.area ≡ false → spot_eq to here ≡ true → is_in area.Images to.area ≡ false
-    at here off e = subst (λ (s : Spot). is_in area.Images s.area ≡ false) (sym (one_location to here e)) off
-
-    by : (a b d g : Bool) → spot_eq to (pod_spot draw area.Prepare) ≡ b → spot_eq to (pod_spot draw area.Run) ≡ g →
-        (((a && b) || ((d && g) || false)) || false) ≡ true → is_in area.Images to.area ≡ false
-    by a true d g e f h = at (pod_spot draw area.Prepare) refl e
-    by a false d true e f h = at (pod_spot draw area.Run) refl f
-    by true false true false e f h = cc
-    by true false false false e f h = cc
-    by false false true false e f h = cc
-    by false false false false e f h = cc
+run_elsewhere draw (MakeFolder new) h = embryo_elsewhere draw new h
+run_elsewhere draw (MoveFolder from to) h = moved_on_elsewhere draw area.Run refl from to h
 run_elsewhere draw request h = tt
 
 pub run_keeps : (draw : PodId) {me : ℕ} {old new : List Event} → Extends (in_process (makes_and_runs draw)) me old new → Quiet me old new → ImagesStay old new

@@ -358,33 +358,29 @@ module _ (draw : PodId) where
   apart : (from : Spot) → spot_eq from Here ≡ true → spot_eq from (pod_spot draw area.Prepare) ≡ true → ⊥
   apart from here there = let clash : false ≡ true = sym (ap (λ (z : Spot). spot_eq z (pod_spot draw area.Prepare)) (one_location from Here here)) ∙ there in cc
 
-  pub prepare_elsewhere : (request : Request) → in_process (prepares_pod draw) request ≡ true → MovesElsewhere draw request
-  prepare_elsewhere (MoveFolder from to) h =
-      by (spot_eq from Here) (spot_eq to (pod_spot draw area.Prepare)) (spot_eq from (pod_spot draw area.Prepare)) (spot_eq to (pod_spot draw area.Prepared)) refl refl refl refl (or_nothing (prepares_pod draw (MoveFolder from to)) h)
+  -- a move from embryo to prepare, or from there to such an area
+  goes_elsewhere : (last : Area) → spot_eq (pod_spot draw last) Here ≡ false → (from to : Spot) →
+      (((spot_eq from Here && spot_eq to (pod_spot draw area.Prepare)) || ((spot_eq from (pod_spot draw area.Prepare) && spot_eq to (pod_spot draw last)) || false)) || false) ≡ true →
+      (spot_eq to Here ≡ false) × (spot_eq from Here ≡ true → is_in area.Prepare to.area ≡ true)
+  goes_elsewhere last off from to h =
+      by (spot_eq from Here) (spot_eq to (pod_spot draw area.Prepare)) (spot_eq from (pod_spot draw area.Prepare)) (spot_eq to (pod_spot draw last)) refl refl refl refl h
     where
-      by : (a b d g : Bool) → spot_eq from Here ≡ a → spot_eq to (pod_spot draw area.Prepare) ≡ b → spot_eq from (pod_spot draw area.Prepare) ≡ d → spot_eq to (pod_spot draw area.Prepared) ≡ g → (((a && b) || ((d && g) || false)) || false) ≡ true
+      by : (a b d g : Bool) → spot_eq from Here ≡ a → spot_eq to (pod_spot draw area.Prepare) ≡ b → spot_eq from (pod_spot draw area.Prepare) ≡ d → spot_eq to (pod_spot draw last) ≡ g → (((a && b) || ((d && g) || false)) || false) ≡ true
           → (spot_eq to Here ≡ false) × (spot_eq from Here ≡ true → is_in area.Prepare to.area ≡ true)
       by a true d g k e l f h = (moved_on (pod_spot draw area.Prepare) to refl e, λ here. ap (λ (z : Spot). is_in area.Prepare z.area) (one_location to (pod_spot draw area.Prepare) e))
-      by a false true true k e l f h = (moved_on (pod_spot draw area.Prepared) to refl f, λ here. absurd (apart from here l))
+      by a false true true k e l f h = (moved_on (pod_spot draw last) to off f, λ here. absurd (apart from here l))
       by true false true false k e l f h = cc
       by true false false g k e l f h = cc
       by false false true false k e l f h = cc
       by false false false g k e l f h = cc
+
+  pub prepare_elsewhere : (request : Request) → in_process (prepares_pod draw) request ≡ true → MovesElsewhere draw request
+  prepare_elsewhere (MoveFolder from to) h = goes_elsewhere area.Prepared refl from to (or_nothing (prepares_pod draw (MoveFolder from to)) h)
   prepare_elsewhere (RemoveFolder gone) h = cc
   prepare_elsewhere request h = tt
 
   pub run_elsewhere : (request : Request) → in_process (makes_and_runs draw) request ≡ true → MovesElsewhere draw request
-  run_elsewhere (MoveFolder from to) h =
-      by (spot_eq from Here) (spot_eq to (pod_spot draw area.Prepare)) (spot_eq from (pod_spot draw area.Prepare)) (spot_eq to (pod_spot draw area.Run)) refl refl refl refl (or_nothing (makes_and_runs draw (MoveFolder from to)) h)
-    where
-      by : (a b d g : Bool) → spot_eq from Here ≡ a → spot_eq to (pod_spot draw area.Prepare) ≡ b → spot_eq from (pod_spot draw area.Prepare) ≡ d → spot_eq to (pod_spot draw area.Run) ≡ g → (((a && b) || ((d && g) || false)) || false) ≡ true
-          → (spot_eq to Here ≡ false) × (spot_eq from Here ≡ true → is_in area.Prepare to.area ≡ true)
-      by a true d g k e l f h = (moved_on (pod_spot draw area.Prepare) to refl e, λ here. ap (λ (z : Spot). is_in area.Prepare z.area) (one_location to (pod_spot draw area.Prepare) e))
-      by a false true true k e l f h = (moved_on (pod_spot draw area.Run) to refl f, λ here. absurd (apart from here l))
-      by true false true false k e l f h = cc
-      by true false false g k e l f h = cc
-      by false false true false k e l f h = cc
-      by false false false g k e l f h = cc
+  run_elsewhere (MoveFolder from to) h = goes_elsewhere area.Run refl from to (or_nothing (makes_and_runs draw (MoveFolder from to)) h)
   run_elsewhere (RemoveFolder gone) h = cc
   run_elsewhere request h = tt
 

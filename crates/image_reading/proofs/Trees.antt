@@ -1,6 +1,5 @@
 -- Of which images the listings are read, call by call.
-use Rattle.std.proofs.Common.{◌≡◌, Bool, true, false, not, ◌&&◌, ◌||◌, bytes_eq, nat_eq, ℕ, List, [], ◌∷◌, refl, ap, sym, subst, ◌∙◌}
-use Rattle.std.specs.List.{list_any}
+use Rattle.std.proofs.Common.{◌≡◌, Bool, true, false, not, ◌&&◌, ◌||◌, bytes_eq, ℕ, List, [], ◌∷◌, refl, ap, ◌∙◌}
 use Rattle.std.proofs.lemmas.Slice.Eq.{bytes_eq-Decides}
 use Rattle.ac_types.specs.declared.store_key.StoreKey.{StoreKey}
 use Rattle.dir_model.specs.declared.area.Area.{Area}
@@ -11,13 +10,13 @@ use Rattle.dir_model.specs.declared.request.Request.TheVariants.{ListArea, ListI
 use Rattle.dir_model.specs.declared.request.Reply.{Reply}
 use Rattle.dir_model.specs.declared.spot.Spot.{Spot}
 use Rattle.dir_model.specs.State.{spot_eq}
-use Rattle.dir_model.proofs.Lists.{and_left, and_right, and_false, or_map, or_last}
+use Rattle.dir_model.proofs.Lists.{and_right, and_false, or_map, or_last}
 use Rattle.dir_model.proofs.Chains.{nothing_yet, extends_wider, and_more}
 use Rattle.dir_rules.specs.Standing.{is_in}
 use Rattle.dir_trait.specs.DirCalls.{DirAt, ListCall}
 use Rattle.dir_trait.proofs.ListCalls.{list_extends}
 use Rattle.dir_files.specs.Reads.{inner_at, OnlyReads, reads_at}
-use Rattle.image_reading.specs.Places.{image_spot, tree_name}
+use Rattle.image_reading.specs.Places.{tree_name}
 use Rattle.image_reading.specs.Looks.{reads_image, OnlyReadsImage}
 use Rattle.image_reading.specs.Trees.{is_tree, is_of_one, reads_trees_of, ReadsTreesOf, ReadsNoTrees}
 

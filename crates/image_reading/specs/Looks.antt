@@ -1,5 +1,5 @@
 -- What a process asks for that reads images, and what it knows afterwards.
-use Rattle.std.specs.Prelude.{◌≡◌, ◌≤◌, Bool, true, false, ◌&&◌, is_some, List}
+use Rattle.std.specs.Prelude.{◌≡◌, Bool, true, false, ◌&&◌, is_some, List}
 use Rattle.std.specs.List.{list_any}
 use Rattle.ac_types.specs.declared.store_key.StoreKey.{StoreKey}
 use Rattle.dir_model.specs.declared.area.Area.TheVariants.{Images}
@@ -13,7 +13,7 @@ use Rattle.dir_model.specs.State.{spot_eq}
 use Rattle.dir_rules.specs.declared.seen.Seen.{Seen}
 use Rattle.dir_rules.specs.declared.seen.ShownArea.{ShownArea}
 use Rattle.dir_rules.specs.Standing.{is_in, is_gate_of, excludes_area}
-use Rattle.dir_trait.specs.DirCalls.{DirAt, ExtendsBy}
+use Rattle.dir_trait.specs.DirCalls.{DirAt}
 use Rattle.dir_trait.specs.Knowledge.{Knows}
 use Rattle.dir_trait.specs.Effects.{OnlyAsksAndKeeps}
 use Rattle.dir_files.specs.Reads.{KeepsKnown, may_read}

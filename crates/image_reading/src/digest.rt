@@ -24,10 +24,14 @@ fn digest_of<D: Dir>(alloc: Global, dir: &mut D, key: StoreKey) -> Result<[u8; 6
     ensures read { IfOk result (λ digest. D.observed ≡ true → ReadsParts key digest (D.shown dir.old) (D.shown dir.new)) }
     ensures damaged { IfErr result (λ e. D.observed ≡ true → LacksDigest key e (D.shown dir.old) (D.shown dir.new)) }
 {
-    let kept = read_manifest(alloc, dir, key)?;
+    // The manifest goes here: each exit below would have to drop it, field by field.
+    let bytes = {
+        let kept = read_manifest(alloc, dir, key)?;
+        kept.bytes
+    };
     let id = read_id(alloc, dir, key)?;
     let listing = read_listing(alloc, dir, key)?;
-    match listing.image_digest(alloc, id, &kept.bytes) {
+    match listing.image_digest(alloc, id, &bytes) {
         Ok(digest) => Ok(digest),
         Err(error) => Err(out_of_memory(error)),
     }

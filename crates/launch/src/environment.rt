@@ -1,6 +1,6 @@
 // The environment of an app's programs.
-ghost use Rattle.std.specs.Prelude.{◌≡◌, ◌++◌, ℕ, List, None, bytes_eq, false, IfOk, OnOk, map, option_map, cond, string_bytes};
-ghost use Rattle.launch.specs.LastValues.{kept_value_at};
+ghost use Rattle.std.specs.Prelude.{◌≡◌, ◌++◌, IfOk, OnOk, map, option_map, string_bytes};
+ghost use Rattle.launch.specs.LastValues.{kept_value_at, TakesValueOut};
 ghost use Rattle.launch.specs.Environment.{has_variable, last_value, variable_if_unreserved, is_reserved_variable, path_name, default_path, search_path, default_path_if_unset, metadata_address, variables_from_manifest, variable_of, environment_of};
 
 use crate::last_values::LastValues;
@@ -55,7 +55,7 @@ fn with_first(
     values: &mut LastValues,
 ) -> Result<Words, NoMemory>
     ensures words { IfOk result (λ longer. longer ≡ words ++ variable_if_unreserved name.now (kept_value_at values.old name.now)) }
-    ensures rest { OnOk result ((other : List ℕ) → is_reserved_variable other ≡ false → kept_value_at values.new other ≡ cond (bytes_eq name.now other) None (kept_value_at values.old other)) }
+    ensures rest { OnOk result (TakesValueOut name.now values.old values.new) }
 {
     if is_reserved(name) {
         return Ok(words);

@@ -21,7 +21,7 @@ use crate::target::{path_of, token_of};
 use crate::view::{ImageBytes, PodView};
 use ac_types::{NoMemory, ReadError, Text};
 use dir_model::PodId;
-use manifests::{RuntimeApp, pod_bytes, read_image};
+use manifests::{Annotation, RuntimeApp, pod_bytes, read_image};
 use metadata_request::{Body, Request};
 use std::alloc::Global;
 
@@ -43,18 +43,32 @@ fn image_reply(alloc: Global, image: &ImageBytes) -> Result<Reply, NoMemory>
     }
 }
 
-/// The annotations of an app, merged.
+/// The annotations of an app: those of its image, and then its own, merged.
+fn annotations_of(
+    alloc: Global,
+    app: &RuntimeApp,
+    image: &ImageBytes,
+) -> Result<Vec<Annotation>, NoMemory>
+    requires { HasReading image.now.bytes }
+    ensures { IfOk result (λ list. list.items ≡ app_annotations (runtime_app_data app.now) image.now.bytes) }
+{
+    match read_image(alloc, image.bytes.as_slice()) {
+        Ok(manifest) => merge(
+            alloc,
+            manifest.annotations.as_slice(),
+            app.annotations.as_slice(),
+        ),
+        Err(ReadError::NoMemory) => Err(NoMemory),
+        Err(ReadError::Bad(_)) => unreachable!(),
+    }
+}
+
+/// The JSON of the annotations of an app.
 fn annotations_reply(alloc: Global, app: &RuntimeApp, image: &ImageBytes) -> Result<Reply, NoMemory>
     requires { HasReading image.now.bytes }
     ensures { IfOk result (λ reply. reply ≡ found Media.Json (annotations_text (app_annotations (runtime_app_data app.now) image.now.bytes))) }
 {
-    let manifest = match read_image(alloc, image.bytes.as_slice()) {
-        Ok(manifest) => manifest,
-        Err(ReadError::NoMemory) => return Err(NoMemory),
-        Err(ReadError::Bad(_)) => unreachable!(),
-    };
-    let first = manifest.annotations.as_slice();
-    let list = merge(alloc, first, app.annotations.as_slice())?;
+    let list = annotations_of(alloc, app, image)?;
     Ok(Reply::found(Media::Json, annotations_text(alloc, &list)?))
 }
 

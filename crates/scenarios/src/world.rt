@@ -80,10 +80,15 @@ impl World {
         }
     }
 
+    // The scenario that the lines go on in, or none.
+    fn enter(&mut self, stage: Option<Stage>) {
+        self.stage = stage;
+    }
+
     // A title begins a scenario, in an empty data folder; a comment inside of one doesn't.
     fn begin(&mut self, page: &mut Page, place: usize) {
         if self.stage.is_none() {
-            self.stage = page.made(Stage::new(page.alloc()));
+            self.enter(page.made(Stage::new(page.alloc())));
             self.start = place.saturating_add(1);
         }
     }
@@ -91,7 +96,10 @@ impl World {
     // The scenario goes on from where the block with that title ended.
     fn follow(&mut self, page: &mut Page, lines: &[String], title: &str) {
         match Before::block(lines, title) {
-            Some(before) => self.stage = before.stage(page, &self.names),
+            Some(before) => {
+                let stage = before.stage(page, &self.names);
+                self.enter(stage);
+            }
             None => page.unread(Unread::Name),
         }
     }
@@ -116,7 +124,7 @@ impl Player for World {
             to: place,
         };
         match text.split_once(' ') {
-            None if text.is_empty() => self.stage = None,
+            None if text.is_empty() => self.enter(None),
             Some(("#", _)) => self.begin(page, place),
             Some(("let", definition)) => self.names.define(page, definition),
             Some(("after", title)) => self.follow(page, lines, title),

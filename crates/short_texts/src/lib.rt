@@ -1,4 +1,4 @@
-//! What the programs share that play scripts of single calls: texts with short names, repeats and escapes in
+//! What the program and the library share that play scripts of single calls: texts with short names, repeats and escapes in
 //! them, paths and entries as letters, and how answers are printed.
 #![tactic(auto)]
 

@@ -1,11 +1,13 @@
-//! Plays a script of single calls of the libraries of names, manifests, paths, trees, bundles and command
-//! lines: prints each line again, and below it what the call really answers. A script that says what comes is
-//! its own expectation.
+//! Plays three scripts in one, and prints each line again with what really came. A line `script vectors`,
+//! `script buildings` or `script pods` says of which the lines below it are: single calls of the libraries of
+//! names, manifests, paths, trees, bundles and command lines; plans that are carried out in the data folder in
+//! memory; or single calls on images, pods and apps. A script that says what comes is its own expectation.
 #![tactic(auto)]
 
 mod answers;
 mod asked_pods;
 mod bundles;
+mod chosen;
 mod command_lines;
 mod command_words;
 mod documents;
@@ -16,43 +18,16 @@ mod names;
 mod parts;
 mod paths;
 mod phases;
+mod played;
 mod sections;
 mod sequences;
 mod wide;
 
-use crate::answers::answer;
-use scripts::{Page, Player, play_all};
-use short_texts::{TextNames, print_answer};
+use crate::chosen::Scripts;
+use scripts::play_all;
 use std::process::ExitCode;
 
-/// The names that the script has given so far.
-#[derive(Drop)]
-struct Vectors {
-    names: TextNames,
-}
-
-impl Player for Vectors {
-    fn play(&mut self, page: &mut Page, lines: &[String], place: usize) {
-        let line = match lines.get(place) {
-            Some(line) => line.as_str(),
-            None => "",
-        };
-        if line.is_empty() || line.starts_with('#') {
-            return;
-        }
-        match line.strip_prefix("let ") {
-            Some(rest) => self.names.define(page, rest),
-            None => {
-                answer(page, &self.names, line);
-                print_answer(page, &self.names);
-            }
-        }
-    }
-}
-
 fn main(rt: HostRuntime) -> ExitCode {
-    let mut vectors = Vectors {
-        names: TextNames::new(rt.alloc()),
-    };
-    play_all(&rt, &mut vectors)
+    let mut scripts = Scripts::new(rt.alloc());
+    play_all(&rt, &mut scripts)
 }

@@ -1,7 +1,6 @@
-use Rattle.std.proofs.Common.{◌≡◌, ◌∙◌, List, ℕ, Option, Some, option_map, IfOk, true, false, not, ap, subst, sym}
+use Rattle.std.proofs.Common.{◌≡◌, ◌∙◌, List, ℕ, true, false, not, ap, sym}
 use Rattle.std.specs.Option.{is_none, is_some}
-use Rattle.metadata_reply.specs.declared.resource.Resource.{Resource}
-use Rattle.metadata_reply.specs.Answers.{view_app_names, answer_of}
+use Rattle.metadata_reply.specs.Answers.{view_app_names}
 use Rattle.metadata_reply.specs.Resources.{lookup, table}
 use Rattle.metadata_reply.specs.Targets.{token_of, target_path}
 use Rattle.metadata_reply.specs.Views.{view_data}

@@ -1,8 +1,6 @@
-use Rattle.std.proofs.Common.{◌≡◌, List, ℕ, map, take, sym, ap, subst, Ok}
-use Rattle.std.specs.List.{All}
+use Rattle.std.proofs.Common.{ap, subst, Ok}
 use Rattle.std.proofs.lemmas.List.{take_all}
-use Rattle.metadata_reply.specs.declared.view.ImageBytes.{ImageBytes}
-use Rattle.metadata_reply.specs.Views.{image_bytes, HasReading}
+use Rattle.metadata_reply.specs.Views.{HasReading}
 use Rattle.metadata_reply.proofs.Manifests.{one_more, one_of_all, AllRead}
 use Rattle.metadata_reply.proofs.views.all_have_readings.Goals as goal
 

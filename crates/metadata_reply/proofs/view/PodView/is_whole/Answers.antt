@@ -1,6 +1,6 @@
-use Rattle.std.proofs.Common.{◌≡◌, ◌∙◌, List, ℕ, length, ap, sym, subst}
+use Rattle.std.proofs.Common.{◌≡◌, ◌∙◌, List, length, ap, sym, subst}
 use Rattle.manifests.specs.declared.runtime_app.RuntimeApp.{RuntimeApp}
-use Rattle.metadata_reply.proofs.Manifests.{whole_when_read, other_count, AllRead}
+use Rattle.metadata_reply.proofs.Manifests.{whole_when_read, AllRead}
 use Rattle.metadata_reply.proofs.view.PodView.is_whole.Goals as goal
 
 pub returns-clause-whole : goal.returns-clause-whole

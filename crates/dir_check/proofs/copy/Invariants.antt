@@ -1,5 +1,0 @@
-use Rattle.dir_model.specs.Local.{IsActive}
-use Rattle.dir_check.proofs.copy.Given as goal
-
-abbrev pub invariant-pieces : goal.invariant-pieces
-invariant-pieces g l = IsActive (g.D.Dir.shown l.dir).local

@@ -1,5 +1,0 @@
-use Rattle.dir_model.specs.Local.{IsActive}
-use Rattle.dir_check.proofs.perform_all.Given as goal
-
-abbrev pub invariant-calls : goal.invariant-calls
-invariant-calls g l = IsActive (g.D.Dir.shown l.dir).local
