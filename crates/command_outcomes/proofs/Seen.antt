@@ -2,13 +2,10 @@
 use Rattle.std.proofs.Common.{arith, ◌≡◌, ◌≤◌, ℕ, Bool}
 use Rattle.dir_model.specs.Causes.{Rose}
 use Rattle.dir_trait.specs.DirCalls.{DirAt}
-use Rattle.command_outcomes.specs.Moments.{DirSeen, BundleSeen, Outside}
+use Rattle.command_outcomes.specs.Moments.{BundleSeen, Outside}
 
-abbrev pub seen_at : Bool → DirAt → DirSeen
-seen_at observed d = record { observed = observed; process = d.process; faults = d.faults; local = d.local; trace = d.trace }
-
-abbrev pub beside : DirSeen → BundleSeen → Outside
-beside dir bundle = record { dir = dir; bundle = bundle }
+abbrev pub beside : Bool → DirAt → BundleSeen → Outside
+beside observed dir bundle = record { observed = observed; dir = dir; bundle = bundle }
 
 pub rose_wider : (a b c d : ℕ) → a ≤ b → Rose b c → d ≡ c → Rose a d
 rose_wider a b c d ab rose dc = omega arith

@@ -7,16 +7,11 @@ use Rattle.dir_rules.specs.declared.seen.Seen.{Seen}
 use Rattle.dir_rules.specs.Conforms.{Conforms, nothing_seen, seen_replied}
 use Rattle.dir_trait.specs.DirCalls.{DirAt}
 use Rattle.dir_trait.specs.Knowledge.{Knows}
-use Rattle.command_outcomes.specs.Moments.{DirSeen}
-
--- what the directory shows, but for the calls
-abbrev pub dir_at_moment : DirSeen → DirAt
-dir_at_moment d = record { process = d.process; faults = d.faults; calls = 0; local = d.local; trace = d.trace }
 
 -- by what the process knows, each of its requests so far was allowed
-pub record KeepsRules (d : DirSeen) : Type 0 where
+pub record KeepsRules (d : DirAt) : Type 0 where
   pub known : Seen
-  pub knows : Knows (dir_at_moment d) known
+  pub knows : Knows d known
   pub kept : known.kept ≡ true
 
 -- what a process knows that has just begun
@@ -24,9 +19,9 @@ abbrev pub seen_at_begin : Intent → Seen
 seen_at_begin intent = seen_replied nothing_seen (Begin intent) Done
 
 -- a process that had just begun has kept the rules since
-abbrev pub StaysConforming : Intent → DirSeen → DirSeen → Type 0
-StaysConforming intent old new = Knows (dir_at_moment old) (seen_at_begin intent) → KeepsRules new
+abbrev pub StaysConforming : Intent → DirAt → DirAt → Type 0
+StaysConforming intent old new = Knows old (seen_at_begin intent) → KeepsRules new
 
 -- where the process kept the local rules before, it keeps them afterwards
-abbrev pub KeepsConforming : DirSeen → DirSeen → Type 0
+abbrev pub KeepsConforming : DirAt → DirAt → Type 0
 KeepsConforming old new = Conforms old.process old.trace → Conforms old.process new.trace

@@ -1,6 +1,5 @@
 -- What the outside shows at a moment.
 use Rattle.std.specs.Prelude.{ℕ, Bool, true, List, Result, Ok, Err}
-use Rattle.dir_model.specs.declared.event.Event.{Event}
 use Rattle.dir_trait.specs.declared.dir.Dir.{Ghosts as DirGhosts}
 use Rattle.dir_trait.specs.declared.bundle.Bundle.{Ghosts as BundleGhosts}
 use Rattle.dir_trait.specs.declared.bundle.BundleRequest.{BundleRequest}
@@ -9,24 +8,8 @@ use Rattle.dir_trait.specs.Bundles.{BundleTree}
 use Rattle.spawner.specs.declared.spawning.Spawner.{Ghosts as SpawnerGhosts}
 use Rattle.spawner.specs.Calls.{SpawnerAt}
 use Rattle.dir_trait.specs.DirCalls.{DirAt}
-use Rattle.dir_trait.specs.Local.{Local}
 use Rattle.command_outcomes.specs.declared.refusal.Refusal.{Refusal}
 use Rattle.command_outcomes.specs.declared.told.Told.{Told}
-
--- a directory
-pub record DirSeen : Type 0 where
-  pub observed : Bool
-  pub process : ℕ
-  pub faults : ℕ
-  pub local : Local
-  pub trace : List Event
-
-abbrev pub dir_at : {D : Type 0} → DirGhosts D → D → DirSeen
-dir_at g dir = record { observed = g.observed; process = (g.shown dir).process; faults = (g.shown dir).faults; local = (g.shown dir).local; trace = (g.shown dir).trace }
-
--- the same of what it shows, whatever the count of its calls
-abbrev pub dir_seen : Bool → DirAt → DirSeen
-dir_seen observed d = record { observed = observed; process = d.process; faults = d.faults; local = d.local; trace = d.trace }
 
 -- a bundle
 pub record BundleSeen : Type 0 where
@@ -51,11 +34,12 @@ sink_at g sink = record { observed = g.observed; bytes = (g.shown sink).bytes; f
 
 -- what a command works on
 pub record Outside : Type 0 where
-  pub dir : DirSeen
+  pub observed : Bool
+  pub dir : DirAt
   pub bundle : BundleSeen
 
 abbrev pub outside_at : {D B : Type 0} → DirGhosts D → BundleGhosts B → D → B → Outside
-outside_at d b dir bundle = record { dir = dir_at d dir; bundle = bundle_at b bundle }
+outside_at d b dir bundle = record { observed = d.observed; dir = d.shown dir; bundle = bundle_at b bundle }
 
 -- a spawner
 pub record SpawnerSeen : Type 0 where
@@ -67,11 +51,12 @@ spawner_at g spawner = record { observed = g.observed; shown = g.shown spawner }
 
 -- what a command works on that starts apps
 pub record Inside : Type 0 where
-  pub dir : DirSeen
+  pub observed : Bool
+  pub dir : DirAt
   pub spawner : SpawnerSeen
 
 abbrev pub inside_at : {D S : Type 0} → DirGhosts D → SpawnerGhosts S → D → S → Inside
-inside_at d s dir spawner = record { dir = dir_at d dir; spawner = spawner_at s spawner }
+inside_at d s dir spawner = record { observed = d.observed; dir = d.shown dir; spawner = spawner_at s spawner }
 
 -- what a run works on: that, the spawner, the output and the error output
 pub record Moment : Type 0 where

@@ -1,5 +1,5 @@
 -- The command `run-prepared`: from the claim and the run to what is told.
-use Rattle.std.proofs.Common.{◌≡◌, inl, inr, ℕ, Bool, true, List, [], Ok, Err, IfErr, refl}
+use Rattle.std.proofs.Common.{◌≡◌, ◌⊎◌, inl, inr, ℕ, Bool, true, List, [], Ok, Err, IfErr, refl}
 use Rattle.dir_model.specs.declared.pod.PodId.{PodId}
 use Rattle.dir_trait.specs.DirCalls.{DirAt, ExtendsBy}
 use Rattle.spawner.specs.Calls.{SpawnerAt}
@@ -16,10 +16,10 @@ use Rattle.pod_locks.specs.ClaimRequests.{claims}
 use Rattle.pod_locks.specs.Work.{Grew, WhereObservedKnew, MovedNothing, TookBoth}
 use Rattle.command_outcomes.specs.declared.refusal.Refusal.{Refusal}
 use Rattle.command_outcomes.specs.declared.refusal.Refusal.TheVariants.{NoPod, WrongPhase, PodBusy, DirFault, SpawnFault}
-use Rattle.command_outcomes.specs.Moments.{Answer, Inside, dir_seen, SpawnerSeen}
+use Rattle.command_outcomes.specs.Moments.{Answer}
 use Rattle.commands.specs.RunRefusals.{claim_refusal, apps_refusal, run_prepared_refusal}
 use Rattle.commands.specs.AppRuns.{RunSays}
-use Rattle.commands.specs.RunPrepared.{RunPreparedSays}
+use Rattle.commands.specs.RunPrepared.{ClaimsAndRuns, IsUnclaimed}
 
 pub claim_fault : (pod : PodId) (e : ClaimError) → claim_refusal pod e ≡ DirFault → e ≡ claim.DirFault
 claim_fault pod claim.DirFault is = refl
@@ -44,22 +44,15 @@ pub run_in : (a : Answer) → IfErr a (λ r. apps_refusal r ≡ true) → IfErr 
 run_in (Ok told) h = tt
 run_in (Err r) h = apps_in r h
 
--- at a moment
-abbrev pub spawner_seen : Bool → SpawnerAt → SpawnerSeen
-spawner_seen observed s = record { observed = observed; shown = s }
-
-abbrev pub inside_of : Bool → Bool → DirAt → SpawnerAt → Inside
-inside_of seen observed d s = record { dir = dir_seen seen d; spawner = spawner_seen observed s }
-
 -- what is told
 module _ (seen observed : Bool) (pod : PodId) (address : List ℕ) (a c : DirAt) (s s' : SpawnerAt) (answer : Answer) where
   abbrev Says : Type 0
-  Says = RunPreparedSays pod address (inside_of seen observed a s) (inside_of seen observed c s') answer
+  Says = ClaimsAndRuns seen observed pod address a c s s' answer ⊎ IsUnclaimed seen pod a c s s' answer
 
   pub claimed_says : (b : DirAt) (owned : Owned) → IsOwned pod a.local owned → b.process ≡ a.process → (seen ≡ true → ExtendsBy (claims pod) a b) → (seen ≡ true → TookBoth pod owned.own a.process a.trace b.trace) → (seen ≡ true → HadBothAlone pod a.process a.trace b.trace) → (seen ≡ true → Grew b.trace c.trace) → RunSays seen observed owned address [] b c s s' answer → Says
-  claimed_says b owned is same asked took alone then says = record { from = a; to = c; begins = refl; ends = refl; so = inl (record { claimed = b; owned = owned; is_owned = is; same = same; asked = asked; took = took; alone = alone; then = then; says = says }) }
+  claimed_says b owned is same asked took alone then says = inl (record { claimed = b; owned = owned; is_owned = is; same = same; asked = asked; took = took; alone = alone; then = then; says = says })
 
   pub unclaimed_says : (e : ClaimError) → answer ≡ Err (claim_refusal pod e) → ClaimCause seen pod e a c → (seen ≡ true → MovedNothing a.process a.trace c.trace) → WhereObservedKnew seen MayClaim a (λ known. ClaimRefusedByAnother pod e a c) → WhereObservedKnew seen MayClaim a (λ known. MetOwner pod e a c) →
       WhereObservedKnew seen MayClaim a (λ known. IsConforming c.trace → IsFreeThroughout pod a c → IsClaimFailure e) → s' ≡ s → Says
   unclaimed_says e is cause still another owner complete unasked =
-      record { from = a; to = c; begins = refl; ends = refl; so = inr (record { error = e; is = is; cause = cause; still = still; another = another; owner = owner; complete = complete; unasked = unasked }) }
+      inr (record { error = e; is = is; cause = cause; still = still; another = another; owner = owner; complete = complete; unasked = unasked })

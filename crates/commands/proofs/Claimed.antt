@@ -35,7 +35,6 @@ use Rattle.stage1.specs.Keeping.{RunsWithoutNotes, KeepsToEnd}
 use Rattle.stage1.specs.Runs.{closes, runs_and_closes}
 use Rattle.stage1.specs.Runs as stage1
 use Rattle.command_outcomes.specs.Conforming.{seen_at_begin, StaysConforming}
-use Rattle.command_outcomes.specs.Moments.{dir_seen}
 use Rattle.commands.specs.RunPrepared.{runs_prepared, CanClaim}
 
 -- one handle more, and given up again
@@ -114,21 +113,21 @@ module _ (pod : PodId) (own : Handle) (intent : Intent) (known : Seen) (looked :
   was_kept : (with_pod pod own known).kept ≡ true
   was_kept = ap (λ (s : Seen). s.kept) looked.same
 
-  ends_so : (observed : Bool) (a b c : DirAt) → Knows b (with_pod pod own known) → KeepsToEnd pod own b c → StaysConforming intent (dir_seen observed a) (dir_seen observed c)
+  ends_so : (observed : Bool) (a b c : DirAt) → Knows b (with_pod pod own known) → KeepsToEnd pod own b c → StaysConforming intent a c
   ends_so observed a b c knows keeps k =
       let x = keeps (with_pod pod own known) knows fresh_claimed may_give in
-      record { known = x.known; knows = record { tied = x.knows.tied; handles = x.knows.handles }; kept = x.kept ∙ was_kept }
+      record { known = x.known; knows = x.knows; kept = x.kept ∙ was_kept }
 
 pub claimed_keeps : {observed : Bool} {m : Local} (pod : PodId) (owned : Owned) (intent : Intent) (a b c : DirAt) → IsOwned pod m owned → observed ≡ true → is_run_prepared intent.kind ≡ true → WhereObservedKnew observed MayClaim a (λ s. HasPod pod owned.own s b) →
-    KeepsToEnd owned.pod owned.own b c → StaysConforming intent (dir_seen observed a) (dir_seen observed c)
+    KeepsToEnd owned.pod owned.own b c → StaysConforming intent a c
 claimed_keeps {observed} pod owned intent a b c own t is held keeps k =
-    let h = held t (seen_at_begin intent) (may_begin intent is) (record { tied = k.tied; handles = k.handles }) in
+    let h = held t (seen_at_begin intent) (may_begin intent is) k in
     ends_so pod owned.own intent h.known h.looked observed a b c h.knows (subst (λ (p : PodId). KeepsToEnd p owned.own b c) own.is keeps) k
 
-pub unclaimed_keeps : {observed : Bool} (intent : Intent) (a b : DirAt) → observed ≡ true → is_run_prepared intent.kind ≡ true → WhereObservedKnew observed MayClaim a (λ s. LookedInto s b) → StaysConforming intent (dir_seen observed a) (dir_seen observed b)
+pub unclaimed_keeps : {observed : Bool} (intent : Intent) (a b : DirAt) → observed ≡ true → is_run_prepared intent.kind ≡ true → WhereObservedKnew observed MayClaim a (λ s. LookedInto s b) → StaysConforming intent a b
 unclaimed_keeps {observed} intent a b t is left k =
-    let l = left t (seen_at_begin intent) (may_begin intent is) (record { tied = k.tied; handles = k.handles }) in
-    record { known = l.known; knows = record { tied = l.knows.tied; handles = l.knows.handles }; kept = ap (λ (s : Seen). s.kept) l.looked.same }
+    let l = left t (seen_at_begin intent) (may_begin intent is) k in
+    record { known = l.known; knows = l.knows; kept = ap (λ (s : Seen). s.kept) l.looked.same }
 
 -- it runs the pod that it owns
 pub owned_runs : {observed : Bool} {m : Local} (pod : PodId) (owned : Owned) (a b : DirAt) → IsOwned pod m owned → (observed ≡ true → CanClaim a) → WhereObservedKnew observed MayClaim a (λ s. RunsPod pod b) → observed ≡ true → RunsPod owned.pod b

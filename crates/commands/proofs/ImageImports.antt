@@ -1,5 +1,5 @@
 -- The command `image import`: from its one call to what is told of it.
-use Rattle.std.proofs.Common.{arith, ◌≡◌, ◌⊎◌, inl, inr, ℕ, Bool, true, false, List, [], append-nil, None, Result, Ok, Err, IfErr, IsErrOf, refl, sym, ap, subst, ◌∙◌}
+use Rattle.std.proofs.Common.{arith, ◌≡◌, ◌⊎◌, inl, inr, ℕ, Bool, true, false, List, [], None, Result, Ok, Err, IfErr, IsErrOf, refl, sym, ap, subst, ◌∙◌}
 use Rattle.ac_types.specs.declared.store_key.StoreKey.{StoreKey}
 use Rattle.dir_model.specs.declared.area.Area.{Area}
 use Rattle.dir_model.specs.declared.intent.Intent.{Intent}
@@ -26,12 +26,10 @@ use Rattle.image_store.specs.Requests.{building_spot}
 use Rattle.image_store.specs.Work.{IsImport, IsAlone, WhereImporting, seen_importing}
 use Rattle.command_outcomes.specs.declared.refusal.Refusal.{Refusal}
 use Rattle.command_outcomes.specs.declared.refusal.Refusal.TheVariants.{Busy, DirFault, BundleFault, NoMemory}
-use Rattle.command_outcomes.specs.Moments.{DirSeen, BundleSeen, CommandOutcome}
-use Rattle.command_outcomes.specs.Conforming.{dir_at_moment, seen_at_begin, KeepsRules}
+use Rattle.command_outcomes.specs.Moments.{BundleSeen, CommandOutcome}
+use Rattle.command_outcomes.specs.Conforming.{seen_at_begin, KeepsRules}
 use Rattle.commands.specs.ImageImport.{key_line, image_import_refusal, import_listing_refusal, is_import_error, import_refusal, IsSaidOf, source_of, StoresImage, IsHeldFromImport, RefusesImage, ImageImportSays}
-use Rattle.command_outcomes.proofs.Seen.{seen_at, beside}
-use Rattle.commands.proofs.Parts.{within_wider}
-use Rattle.commands.proofs.ImportParts.{Span, refused_wider, turn_wider}
+use Rattle.command_outcomes.proofs.Seen.{beside}
 
 -- which refusals an import has
 bundle_error : (r : BundleRefusal) → is_import_error (bundle_refusal r) ≡ true
@@ -147,42 +145,28 @@ printed_no_error o text r (inl e) is other = let clash : Ok text ≡ Err r = sym
 printed_no_error o text r (inr e) is other = let same : Err NoMemory ≡ Err r = sym e ∙ is in let m : NoMemory ≡ r = cc in let clash : true ≡ false = ap is_memory m ∙ other in cc
 
 module _ (observed : Bool) (a b : DirAt) where
-  abbrev old : DirSeen
-  old = seen_at observed a
-
-  abbrev new : DirSeen
-  new = seen_at observed b
-
-  -- by what is seen of the directory
-  seen_span : Span observed (dir_at_moment old) a b (dir_at_moment new)
-  seen_span = record {
-    part = λ t. record { earlier = []; later = []; same = refl; begins = sym (append-nil a.trace); ends = sym (append-nil b.trace) };
-    before = omega arith;
-    after = omega arith;
-  }
-
-  at_begin : (intent : Intent) → Knows (dir_at_moment old) (seen_at_begin intent) → Knows a (seen_importing intent [] false None)
+  at_begin : (intent : Intent) → Knows a (seen_at_begin intent) → Knows a (seen_importing intent [] false None)
   at_begin intent k = record { tied = k.tied; handles = k.handles }
 
   -- it keeps the local rules
-  leaves_keeps : (draw : PodId) (now : ℕ) (image : BundleImage) (intent : Intent) (hs : List Held) (answer : Result Bool StoreError) → ImportLeaves draw now image intent hs answer a b → KeepsRules new
-  leaves_keeps draw now image intent hs (Ok false) l = record { known = _; knows = record { tied = l.knows.tied; handles = l.knows.handles }; kept = refl }
-  leaves_keeps draw now image intent hs (Ok true) l = record { known = _; knows = record { tied = l.knows.tied; handles = l.knows.handles }; kept = refl }
-  leaves_keeps draw now image intent hs (Err e) l = record { known = _; knows = record { tied = l.knows.tied; handles = l.knows.handles }; kept = refl }
+  leaves_keeps : (draw : PodId) (now : ℕ) (image : BundleImage) (intent : Intent) (hs : List Held) (answer : Result Bool StoreError) → ImportLeaves draw now image intent hs answer a b → KeepsRules b
+  leaves_keeps draw now image intent hs (Ok false) l = record { known = _; knows = l.knows; kept = refl }
+  leaves_keeps draw now image intent hs (Ok true) l = record { known = _; knows = l.knows; kept = refl }
+  leaves_keeps draw now image intent hs (Err e) l = record { known = _; knows = l.knows; kept = refl }
 
   pub import_keeps : (source : Source) (draw : PodId) (now : ℕ) (answer : Result Imported StoreError) → WhereImporting draw IsAlone false None a (λ intent hs. LeavesAtEnd source draw now intent hs answer a b) →
-      (intent : Intent) → IsImport draw intent → Knows (dir_at_moment old) (seen_at_begin intent) → KeepsRules new
+      (intent : Intent) → IsImport draw intent → Knows a (seen_at_begin intent) → KeepsRules b
   import_keeps source draw now (Ok done) left intent is k = let l = left intent [] is refl (at_begin intent k) in leaves_keeps draw now l.0 intent [] (Ok done.there) l.2
   import_keeps source draw now (Err e) left intent is k =
       let l = left intent [] is refl (at_begin intent k) in
-      record { known = seen_importing intent [] l.image_under_lock l.making; knows = record { tied = l.knows.tied; handles = l.knows.handles }; kept = refl }
+      record { known = seen_importing intent [] l.image_under_lock l.making; knows = l.knows; kept = refl }
 
   module _ (path : List ℕ) (now : ℕ) (draw : PodId) (before after : BundleSeen) where
     abbrev source : Source
     source = source_of path before
 
     abbrev Says : CommandOutcome → Type 0
-    Says o = ImageImportSays path now draw (beside old before) (beside new after) o
+    Says o = ImageImportSays path now draw (beside observed a before) (beside observed b after) o
 
     abbrev Still : Result Imported StoreError → Type 0
     Still answer = observed ≡ true → MovesAtEnd (building_spot draw) answer a b
@@ -194,12 +178,12 @@ module _ (observed : Bool) (a b : DirAt) where
     Brought done = done.there ≡ false → observed ≡ true → IsConforming b.trace → WhereImporting draw IsAlone false None a
         (λ intent hs. OfBundle source (λ image. (done.key ≡ key_of_image image) × IsImported a.process (building_spot draw) (image_spot done.key) (IsOf image now) a.trace b.trace))
 
-    stored : (done : Imported) → There done → Brought done → Still (Ok done) → observed ≡ true → IsConforming b.trace → (intent : Intent) → IsImport draw intent → Knows (dir_at_moment old) (seen_at_begin intent) →
-        StoresImage path now draw (beside old before) (beside new after) (key_line done.key)
+    stored : (done : Imported) → There done → Brought done → Still (Ok done) → observed ≡ true → IsConforming b.trace → (intent : Intent) → IsImport draw intent → Knows a (seen_at_begin intent) →
+        StoresImage path now draw (beside observed a before) (beside observed b after) (key_line done.key)
     stored done there brought still t conforming intent is k = by done.there refl
       where
-        by : (b : Bool) → done.there ≡ b → StoresImage path now draw (beside old before) (beside new after) (key_line done.key)
-        by true at = (there.0, there.1, (ap key_line there.2.0, inl (within_wider (seen_span.part t) (there.2.1 at t), subst (λ (was : Bool). Moves (building_spot draw) done.key (Ok was) a b) at (still t))))
+        by : (was : Bool) → done.there ≡ was → StoresImage path now draw (beside observed a before) (beside observed b after) (key_line done.key)
+        by true at = (there.0, there.1, (ap key_line there.2.0, inl (there.2.1 at t, subst (λ (was : Bool). Moves (building_spot draw) done.key (Ok was) a b) at (still t))))
         by false at =
             let x = brought at t conforming intent [] is refl (at_begin intent k) in
             (x.0, x.1, (ap key_line x.2.0, inr (subst (λ (key : StoreKey). IsImported a.process (building_spot draw) (image_spot key) (IsOf x.0 now) a.trace b.trace) x.2.0 x.2.1)))
@@ -211,13 +195,13 @@ module _ (observed : Bool) (a b : DirAt) where
     })
     printed_says done o (inr e) there brought still = subst Says (sym e) tt
 
-    refusal_says : (r : Refusal) → RefusesImage path (beside old before) (beside new after) r × IsHeldFromImport draw r old new → Says (Err r)
+    refusal_says : (r : Refusal) → RefusesImage path (beside observed a before) (beside observed b after) r × IsHeldFromImport observed draw r a b → Says (Err r)
     refusal_says NoMemory x = tt
     refusal_says r x = x
 
     pub refused_says : (e : StoreError) (r : Refusal) → IsSaidOf e r → IsImportRefused observed source e a b → RefusalComesInTurn observed source e a b → Still (Err e) → (observed ≡ true → WhereImporting draw IsAlone false None a (λ intent hs. ImportBusyElsewhere e a b)) → Says (Err r)
     refused_says e r (inr is) refused turn still another = subst (λ (x : Refusal). Says (Err x)) (sym is) tt
     refused_says e r (inl is) refused turn still another = refusal_says r (
-      record { error = e; is = is; cause = refused_wider seen_span source e refused; turn = turn_wider seen_span source e turn; still = still },
+      record { error = e; is = is; cause = refused; turn = turn; still = still },
       λ area busy t intent import k. another t intent [] import refl (at_begin intent k) area (busy_of e area (sym is ∙ busy)),
     )

@@ -33,9 +33,7 @@ use Rattle.standing_images.specs.Images.{StoodTogether}
 use Rattle.command_outcomes.specs.declared.refusal.Refusal.{Refusal}
 use Rattle.command_outcomes.specs.declared.refusal.Refusal.TheVariants as refusal
 use Rattle.command_outcomes.specs.Moments.{CommandOutcome}
-use Rattle.command_outcomes.specs.Conforming.{dir_at_moment}
 use Rattle.commands.specs.ImageList.{images_text, image_list_refusal, lists_images, images_lock_refusal, images_read_refusal, FindsFree, ImageListSays, WhereFree}
-use Rattle.command_outcomes.proofs.Seen.{seen_at}
 use Rattle.commands.proofs.Parts.{Part, store_wider, lacks_wider}
 
 -- the lock that was had is open and held
@@ -89,10 +87,6 @@ list_known {a} {b} {c} {d} {s} gate new k free kb named given = given fresh kc
         let n = named (with_gate s gate Images (Some Shared)) kb in
         subst (λ (areas : List ShownArea). Knows c (record (with_gate s gate Images (Some Shared)) { areas = areas })) (n.shared unclosed) n.knows
 
--- by what is seen of the directory
-shown_part : (observed : Bool) {a b c d : DirAt} → Part a b c d → Part (dir_at_moment (seen_at observed a)) b c (dir_at_moment (seen_at observed d))
-shown_part observed p = record { earlier = p.earlier; later = p.later; same = p.same; begins = p.begins; ends = p.ends }
-
 -- what comes of the images that were read
 module _ {V : Type 0} (items : V → List Stored) (observed : Bool) (a b c d : DirAt) (o : CommandOutcome) where
   abbrev Lists : Result V StoreError → Type 0
@@ -102,19 +96,19 @@ module _ {V : Type 0} (items : V → List Stored) (observed : Bool) (a b c d : D
   Refuses found = IfErr found (λ e. o ≡ Err (images_read_refusal e))
 
   abbrev Says : CommandOutcome → Type 0
-  Says x = ImageListSays (seen_at observed a) (seen_at observed d) x
+  Says x = ImageListSays observed a d x
 
   pub list_says : (found : Result V StoreError) → Lists found → Refuses found → IfErr found (IsReadRefusal IsStorePath) → (observed ≡ true → Part a b c d) →
       IfOk found (λ v. observed ≡ true → ReadsStore (items v) b c) → IfErr found (λ e. observed ≡ true → LacksStore e b c) →
-      ((images : List Stored) → (observed ≡ true → ReadsStore images b c) → WhereFree (seen_at observed a) (IsConforming d.trace → StoodTogether images a.process a.trace d.trace)) →
-      (observed ≡ true → FindsFree (seen_at observed a) (seen_at observed d)) → Says o
+      ((images : List Stored) → (observed ≡ true → ReadsStore images b c) → WhereFree observed a (IsConforming d.trace → StoodTogether images a.process a.trace d.trace)) →
+      (observed ≡ true → FindsFree a d) → Says o
   list_says (Ok v) (inl e) refuses at part read lacks stands free = subst Says (sym e) (
-    record { images = items v; free = free; told = λ t. store_wider (shown_part observed (part t)) (items v) (read t); is = refl },
+    record { images = items v; free = free; told = λ t. store_wider (part t) (items v) (read t); is = refl },
     λ t s k unheld conforming. record { images = items v; is = refl; stood = stands (items v) read t s k unheld conforming },
   )
   list_says (Ok v) (inr e) refuses at part read lacks stands free = subst Says (sym e) tt
   list_says (Err (Damaged path)) lists e at part read lacks stands free =
-      subst Says (sym e) (record { place = at; free = free; told = λ t. lacks_wider (shown_part observed (part t)) path (lacks t tt) })
+      subst Says (sym e) (record { place = at; free = free; told = λ t. lacks_wider (part t) path (lacks t tt) })
   list_says (Err error) lists e at part read lacks stands free = subst Says (sym e) tt
 
   pub list_refusals : (found : Result V StoreError) → Lists found → Refuses found → IfErr o (λ r. image_list_refusal r ≡ true)

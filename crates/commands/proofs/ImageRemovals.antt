@@ -19,17 +19,15 @@ use Rattle.image_removal.specs.Work.{MayRemoveImage, MaySweepStore}
 use Rattle.command_outcomes.specs.declared.refusal.Refusal.{Refusal}
 use Rattle.command_outcomes.specs.declared.refusal.Refusal.TheVariants.{NoMemory}
 use Rattle.command_outcomes.specs.Moments.{CommandOutcome}
-use Rattle.command_outcomes.specs.Conforming.{dir_at_moment}
 use Rattle.commands.specs.ImageRm.{refusal_of_removal, IsRemovalSaid, FindsBusy, ImageRmSays}
 use Rattle.commands.specs.ImageGc.{sweep_texts, ImageGcSays, EndsEarly}
 use Rattle.image_removal.specs.Ended.{EndsImageSweepBetween}
 use Rattle.commands.specs.Strays.{NeverComes}
-use Rattle.command_outcomes.proofs.Seen.{seen_at}
 
 -- why an image wasn't removed, and what is said of it
 module _ (observed : Bool) (a b : DirAt) (key : StoreKey) (draw : PodId) where
   abbrev Says : CommandOutcome → Type 0
-  Says o = ImageRmSays key draw (seen_at observed a) (seen_at observed b) o
+  Says o = ImageRmSays observed key draw a b o
 
   abbrev Another : StoreError → Type 0
   Another e = observed ≡ true → (s : Seen) → Knows a s → MayRemoveImage draw s → RemovalBusyElsewhere e a b
@@ -40,16 +38,16 @@ module _ (observed : Bool) (a b : DirAt) (key : StoreKey) (draw : PodId) where
   said : (e : StoreError) → ImageRemovalCause observed key draw e a b → Another e → Lawful e → Says (Err (refusal_of_removal e))
   said (store_error.Busy area) cause another lawful = λ t s k may. by area (cause.busy area refl) t s k may another
     where
-      by : (here : Area) → (here ≡ Images) × (observed ≡ true → WasBusy a b) → observed ≡ true → (s : Seen) → Knows (dir_at_moment (seen_at observed a)) s → MayRemoveImage draw s → Another (store_error.Busy here) →
+      by : (here : Area) → (here ≡ Images) × (observed ≡ true → WasBusy a b) → observed ≡ true → (s : Seen) → Knows a s → MayRemoveImage draw s → Another (store_error.Busy here) →
           FindsBusy a.process a.trace b.trace
       by here x t s k may another = record {
-        held = subst (λ (q : Area). HeldBetween a b (IsBusyElsewhere a.process q Exclusive)) x.0 (another t s (record { tied = k.tied; handles = k.handles }) may here refl);
+        held = subst (λ (q : Area). HeldBetween a b (IsBusyElsewhere a.process q Exclusive)) x.0 (another t s k may here refl);
         only = (x.1 t).only;
       }
   said (store_error.NoImage other) cause another lawful = let f = cause.absent other refl in record { is = ap (λ (q : StoreKey). id_text q.bytes) f.0; found = f.1 }
   said store_error.DirFault cause another lawful = tt
   said store_error.NoMemory cause another lawful = tt
-  said store_error.Stray cause another lawful = (λ t. cause.stray refl t, λ t s k may. lawful refl t s (record { tied = k.tied; handles = k.handles }) may)
+  said store_error.Stray cause another lawful = (λ t. cause.stray refl t, λ t s k may. lawful refl t s k may)
   said e cause another lawful = let clash : false ≡ true = cause.kind in cc
 
   pub refused_says : (e : StoreError) (r : Refusal) → IsRemovalSaid e r → ImageRemovalCause observed key draw e a b → Another e → Lawful e → Says (Err r)
@@ -59,12 +57,12 @@ module _ (observed : Bool) (a b : DirAt) (key : StoreKey) (draw : PodId) where
 -- what a sweep printed, or why it ended early
 module _ (observed : Bool) (a b : DirAt) where
   abbrev SweepSays : CommandOutcome → Type 0
-  SweepSays o = ImageGcSays (seen_at observed a) (seen_at observed b) o
+  SweepSays o = ImageGcSays observed a b o
 
   pub swept_says : (lines : List SweepLine) (o : CommandOutcome) → (o ≡ Ok (sweep_texts lines)) ⊎ (o ≡ Err NoMemory) →
       (observed ≡ true → (s : Seen) → Knows a s → MaySweepStore s → IsStoreSweptBetween (BusyApart a.process) a b lines) → SweepSays o
   swept_says lines o (inr e) swept = subst SweepSays (sym e) tt
-  swept_says lines o (inl e) swept = subst SweepSays (sym e) (record { lines = lines; is = refl; swept = λ t s k may. swept t s (record { tied = k.tied; handles = k.handles }) may })
+  swept_says lines o (inl e) swept = subst SweepSays (sym e) (record { lines = lines; is = refl; swept = λ t s k may. swept t s k may })
 
   abbrev SweepLawful : StoreError → Type 0
   SweepLawful e = e ≡ store_error.Stray → observed ≡ true → (s : Seen) → Knows a s → MaySweepStore s → NeverComes b.trace
@@ -72,7 +70,7 @@ module _ (observed : Bool) (a b : DirAt) where
   early : (e : StoreError) → RemovalWorkCause observed e a b → (observed ≡ true → EndsEarly a.process a.trace b.trace) → SweepLawful e → SweepSays (Err (refusal_of_removal e))
   early store_error.DirFault cause ends lawful = ends
   early store_error.NoMemory cause ends lawful = tt
-  early store_error.Stray cause ends lawful = (λ t. record { stray = cause.stray refl t; early = ends t }, λ t s k may. lawful refl t s (record { tied = k.tied; handles = k.handles }) may)
+  early store_error.Stray cause ends lawful = (λ t. record { stray = cause.stray refl t; early = ends t }, λ t s k may. lawful refl t s k may)
   early e cause ends lawful = let clash : false ≡ true = cause.kind in cc
 
   pub early_says : (e : StoreError) (r : Refusal) → r ≡ refusal_of_removal e → RemovalWorkCause observed e a b → (observed ≡ true → HasTriedBetween a b) → (observed ≡ true → EndsImageSweepBetween a b) → SweepLawful e → SweepSays (Err r)

@@ -24,7 +24,6 @@ use Rattle.standing_images.specs.Images.{ImagesStay}
 use Rattle.command_outcomes.specs.declared.refusal.Refusal.{Refusal}
 use Rattle.command_outcomes.specs.declared.refusal.Refusal.TheVariants.{Stray}
 use Rattle.command_outcomes.specs.Moments.{Outside}
-use Rattle.command_outcomes.specs.Conforming.{dir_at_moment}
 use Rattle.commands.specs.ImageImport.{import_refusal, import_listing_refusal, source_of, RefusesImage}
 use Rattle.commands.specs.ImageImportTable.{StandsOther, StandsDamaged, RefusesByStanding}
 use Rattle.commands.proofs.ImportStanding.{digest_before, damage_before, none_before}
@@ -84,14 +83,14 @@ module _ (source : Source) (old new : DirAt) (stay : ImagesStay old.trace new.tr
   error_stands e refused turn = tt
 
 -- of what was told of the refusal
-pub refusal_stands : (path : List ℕ) (old new : Outside) (refusal : Refusal) → old.dir.observed ≡ true → ImagesStay old.dir.trace new.dir.trace → RefusesImage path old new refusal →
+pub refusal_stands : (path : List ℕ) (old new : Outside) (refusal : Refusal) → old.observed ≡ true → ImagesStay old.dir.trace new.dir.trace → RefusesImage path old new refusal →
     RefusesByStanding (source_of path old.bundle) refusal (state_after old.dir.trace)
 refusal_stands path old new refusal t stay x =
     let source = source_of path old.bundle in
     subst (λ (r : Refusal). RefusesByStanding source r (state_after old.dir.trace)) (sym x.is)
-    (error_stands source (dir_at_moment old.dir) (dir_at_moment new.dir) stay x.error
-    (subst (λ (observed : Bool). IsImportRefused observed source x.error (dir_at_moment old.dir) (dir_at_moment new.dir)) t x.cause)
-    (subst (λ (observed : Bool). RefusalComesInTurn observed source x.error (dir_at_moment old.dir) (dir_at_moment new.dir)) t x.turn))
+    (error_stands source old.dir new.dir stay x.error
+    (subst (λ (observed : Bool). IsImportRefused observed source x.error old.dir new.dir) t x.cause)
+    (subst (λ (observed : Bool). RefusalComesInTurn observed source x.error old.dir new.dir) t x.turn))
 
 -- and of the answers
 listing_calm : (e : ListingError) {X : Type 0} → Stray ≡ import_listing_refusal e → X
@@ -107,5 +106,5 @@ stray_of store_error.Stray is = refl
 stray_of (store_error.ListingError e) is = listing_calm e is
 stray_of e is = cc
 
-pub refusal_lawful : (path : List ℕ) (old new : Outside) (refusal : Refusal) → RefusesImage path old new refusal → refusal ≡ Stray → old.dir.observed ≡ true → IsConforming new.dir.trace → ⊥
+pub refusal_lawful : (path : List ℕ) (old new : Outside) (refusal : Refusal) → RefusesImage path old new refusal → refusal ≡ Stray → old.observed ≡ true → IsConforming new.dir.trace → ⊥
 refusal_lawful path old new refusal x is t conforming = never_stray x.cause (stray_of x.error (sym is ∙ x.is)) t conforming

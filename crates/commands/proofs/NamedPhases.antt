@@ -33,7 +33,7 @@ use Rattle.pod_report.specs.Visits.{IsPhase}
 use Rattle.metadata.proofs.Views.{event_so}
 use Rattle.command_outcomes.specs.declared.refusal.Refusal.TheVariants.{WrongPhase}
 use Rattle.command_outcomes.specs.Meanwhile.{Meanwhile}
-use Rattle.command_outcomes.specs.Moments.{DirSeen, Inside, SpawnerSeen}
+use Rattle.command_outcomes.specs.Moments.{Inside, SpawnerSeen}
 use Rattle.commands.specs.AppsTold.{WithinProcess}
 use Rattle.commands.specs.Gc.{HasSweptPods, NamesKept, SweepsByPasses, names_kept}
 use Rattle.commands.specs.Opening.{Approach}
@@ -66,7 +66,7 @@ lines_named me old new text p = record {
 pub before_finish : {me : ℕ} {ended new : List Event} → Extends is_finish me ended new → IsConforming new → IsConforming ended
 before_finish {ended = ended} last conforming = conforming_left ended last.more (subst IsConforming last.grown conforming)
 
-pub removal_named : (pod : PodId) (phase : Phase) (old new : DirSeen) → HasFoundWrong pod phase old new → IsConforming new.trace → HadPhase old.process old.trace new.trace pod phase
+pub removal_named : (pod : PodId) (phase : Phase) (old new : DirAt) → HasFoundWrong pod phase old new → IsConforming new.trace → HadPhase old.process old.trace new.trace pod phase
 removal_named pod phase old new x conforming = event_process x.was.begins x.was.finishes (had (x.was.so (before_finish x.was.finishes conforming)).was)
 
 -- a claim that is refused so met that phase, and no run is
@@ -78,39 +78,29 @@ never_run : (pod : PodId) (phase : Phase) (error : RunError) {X : Type 0} → Wr
 never_run pod phase run.NoManifest is = cc
 never_run pod phase error is = cc
 
-module _ (pod : PodId) (phase : Phase) (address : List ℕ) {approach : Approach} {asks : Request → Bool} {intent : Intent} {old new : Inside} (w : WithinProcess approach asks (λ a b. RunPreparedSays pod address a b (Err (WrongPhase phase))) intent old new) (t : old.dir.observed ≡ true)
+module _ (pod : PodId) (phase : Phase) (address : List ℕ) {approach : Approach} {asks : Request → Bool} {intent : Intent} {old new : Inside} (w : WithinProcess approach asks (λ a b. RunPreparedSays pod address a b (Err (WrongPhase phase))) intent old new) (t : old.observed ≡ true)
     (conforming : IsConforming new.dir.trace) where
   last : Extends is_finish w.ended.process w.ended.trace new.dir.trace
   last = step_extends is_finish w.ended.process w.ended.trace Finish Done new.dir.trace refl (w.finishes t)
 
-  abbrev from : DirAt
-  from = w.came.from
-
-  abbrev to : DirAt
-  to = w.came.to
-
-  unclaimed : {s s' : SpawnerAt} → IsUnclaimed w.begun.observed pod from to s s' (Err (WrongPhase phase)) → AtOwnEvent from.process from.trace to.trace (IsPhase pod phase)
+  unclaimed : {s s' : SpawnerAt} → IsUnclaimed old.observed pod w.begun w.ended s s' (Err (WrongPhase phase)) → AtOwnEvent w.begun.process w.begun.trace w.ended.trace (IsPhase pod phase)
   unclaimed x =
       let is = wrong_claim pod phase x.error (sym (same_refusal (WrongPhase phase) (claim_refusal pod x.error) x.is)) in
-      had (x.cause.phase phase is (w.told ∙ t) (subst IsConforming (sym (ap (λ (d : DirSeen). d.trace) w.came.ends)) (before_finish last conforming))).was
+      had (x.cause.phase phase is t (before_finish last conforming)).was
 
-  never_claimed : {seen observed : Bool} {s s' : SpawnerAt} {X : Type 0} → ClaimsAndRuns seen observed pod address from to s s' (Err (WrongPhase phase)) → X
+  never_claimed : {seen observed : Bool} {s s' : SpawnerAt} {X : Type 0} → ClaimsAndRuns seen observed pod address w.begun w.ended s s' (Err (WrongPhase phase)) → X
   never_claimed {observed = observed} {s = s} {s' = s'} x =
       let before : SpawnerSeen = record { observed = observed; shown = s } in
       let after : SpawnerSeen = record { observed = observed; shown = s' } in
       elim (claimed_refusal before after (WrongPhase phase) x) [ inl e ↦ cc | inr e ↦ never_run pod phase e.0 e.1 ]
 
-  came_upon : AtOwnEvent from.process from.trace to.trace (IsPhase pod phase)
-  came_upon = elim w.came.so [ inl x ↦ never_claimed x | inr x ↦ unclaimed x ]
+  came_upon : AtOwnEvent w.begun.process w.begun.trace w.ended.trace (IsPhase pod phase)
+  came_upon = elim w.came [ inl x ↦ never_claimed x | inr x ↦ unclaimed x ]
 
   pub claim_named : HadPhase old.dir.process old.dir.trace new.dir.trace pod phase
   claim_named =
-      let mine : from.process ≡ old.dir.process = ap (λ (d : DirSeen). d.process) w.came.begins ∙ w.me in
-      let first : from.trace ≡ w.begun.trace = ap (λ (d : DirSeen). d.trace) w.came.begins in
-      let end : to.trace ≡ w.ended.trace = ap (λ (d : DirSeen). d.trace) w.came.ends in
-      let so = subst (λ (me : ℕ). AtOwnEvent me w.begun.trace w.ended.trace (IsPhase pod phase)) mine
-      (subst (λ (h : List Event). AtOwnEvent from.process w.begun.trace h (IsPhase pod phase)) end (subst (λ (h : List Event). AtOwnEvent from.process h to.trace (IsPhase pod phase)) first came_upon)) in
-      event_process (open_extends (w.begins t)) (subst (λ (p : ℕ). Extends is_finish p w.ended.trace new.dir.trace) (w.same ∙ w.me) last) so
+      event_process (open_extends (w.begins t)) (subst (λ (p : ℕ). Extends is_finish p w.ended.trace new.dir.trace) (w.same ∙ w.me) last)
+      (subst (λ (me : ℕ). AtOwnEvent me w.begun.trace w.ended.trace (IsPhase pod phase)) w.me came_upon)
 
 -- the lines of a sweep
 module _ (times : Times) (lines : List GcLine) {me : ℕ} {old new : List Event} (m : Meanwhile (SweepsByPasses times lines) me old new) (conforming : IsConforming new) where
@@ -125,5 +115,5 @@ module _ (times : Times) (lines : List GcLine) {me : ℕ} {old new : List Event}
   pub lines_kept : AllByRecursion (NamesKept (HadPhase me old new)) lines
   lines_kept = lines_told times lines m (NamesKept (HadPhase me old new)) (λ Can can here names a b to_a from_b line x. told_kept a b to_a from_b line x) (λ pod phase is deed. cc)
 
-pub sweep_named : (times : Times) (old new : DirSeen) (text : List ℕ) → HasSweptPods times old new text → IsConforming new.trace → names_kept (Ok text) (HadPhase old.process old.trace new.trace)
+pub sweep_named : (times : Times) (old new : DirAt) (text : List ℕ) → HasSweptPods times old new text → IsConforming new.trace → names_kept (Ok text) (HadPhase old.process old.trace new.trace)
 sweep_named times old new text x conforming = record { lines = x.lines; so = lines_kept times x.lines x.swept conforming; is = x.is }

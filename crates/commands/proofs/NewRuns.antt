@@ -41,15 +41,14 @@ use Rattle.stage1.specs.Runs.{closes, runs_pod, runs_and_closes}
 use Rattle.command_outcomes.specs.declared.refusal.Refusal.{Refusal}
 use Rattle.command_outcomes.specs.declared.refusal.Refusal.TheVariants.{DirFault, SpawnFault, NoManifest, NoProgram, Damaged, Stray, NoMemory}
 use Rattle.command_outcomes.specs.Conforming.{seen_at_begin, StaysConforming}
-use Rattle.command_outcomes.specs.Moments.{Answer, dir_seen}
+use Rattle.command_outcomes.specs.Moments.{Answer}
 use Rattle.commands.specs.References.{AreReferences}
 use Rattle.commands.specs.PrepareRefusals.{IsSaidOfBuild, prepare_refusal}
 use Rattle.commands.specs.Prepare.{pod_line}
 use Rattle.commands.specs.RunRefusals.{apps_refusal, new_run_refusal}
-use Rattle.commands.specs.Run.{makes_and_runs, CanRun, NewRunSays, RunIsTold}
+use Rattle.commands.specs.Run.{makes_and_runs, CanRun, NewRunSays}
 use Rattle.commands.specs.AppRuns.{RunSays}
 use Rattle.commands.proofs.Claimed.{and_holding, given_back}
-use Rattle.commands.proofs.ClaimRefusals.{inside_of}
 use Rattle.commands.specs.Wants.{Wants}
 
 -- the pod is kept
@@ -126,21 +125,21 @@ made_runs draw now owned a b is can knows t =
 
 -- it keeps the local rules
 pub made_keeps : {observed : Bool} {m : Local} (draw : Draw) (now : ℕ) (owned : Owned) (intent : Intent) (a b c : DirAt) → IsOwned draw.uuid m owned → observed ≡ true → Began area.Run draw now intent → (observed ≡ true → KnowsMade draw now owned a b) →
-    KeepsToEnd owned.pod owned.own b c → StaysConforming intent (dir_seen observed a) (dir_seen observed c)
+    KeepsToEnd owned.pod owned.own b c → StaysConforming intent a c
 made_keeps {observed} draw now owned intent a b c own t began knows keeps k =
-    let x = knows t intent [] began refl (record { tied = k.tied; handles = k.handles }) in
+    let x = knows t intent [] began refl k in
     let s = made_seen draw.uuid owned.own intent x.0 in
     let e = keeps s x.1 (subst (λ (p : PodId). RunsWithoutNotes p s) (sym own.is) (fresh_made draw.uuid owned.own intent x.0)) (never_both (gives_up (is_gate_shared area.Embryo) owned.own s.standing.holdings) (intends (λ i. holds_own (pod_text i.draw.bytes) s.standing) s.standing.intent)) in
-    record { known = e.known; knows = record { tied = e.knows.tied; handles = e.knows.handles }; kept = e.kept }
+    record { known = e.known; knows = e.knows; kept = e.kept }
 
 pub unmade_keeps : {observed : Bool} (draw : Draw) (now : ℕ) (intent : Intent) (a b : DirAt) → observed ≡ true → Began area.Run draw now intent → (observed ≡ true → WhereMakingPod (Began area.Run draw now) IsAlone nothing_made a (λ intent hs. HasMakerFolder draw.uuid intent hs b)) →
-    StaysConforming intent (dir_seen observed a) (dir_seen observed b)
+    StaysConforming intent a b
 unmade_keeps {observed} draw now intent a b t began left k =
-    let x = left t intent [] began refl (record { tied = k.tied; handles = k.handles }) in
-    record { known = seen_making intent [] x.progress; knows = record { tied = x.knows.tied; handles = x.knows.handles }; kept = refl }
+    let x = left t intent [] began refl k in
+    record { known = seen_making intent [] x.progress; knows = x.knows; kept = refl }
 
-pub unbegun_keeps : {observed : Bool} (intent : Intent) (a : DirAt) → StaysConforming intent (dir_seen observed a) (dir_seen observed a)
-unbegun_keeps {observed} intent a k = record { known = seen_at_begin intent; knows = k; kept = refl }
+pub unbegun_keeps : (intent : Intent) (a : DirAt) → StaysConforming intent a a
+unbegun_keeps intent a k = record { known = seen_at_begin intent; knows = k; kept = refl }
 
 -- refusals
 apps_in : (r : Refusal) → apps_refusal r ≡ true → new_run_refusal r ≡ true
@@ -190,6 +189,3 @@ module _ (seen observed : Bool) (wants : Wants) (address : List ℕ) (now : ℕ)
       → (seen ≡ true → WhereMakingPod (Began area.Run draw now) IsAlone nothing_made a (λ intent hs. AreaHeldElsewhere e a c)) → (seen ≡ true → WhereMakingPod (Began area.Run draw now) IsAlone nothing_made a (λ intent hs. HasMakerFolder draw.uuid intent hs c)) → s' ≡ s
       → NewRunSays seen observed wants address now draw a c s s' answer
   unmade_says refs e r is are said refused another left unasked = inr (inl (record { error = e; is = (r, is, said); cause = (refs, are, refused); another = another; left = left; unasked = unasked }))
-
-  pub told_between : NewRunSays seen observed wants address now draw a c s s' answer → RunIsTold wants address now draw (inside_of seen observed a s) (inside_of seen observed c s') answer
-  told_between so = record { from = a; to = c; begins = refl; ends = refl; so = so }

@@ -48,8 +48,6 @@ use Rattle.standing_images.proofs.Before.{store_before}
 use Rattle.standing_images.proofs.Damages.{damage_before, lacks_manifest}
 use Rattle.standing_images.proofs.OneDamage.{stands_whole}
 use Rattle.command_outcomes.specs.declared.refusal.Refusal.{Refusal}
-use Rattle.command_outcomes.specs.Conforming.{dir_at_moment}
-use Rattle.command_outcomes.specs.Moments.{DirSeen}
 use Rattle.commands.specs.Prepare.{RefusesPod}
 use Rattle.commands.specs.References.{AreReferences, OfReferences}
 use Rattle.commands.specs.PrepareTable.{FailsRoot, RootListingIsLarge, IsPodWithRoots, LacksCopied, TreeLacksListing, MakesNoRoot, StoreMakesNoPod, StoreMakesPod, MakesRoots, NothingRefuses, PassesLimit, StoreRefuses, LocksRefuse, RefusesReferences, RefusesByState}
@@ -287,12 +285,12 @@ module _ (refs : List ImageRef) (wishes : Wishes) (draw : Draw) (old new : DirAt
     locks_refuse now error free held (inr (found, inr x)) = make_says x.0 draw.uuid x.2.3.0 error x.2.3.1 (free (found t)) held
 
 -- what is said of the words, where the making of the folder tells of embryo before, and locks that were had or refused were free or held before
-pub refuses_by_state : (wants : Wants) (now : ℕ) (draw : Draw) (old new : DirSeen) (refusal : Refusal) → old.observed ≡ true → ImagesStay old.trace new.trace →
-    EmbryoBefore draw.uuid (dir_at_moment old) (dir_at_moment new) →
-    (HeldBetween (dir_at_moment old) (dir_at_moment new) (IsFreeElsewhere old.process Images Shared) → IsFreeElsewhere old.process Images Shared (state_after old.trace)) →
+pub refuses_by_state : {observed : Bool} (wants : Wants) (now : ℕ) (draw : Draw) (old new : DirAt) (refusal : Refusal) → observed ≡ true → ImagesStay old.trace new.trace →
+    EmbryoBefore draw.uuid old new →
+    (HeldBetween old new (IsFreeElsewhere old.process Images Shared) → IsFreeElsewhere old.process Images Shared (state_after old.trace)) →
     ((area : Area) → refusal ≡ Busy area → IsBusyElsewhere old.process area Shared (state_after old.trace)) →
-    RefusesPod wants now draw old new refusal → RefusesByState wants draw.uuid refusal old.process (state_after old.trace)
-refuses_by_state wants now draw old new refusal t stay told free held x = record {
+    RefusesPod observed wants now draw old new refusal → RefusesByState wants draw.uuid refusal old.process (state_after old.trace)
+refuses_by_state {observed} wants now draw old new refusal t stay told free held x = record {
   error = x.error;
   is = x.is;
   refs = x.cause.0;
@@ -303,8 +301,8 @@ refuses_by_state wants now draw old new refusal t stay told free held x = record
   where
     refuses : RefusesReferences old.process draw.uuid x.cause.0 wants.wishes (state_after old.trace) x.error
     refuses = (
-      locks_refuse x.cause.0 wants.wishes draw (dir_at_moment old) (dir_at_moment new) stay old.observed t now x.error free (λ area is. held area (x.is ∙ ap (λ (e : BuildError). refusal_of_build wants.images e) is)) x.cause.2,
-      store_refuses x.cause.0 wants.wishes draw (dir_at_moment old) (dir_at_moment new) stay old.observed t now x.error told x.cause.2,
+      locks_refuse x.cause.0 wants.wishes draw old new stay observed t now x.error free (λ area is. held area (x.is ∙ ap (λ (e : BuildError). refusal_of_build wants.images e) is)) x.cause.2,
+      store_refuses x.cause.0 wants.wishes draw old new stay observed t now x.error told x.cause.2,
     )
 
 -- and that nothing refuses them, where a pod of theirs was made by a plan

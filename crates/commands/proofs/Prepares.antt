@@ -22,7 +22,6 @@ use Rattle.dir_trait.specs.Knowledge.{Knows}
 use Rattle.dir_trait.proofs.Knowing.{knows_call}
 use Rattle.dir_trait.specs.Effects.{OnlyAsks, LeavesOpen}
 use Rattle.lifecycle.specs.Executions.{IsConforming}
-use Rattle.pod_manifest.specs.Wishes.{Wishes}
 use Rattle.pod_build.specs.Progress.{seen_making, nothing_made, handed}
 use Rattle.pod_build.specs.Work.{WhereMakingPod, HasMakerFolder}
 use Rattle.pod_build.proofs.Handing.{HandsNothingOver}
@@ -31,13 +30,12 @@ use Rattle.pod_build.specs.declared.built.Built.{Built}
 use Rattle.pod_build.specs.declared.built.Built.TheVariants as built
 use Rattle.pod_build.specs.Answers.{IsBuildAnswer, with_built, held_with}
 use Rattle.pod_build.specs.Requests.{prepares}
-use Rattle.pod_build.specs.Causes.{IsStretchWithin, IsBuildRefused, AreaHeldElsewhere, IsMadeByPlan, FindsImagesFree}
+use Rattle.pod_build.specs.Causes.{IsBuildRefused, AreaHeldElsewhere, IsMadeByPlan, FindsImagesFree}
 use Rattle.pod_build.specs.Preparations.{Began, IsAlone, KnowsPrepared, IsPrepared}
 use Rattle.command_outcomes.specs.declared.refusal.Refusal.{Refusal}
 use Rattle.command_outcomes.specs.declared.refusal.Refusal.TheVariants.{DirFault, NoMemory}
-use Rattle.command_outcomes.specs.Moments.{DirSeen, CommandOutcome}
-use Rattle.command_outcomes.specs.Conforming.{dir_at_moment, seen_at_begin, StaysConforming}
-use Rattle.command_outcomes.proofs.Seen.{seen_at}
+use Rattle.command_outcomes.specs.Moments.{CommandOutcome}
+use Rattle.command_outcomes.specs.Conforming.{seen_at_begin, StaysConforming}
 use Rattle.commands.specs.References.{AreReferences}
 use Rattle.commands.specs.PrepareRefusals.{prepare_refusal, IsSaidOfBuild}
 use Rattle.commands.specs.Prepare.{pod_line, syncs, prepares_pod, prepared_sync_refusal, SyncSays, BringsAndSyncsPod, LeavesFolder, RefusesPod, IsHeldFromPrepare, PrepareSays}
@@ -50,23 +48,8 @@ syncs_hand_none (MoveFolder from to) is = cc
 syncs_hand_none request is = refl
 
 -- by what is seen of the directory
-pub at_begin : (observed : Bool) {a : DirAt} (intent : Intent) → Knows (dir_at_moment (seen_at observed a)) (seen_at_begin intent) → Knows a (seen_making intent [] nothing_made)
-at_begin observed intent k = record { tied = k.tied; handles = k.handles }
-
-pub knows_seen : (observed : Bool) {d : DirAt} {s : Seen} → Knows d s → Knows (dir_at_moment (seen_at observed d)) s
-knows_seen observed k = record { tied = k.tied; handles = k.handles }
-
-part_seen : (observed : Bool) {s e a b : DirAt} → IsStretchWithin s e a b → IsStretchWithin s e (dir_at_moment (seen_at observed a)) (dir_at_moment (seen_at observed b))
-part_seen observed p = record { same = p.same; before = p.before; begins = p.begins; after = p.after; ends = p.ends }
-
-refused_seen : (observed : Bool) {refs : List ImageRef} {options : Wishes} (draw : Draw) {now : ℕ} {e : BuildError} {a b : DirAt} → IsBuildRefused observed refs options draw now e a b
-    → IsBuildRefused observed refs options draw now e (dir_at_moment (seen_at observed a)) (dir_at_moment (seen_at observed b))
-refused_seen observed draw (inl x) = inl x
-refused_seen observed draw (inr (free, inl x)) = inr (free, inl (x.0, x.1, λ t. part_seen observed (x.2 t), x.3))
-refused_seen observed draw (inr (free, inr x)) = inr (free, inr (x.0, (x.1.0, x.1.1, λ t. part_seen observed (x.1.2 t), x.1.3), (x.2.0, x.2.1, λ t. part_seen observed (x.2.2 t), x.2.3)))
-
-made_seen : (observed : Bool) {refs : List ImageRef} {options : Wishes} (draw : Draw) {now : ℕ} {a b : DirAt} → IsMadeByPlan observed refs options draw now a b → IsMadeByPlan observed refs options draw now (dir_at_moment (seen_at observed a)) (dir_at_moment (seen_at observed b))
-made_seen observed draw x = (x.0, (x.1.0, x.1.1, λ t. part_seen observed (x.1.2 t), x.1.3), (x.2.0, x.2.1, λ t. part_seen observed (x.2.2 t), x.2.3))
+pub at_begin : {a : DirAt} (intent : Intent) → Knows a (seen_at_begin intent) → Knows a (seen_making intent [] nothing_made)
+at_begin intent k = record { tied = k.tied; handles = k.handles }
 
 -- what it asks for, and what is open
 prepare_in : (draw : PodId) (r : Request) → prepares draw Prepared r ≡ true → prepares_pod draw r ≡ true
@@ -128,66 +111,66 @@ LeftFolder draw now a b = WhereMakingPod (Began Prepared draw now) IsAlone nothi
 
 -- it keeps the local rules
 pub synced_keeps : (observed : Bool) (a b c : DirAt) (draw : Draw) (now : ℕ) (line : List ℕ) (made : Built) (o : CommandOutcome) → observed ≡ true → IsBuildAnswer false draw.uuid a.local made → KnowsMade draw now made a b → SyncSays line observed b c o
-    → (intent : Intent) → Began Prepared draw now intent → StaysConforming intent (seen_at observed a) (seen_at observed c)
+    → (intent : Intent) → Began Prepared draw now intent → StaysConforming intent a c
 synced_keeps observed a b c draw now line made o t answer knows says intent began k =
-    let x = free_knows a.local draw.uuid intent made answer (knows intent [] began refl (at_begin observed intent k)) in
+    let x = free_knows a.local draw.uuid intent made answer (knows intent [] began refl (at_begin intent k)) in
     let y = sync_call line o says in
     let s : Seen = seen_replied (seen_making intent [] (handed draw.uuid Prepared x.0)) (SyncArea Prepared) y.0 in
-    record { known = s; knows = knows_seen observed (knows_call t x.1 refl refl y.1); kept = refl }
+    record { known = s; knows = knows_call t x.1 refl refl y.1; kept = refl }
 
-pub refused_keeps : (observed : Bool) (a b : DirAt) (draw : Draw) (now : ℕ) → LeftFolder draw now a b → (intent : Intent) → Began Prepared draw now intent → StaysConforming intent (seen_at observed a) (seen_at observed b)
+pub refused_keeps : (observed : Bool) (a b : DirAt) (draw : Draw) (now : ℕ) → LeftFolder draw now a b → (intent : Intent) → Began Prepared draw now intent → StaysConforming intent a b
 refused_keeps observed a b draw now left intent began k =
-    let x = left intent [] began refl (at_begin observed intent k) in
-    record { known = seen_making intent [] x.progress; knows = knows_seen observed x.knows; kept = refl }
+    let x = left intent [] began refl (at_begin intent k) in
+    record { known = seen_making intent [] x.progress; knows = x.knows; kept = refl }
 
-pub nothing_keeps : (observed : Bool) (a : DirAt) (intent : Intent) → StaysConforming intent (seen_at observed a) (seen_at observed a)
+pub nothing_keeps : (observed : Bool) (a : DirAt) (intent : Intent) → StaysConforming intent a a
 nothing_keeps observed a intent k = record { known = seen_at_begin intent; knows = k; kept = refl }
 
 -- what it leaves
-left_folder : (observed : Bool) (a b : DirAt) (draw : Draw) (now : ℕ) → (observed ≡ true → LeftFolder draw now a b) → LeavesFolder now draw (seen_at observed a) (seen_at observed b)
+left_folder : (observed : Bool) (a b : DirAt) (draw : Draw) (now : ℕ) → (observed ≡ true → LeftFolder draw now a b) → LeavesFolder observed now draw a b
 left_folder observed a b draw now left t intent began k =
-    let x = left t intent [] began refl (at_begin observed intent k) in
-    record { progress = x.progress; own = x.own; knows = knows_seen observed x.knows }
+    let x = left t intent [] began refl (at_begin intent k) in
+    record { progress = x.progress; own = x.own; knows = x.knows }
 
-pub nothing_says : (observed : Bool) (a : DirAt) (wants : Wants) (now : ℕ) (draw : Draw) → PrepareSays wants now draw (seen_at observed a) (seen_at observed a) (Err NoMemory)
-nothing_says observed a wants now draw = inl (λ t intent began k. record { progress = nothing_made; own = tt; knows = knows_seen observed (at_begin observed {a = a} intent k) })
+pub nothing_says : (observed : Bool) (a : DirAt) (wants : Wants) (now : ℕ) (draw : Draw) → PrepareSays observed wants now draw a a (Err NoMemory)
+nothing_says observed a wants now draw = inl (λ t intent began k. record { progress = nothing_made; own = tt; knows = at_begin {a = a} intent k })
 
 -- what is told of a pod that was prepared, by what came of the sync
 pub synced_says : (observed : Bool) (a b c : DirAt) (wants : Wants) (refs : List ImageRef) (now : ℕ) (draw : Draw) (line : List ℕ) (made : Built) (o : CommandOutcome) → b.process ≡ a.process → AreReferences wants.images refs → IsBuildAnswer false draw.uuid a.local made
     → FindsImagesFree observed a b → IsMadeByPlan observed refs wants.wishes draw now a b → (observed ≡ true → ExtendsBy (prepares draw.uuid Prepared) a b) → (observed ≡ true → KnowsMade draw now made a b)
     → (observed ≡ true → IsConforming b.trace → WhereMakingPod (Began Prepared draw now) IsAlone nothing_made a (λ intent hs. IsPrepared refs wants.wishes a.process draw.uuid Prepared a.trace b.trace))
-    → line ≡ pod_line draw.uuid → SyncSays line observed b c o → PrepareSays wants now draw (seen_at observed a) (seen_at observed c) o
+    → line ≡ pod_line draw.uuid → SyncSays line observed b c o → PrepareSays observed wants now draw a c o
 synced_says observed a b c wants refs now draw line made o same are answer free planned extends knows prepared line_is says = by o says
   where
-    brings : (reply : Reply) → DirCall observed b (SyncArea Prepared) reply c → BringsAndSyncsPod wants now draw reply (seen_at observed a) (seen_at observed c)
+    brings : (reply : Reply) → DirCall observed b (SyncArea Prepared) reply c → BringsAndSyncsPod observed wants now draw reply a c
     brings reply call = record {
-      brought = seen_at observed b;
+      brought = b;
       same = same;
       free = free;
-      planned = (refs, are, made_seen observed draw planned);
+      planned = (refs, are, planned);
       extends = extends;
-      knows = λ t intent began k. let x = free_knows a.local draw.uuid intent made answer (knows t intent [] began refl (at_begin observed intent k)) in (x.0, knows_seen observed x.1);
-      faithful = λ t conforming intent began k. (refs, are, prepared t conforming intent [] began refl (at_begin observed intent k));
+      knows = λ t intent began k. let x = free_knows a.local draw.uuid intent made answer (knows t intent [] began refl (at_begin intent k)) in (x.0, x.1);
+      faithful = λ t conforming intent began k. (refs, are, prepared t conforming intent [] began refl (at_begin intent k));
       synced = λ t. subst (λ (me : ℕ). CallStep me b.trace (SyncArea Prepared) reply c.trace) same (call.step t);
     }
 
-    by : (o : CommandOutcome) → SyncSays line observed b c o → PrepareSays wants now draw (seen_at observed a) (seen_at observed c) o
+    by : (o : CommandOutcome) → SyncSays line observed b c o → PrepareSays observed wants now draw a c o
     by (Ok text) x = (x.0 ∙ line_is, brings Done x.1)
     by (Err NoMemory) x = inr (brings (Refused dir.NoMemory 0) x)
     by (Err DirFault) x = inr (brings (Refused dir.Failed 0) x)
     by (Err r) x = absurd x
 
 -- and of one that wasn't
-refusal_says : (old new : DirSeen) (wants : Wants) (now : ℕ) (draw : Draw) (r : Refusal) → LeavesFolder now draw old new → RefusesPod wants now draw old new r × IsHeldFromPrepare now draw r old new → PrepareSays wants now draw old new (Err r)
+refusal_says : {observed : Bool} (old new : DirAt) (wants : Wants) (now : ℕ) (draw : Draw) (r : Refusal) → LeavesFolder observed now draw old new → RefusesPod observed wants now draw old new r × IsHeldFromPrepare observed now draw r old new → PrepareSays observed wants now draw old new (Err r)
 refusal_says old new wants now draw NoMemory left x = inl left
 refusal_says old new wants now draw DirFault left x = inl left
 refusal_says old new wants now draw r left x = (left, x.0, x.1)
 
 pub refused_says : (observed : Bool) (a b : DirAt) (wants : Wants) (refs : List ImageRef) (now : ℕ) (draw : Draw) (e : BuildError) (r : Refusal) → AreReferences wants.images refs → IsSaidOfBuild wants.images e r → IsBuildRefused observed refs wants.wishes draw now e a b
-    → (observed ≡ true → WhereMakingPod (Began Prepared draw now) IsAlone nothing_made a (λ intent hs. AreaHeldElsewhere e a b)) → (observed ≡ true → LeftFolder draw now a b) → PrepareSays wants now draw (seen_at observed a) (seen_at observed b) (Err r)
+    → (observed ≡ true → WhereMakingPod (Began Prepared draw now) IsAlone nothing_made a (λ intent hs. AreaHeldElsewhere e a b)) → (observed ≡ true → LeftFolder draw now a b) → PrepareSays observed wants now draw a b (Err r)
 refused_says observed a b wants refs now draw e r are (inr is) refused another left =
-    subst (λ (x : Refusal). PrepareSays wants now draw (seen_at observed a) (seen_at observed b) (Err x)) (sym is) (inl (left_folder observed a b draw now left))
-refused_says observed a b wants refs now draw e r are (inl is) refused another left = refusal_says (seen_at observed a) (seen_at observed b) wants now draw r (left_folder observed a b draw now left) (
-  record { error = e; is = is; cause = (refs, are, refused_seen observed draw refused) },
-  λ area busy t intent began k. another t intent [] began refl (at_begin observed intent k) area (busy_of wants.images e area (sym is ∙ busy)),
+    subst (λ (x : Refusal). PrepareSays observed wants now draw a b (Err x)) (sym is) (inl (left_folder observed a b draw now left))
+refused_says observed a b wants refs now draw e r are (inl is) refused another left = refusal_says a b wants now draw r (left_folder observed a b draw now left) (
+  record { error = e; is = is; cause = (refs, are, refused) },
+  λ area busy t intent began k. another t intent [] began refl (at_begin intent k) area (busy_of wants.images e area (sym is ∙ busy)),
 )

@@ -12,7 +12,6 @@ use Rattle.commands.specs.Strays.{ComesOfApp}
 use Rattle.command_outcomes.specs.declared.refusal.Refusal.{Refusal}
 use Rattle.command_outcomes.specs.declared.refusal.Refusal.TheVariants.{DirFault}
 use Rattle.command_outcomes.specs.Moments.{CommandOutcome}
-use Rattle.command_outcomes.proofs.Seen.{seen_at}
 use Rattle.commands.specs.Rm.{remove_refusal, rm_refusal, RmSays}
 
 pub said_fault : (pod : PodId) (e : RemoveError) → remove_refusal pod e ≡ DirFault → e ≡ error.DirFault
@@ -26,7 +25,7 @@ allowed pod e = refl
 -- why the pod wasn't removed, and what is said of it
 module _ (observed : Bool) (a b : DirAt) (pod : PodId) (now : ℕ) where
   abbrev Says : CommandOutcome → Type 0
-  Says o = RmSays pod now (seen_at observed a) (seen_at observed b) o
+  Says o = RmSays observed pod now a b o
 
   abbrev Another : RemoveError → Type 0
   Another e = observed ≡ true → Given (MayRemovePod pod now) a (λ s. RemovalRefusedByAnother pod e a b)
@@ -41,15 +40,15 @@ module _ (observed : Bool) (a b : DirAt) (pod : PodId) (now : ℕ) where
   said error.NoPod cause another first lawful = λ t. cause.nowhere refl t
   said (error.WrongPhase phase) cause another first lawful = record {
     was = λ t conforming. cause.phase phase refl t conforming;
-    owner = λ t s k may conforming. (another t s (record { tied = k.tied; handles = k.handles }) may).owner conforming phase refl;
+    owner = λ t s k may conforming. (another t s k may).owner conforming phase refl;
   }
   said error.NoManifest cause another first lawful = (refl, λ t conforming. cause.manifest refl t conforming)
   said (error.Busy other which) cause another first lawful =
       let same : other ≡ pod = cause.named other which refl in
       let named : error.Busy other which ≡ error.Busy pod which = ap (λ (p : PodId). error.Busy p which) same in
-      (same, λ t s k may. record { busy = (another t s (record { tied = k.tied; handles = k.handles }) may).busy which named; first = first t s (record { tied = k.tied; handles = k.handles }) may which named })
+      (same, λ t s k may. record { busy = (another t s k may).busy which named; first = first t s k may which named })
   said error.DirFault cause another first lawful = tt
-  said error.Stray cause another first lawful = (λ t. cause.stray refl t, λ t s k may. lawful refl t s (record { tied = k.tied; handles = k.handles }) may)
+  said error.Stray cause another first lawful = (λ t. cause.stray refl t, λ t s k may. lawful refl t s k may)
   said error.NoMemory cause another first lawful = tt
 
   pub refused_says : (e : RemoveError) (r : Refusal) → r ≡ remove_refusal pod e → PodRemovalCause observed pod e a b → Another e → First e → Lawful e → Says (Err r)

@@ -6,13 +6,13 @@ use Rattle.dir_model.specs.declared.spot.Which.{Which}
 use Rattle.dir_model.specs.Calls.{Extends}
 use Rattle.dir_model.specs.Quiet.{Quiet, OwnsNothing}
 use Rattle.dir_model.specs.Trace.{state_after}
+use Rattle.dir_trait.specs.DirCalls.{DirAt}
 use Rattle.lifecycle.specs.Executions.{IsConforming}
 use Rattle.lifecycle.proofs.Draws.{conforming_left}
 use Rattle.pod_gc.specs.RemovalRequests.{removes}
 use Rattle.pod_gc.specs.declared.ages.Times.{Times}
 use Rattle.pod_gc.specs.Requests.{sweeps}
 use Rattle.command_outcomes.specs.declared.refusal.Refusal.TheVariants.{NoPod, WrongPhase, NoManifest, PodBusy}
-use Rattle.command_outcomes.specs.Moments.{DirSeen}
 use Rattle.commands.specs.Rm.{removed_pod_text, HasRemovedPod, HasFoundNoPod, HasFoundWrong, HasFoundNoManifest, HasFoundBusy}
 use Rattle.commands.specs.Gc.{HasSweptPods}
 use Rattle.commands.specs.RemovalQuiet.{RemovesPodQuietly, SweepsPodsQuietly}
@@ -39,7 +39,7 @@ use Rattle.commands.proofs.GcTable.{gc_table}
 use Rattle.commands.proofs.GcMovedOn.{gc_moved_on}
 use Rattle.commands.proofs.GcWhole.{gc_whole}
 
-module _ (pod : PodId) (now : ℕ) (old new : DirSeen) (ext : Extends (in_process (removes pod now)) old.process old.trace new.trace) (quiet : Quiet old.process old.trace new.trace) (idle : OwnsNothing old.process (state_after old.trace).namespace) where
+module _ (pod : PodId) (now : ℕ) (old new : DirAt) (ext : Extends (in_process (removes pod now)) old.process old.trace new.trace) (quiet : Quiet old.process old.trace new.trace) (idle : OwnsNothing old.process (state_after old.trace).namespace) where
   before : IsConforming new.trace → IsConforming old.trace
   before conforming = conforming_left old.trace quiet.more (subst IsConforming quiet.grown conforming)
 
@@ -69,7 +69,7 @@ module _ (pod : PodId) (now : ℕ) (old new : DirSeen) (ext : Extends (in_proces
   pub rm_busy_quietly : (other : PodId) (which : Which) → other ≡ pod → HasFoundBusy pod which old new → RemovesPodQuietly pod old new (Err (PodBusy other which))
   rm_busy_quietly other which is found = (is, found, rm_held_before pod now ext quiet which found, λ conforming. rm_busy_refused pod now ext quiet idle conforming which found)
 
-pub gc_swept_quietly : (times : Times) (old new : DirSeen) (text : List ℕ) → Extends (in_process (sweeps times.now)) old.process old.trace new.trace → Quiet old.process old.trace new.trace → OwnsNothing old.process (state_after old.trace).namespace → HasSweptPods times old new text → SweepsPodsQuietly times old new (Ok text)
+pub gc_swept_quietly : (times : Times) (old new : DirAt) (text : List ℕ) → Extends (in_process (sweeps times.now)) old.process old.trace new.trace → Quiet old.process old.trace new.trace → OwnsNothing old.process (state_after old.trace).namespace → HasSweptPods times old new text → SweepsPodsQuietly times old new (Ok text)
 gc_swept_quietly times old new text ext quiet idle x = record {
   swept = x;
   tells = λ conforming. gc_tells times x.lines ext quiet x.swept conforming;

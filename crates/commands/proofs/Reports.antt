@@ -19,7 +19,7 @@ use Rattle.pod_report.specs.Snapshot.{IsSnapshotBetween}
 use Rattle.command_outcomes.specs.declared.refusal.Refusal.{Refusal}
 use Rattle.command_outcomes.specs.declared.refusal.Refusal.TheVariants.{DirFault, NoMemory}
 use Rattle.command_outcomes.specs.Ends.{is_own_end}
-use Rattle.command_outcomes.specs.Moments.{CommandOutcome, dir_seen}
+use Rattle.command_outcomes.specs.Moments.{CommandOutcome}
 use Rattle.commands.specs.CatManifest.{IsManifestIn, SeesPod, TellsManifest, cat_manifest_refusal, cat_manifest_report, manifest_line, unread_refusal}
 use Rattle.commands.specs.PodList.{IsListOf, SeesLines, TellsLines, list_refusal, list_report, list_text, unlisted_refusal}
 use Rattle.pod_report.specs.declared.status.PodStatus.{PodStatus}
@@ -82,7 +82,7 @@ module _ {V : Type 0} (items : V → List PodLine) (observed : Bool) (old new : 
       IfOk found (λ v. observed ≡ true → IsConforming new.trace → IsSnapshotBetween old new (items v)) →
       IfOk found (λ v. observed ≡ true → IsConforming new.trace → ListsPodsQuietly old new (items v)) →
       (IsErrOf found report.Stray → observed ≡ true → IsConforming new.trace → ⊥) →
-      ReportSays list_report (dir_seen observed old) (dir_seen observed new) result
+      ReportSays observed list_report old new result
   list_says kind seen snapshot quiet stray = record {
     prints = came lines_text unlisted_refusal result (λ o. IfOk o list_report.prints) found lists refuses (λ v is. (items v, refl)) (λ e is. tt) tt;
     seen = came lines_text unlisted_refusal result (λ o. observed ≡ true → SeesLines old.process old.trace new.trace o) found lists refuses
@@ -148,7 +148,7 @@ module _ (pod : PodId) (observed : Bool) (old new : DirAt) (result : CommandOutc
     unread_quiet good report.DirFault by strayed own = let clash : false ≡ true = own in cc
     unread_quiet good report.NoMemory by strayed own = let clash : false ≡ true = own in cc
 
-    pub cat_says : ReportSays (cat_manifest_report pod) (dir_seen observed old) (dir_seen observed new) result
+    pub cat_says : ReportSays observed (cat_manifest_report pod) old new result
     cat_says = record {
       prints = came its_line (unread_refusal pod) result (λ o. IfOk o (cat_manifest_report pod).prints) found writes refuses (λ m is. (pod_data m, refl)) (λ e is. tt) tt;
       seen = came its_line (unread_refusal pod) result (λ o. observed ≡ true → SeesPod pod old.process old.trace new.trace o) found writes refuses
@@ -210,7 +210,7 @@ module _ (pod : PodId) (observed : Bool) (old new : DirAt) (result : CommandOutc
     unknown_seen report.NoPod missed = missed
     unknown_seen e missed = tt
 
-    pub status_says : ReportSays (status_report pod) (dir_seen observed old) (dir_seen observed new) result
+    pub status_says : ReportSays observed (status_report pod) old new result
     status_says = record {
       prints = came status_lines unknown_refusal result (λ o. IfOk o (status_report pod).prints) found says refuses (λ s is. (s, refl)) (λ e is. tt) tt;
       seen = came status_lines unknown_refusal result (λ o. observed ≡ true → SeesStatusOutcome pod old.process old.trace new.trace o) found says refuses

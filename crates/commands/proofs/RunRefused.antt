@@ -25,8 +25,7 @@ use Rattle.stage1.specs.declared.error.RunError.TheVariants.{Stray}
 use Rattle.stage1.specs.Runs.{IsRefusedRun}
 use Rattle.command_outcomes.specs.declared.refusal.Refusal.{Refusal}
 use Rattle.command_outcomes.specs.declared.refusal.Refusal.TheVariants.{NoMemory}
-use Rattle.command_outcomes.specs.Conforming.{dir_at_moment}
-use Rattle.command_outcomes.specs.Moments.{Answer, DirSeen, SpawnerSeen}
+use Rattle.command_outcomes.specs.Moments.{Answer, SpawnerSeen}
 use Rattle.commands.specs.PrepareRefusals.{IsSaidOfBuild, refusal_of_build}
 use Rattle.commands.specs.Prepare.{pod_line, RefusesPod}
 use Rattle.commands.proofs.Openings.{free_before}
@@ -71,19 +70,19 @@ pub made_refusal : {seen : Bool} (so sn : SpawnerSeen) {wants : Wants} {address 
 made_refusal so sn {draw = draw} r x = says_refusal so sn (pod_line draw.uuid) draw.uuid r x.is_owned.is x.says
 
 -- and one that wasn't, for what is seen of the directory before and in the end
-module _ {seen : Bool} {wants : Wants} {now : ℕ} {draw : Draw} {d d' : DirAt} {s s' : SpawnerAt} (old new : DirSeen) (told : seen ≡ old.observed) (t : seen ≡ true) (mine : d.process ≡ old.process) (stays : d'.process ≡ d.process)
+module _ {observed : Bool} {wants : Wants} {now : ℕ} {draw : Draw} {d d' : DirAt} {s s' : SpawnerAt} (old new : DirAt) (t : observed ≡ true) (mine : d.process ≡ old.process) (stays : d'.process ≡ d.process)
     (ext : Extends (in_process (makes_and_runs draw.uuid)) old.process old.trace new.trace) (quiet : Quiet old.process old.trace new.trace) (begins : Extends is_begin old.process old.trace d.trace) (ends : Extends is_finish old.process d'.trace new.trace)
     (intent : Intent) (began : Began Run draw now intent) (knows : Knows d (seen_making intent [] nothing_made)) where
-  pub unmade_refusal : (r : Refusal) → IsUnmade seen wants now draw d d' s s' (Err r) → (r ≡ NoMemory) ⊎ IsUnmadeFor wants now draw old new r
+  pub unmade_refusal : (r : Refusal) → IsUnmade observed wants now draw d d' s s' (Err r) → (r ≡ NoMemory) ⊎ IsUnmadeFor observed wants now draw old new r
   unmade_refusal r x = by x.is.2
     where
       same : r ≡ x.is.0
       same = same_refusal r x.is.0 x.is.1
 
-      whole : IsBuildRefused old.observed x.cause.0 wants.wishes draw now x.error (dir_at_moment old) (dir_at_moment new)
+      whole : IsBuildRefused observed x.cause.0 wants.wishes draw now x.error old new
       whole =
           refused_whole draw mine stays (λ o. begins) (λ o. subst (λ (p : ℕ). Extends is_finish p d'.trace new.trace) (sym (stays ∙ mine)) ends)
-          (subst (λ (o : Bool). IsBuildRefused o x.cause.0 wants.wishes draw now x.error d d') told x.cause.2)
+          x.cause.2
 
       held : (area : Area) → x.error ≡ build.Busy area → IsBusyElsewhere old.process area Shared (state_after old.trace)
       held area busy =
@@ -96,18 +95,18 @@ module _ {seen : Bool} {wants : Wants} {now : ℕ} {draw : Draw} {d d' : DirAt} 
       conforms : Conforms old.process new.trace
       conforms = finished_keeps ends (subst (λ (p : ℕ). Conforms p d'.trace) (stays ∙ mine) (left.knows.tied.conforms refl))
 
-      why : x.is.0 ≡ refusal_of_build wants.images x.error → RefusesPod wants now draw old new r
+      why : x.is.0 ≡ refusal_of_build wants.images x.error → RefusesPod observed wants now draw old new r
       why is = record { error = x.error; is = same ∙ is; cause = (x.cause.0, x.cause.1, whole) }
 
-      by : IsSaidOfBuild wants.images x.error x.is.0 → (r ≡ NoMemory) ⊎ IsUnmadeFor wants now draw old new r
+      by : IsSaidOfBuild wants.images x.error x.is.0 → (r ≡ NoMemory) ⊎ IsUnmadeFor observed wants now draw old new r
       by (inr is) = inl (same ∙ is)
       by (inl is) = inr (record {
         why = why is;
-        state = refuses_by_state wants now draw old new r (sym told ∙ t) (run_keeps draw.uuid ext quiet)
-            (taken_before draw.uuid (in_process (makes_and_runs draw.uuid)) (run_elsewhere draw.uuid) (dir_at_moment old) (dir_at_moment new) ext quiet conforms)
+        state = refuses_by_state wants now draw old new r t (run_keeps draw.uuid ext quiet)
+            (taken_before draw.uuid (in_process (makes_and_runs draw.uuid)) (run_elsewhere draw.uuid) old new ext quiet conforms)
             (λ at. free_before (is_against Images Shared) at ext quiet) (λ area busy. held area (busy_of wants.images x.error area (sym (same ∙ is) ∙ busy))) (why is);
         held = λ area busy. held area (busy_of wants.images x.error area (sym (same ∙ is) ∙ busy));
-        lawful = λ stray. pod_never now draw wants old new (subst (λ (q : Refusal). RefusesPod wants now draw old new q) stray (why is)) (sym told ∙ t);
+        lawful = λ stray. pod_never now draw wants old new (subst (λ (q : Refusal). RefusesPod observed wants now draw old new q) stray (why is)) t;
         left = inr (record {
           begun = d.trace;
           ended = d'.trace;

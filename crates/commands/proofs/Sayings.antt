@@ -34,7 +34,6 @@ use Rattle.pod_build.specs.Refusals.{gate_refusal, plan_refusal, IsMakeRefusal}
 use Rattle.pod_build.specs.Causes.{IsBuildRefused}
 use Rattle.command_outcomes.specs.declared.refusal.Refusal.{Refusal}
 use Rattle.command_outcomes.specs.declared.refusal.Refusal.TheVariants.{Busy, BadManifest, NoDependency, Cycle, Limit, DirFault, NoMemory, Taken}
-use Rattle.command_outcomes.specs.Moments.{DirSeen}
 use Rattle.commands.specs.Prepare.{RefusesPod}
 use Rattle.commands.specs.References.{AreReferences}
 use Rattle.commands.specs.PrepareRefusals.{prepare_refusal, dependency_refusal, pod_manifest_refusal, root_refusal, root_listing_refusal, refusal_of_build, IsSaidOfBuild}
@@ -222,7 +221,7 @@ taken_of words (build.RenderError e) pod is = choice_apart (root_refusal e) (Tak
 taken_of words (build.ListingError e) pod is = choice_apart (root_listing_refusal e) (Taken pod) (listing_chosen e) refl (sym is)
 taken_of words e pod is = cc
 
-pub taken_own : {wants : Wants} {now : ℕ} {draw : Draw} {pod : PodId} {old new : DirSeen} → RefusesPod wants now draw old new (Taken pod) → pod ≡ draw.uuid
+pub taken_own : {observed : Bool} {wants : Wants} {now : ℕ} {draw : Draw} {pod : PodId} {old new : DirAt} → RefusesPod observed wants now draw old new (Taken pod) → pod ≡ draw.uuid
 taken_own {wants} {now} {draw} {pod} x = by x.cause.2
   where
     is : x.error ≡ build.Taken pod

@@ -1,5 +1,5 @@
 -- The text of the images of the store is one, and where nobody else steps `image list` prints that of the state before.
-use Rattle.std.proofs.Common.{◌≡◌, ℕ, true, codes, List, [], ◌∷◌, ◌++◌, map, refl, sym, ap, ◌∙◌}
+use Rattle.std.proofs.Common.{◌≡◌, ℕ, true, codes, List, [], ◌∷◌, ◌++◌, map, refl, sym, ap, ◌∙◌, Bool}
 use Rattle.std.specs.Fmt.{decimal}
 use Rattle.std.specs.List.{flat_map}
 use Rattle.ac_types.specs.Ids.{id_text}
@@ -14,6 +14,7 @@ use Rattle.dir_model.specs.Calls.{Extends}
 use Rattle.dir_model.specs.Quiet.{Quiet}
 use Rattle.dir_model.specs.State.{DirState}
 use Rattle.dir_model.specs.Trace.{state_after}
+use Rattle.dir_trait.specs.DirCalls.{DirAt}
 use Rattle.standing_images.specs.Images.{AreStore, ImagesStay}
 use Rattle.standing_images.specs.Laws.{leaves_store}
 use Rattle.standing_images.proofs.Before.{store_before}
@@ -21,8 +22,6 @@ use Rattle.standing_images.proofs.Damages.{damage_before}
 use Rattle.standing_images.proofs.OneDamage.{one_damage}
 use Rattle.standing_images.proofs.OneStore.{one_store}
 use Rattle.standing_images.proofs.QuietStores.{images_stay}
-use Rattle.command_outcomes.specs.Conforming.{dir_at_moment}
-use Rattle.command_outcomes.specs.Moments.{DirSeen}
 use Rattle.commands.specs.ImageList.{image_line_text, images_text, FindsFree, ListsLackingPart, ListsStore, NamesDamage, PrintsStore, WhereUnheld}
 use Rattle.commands.proofs.Openings.{free_before}
 use Rattle.commands.proofs.StoreQuiet.{is_tame}
@@ -50,7 +49,7 @@ tame_leaves (ReadIn inner at room) h = refl
 tame_leaves Finish h = refl
 tame_leaves request h = cc
 
-module _ (old new : DirSeen) (told : old.observed ≡ true) (ext : Extends is_tame old.process old.trace new.trace) (quiet : Quiet old.process old.trace new.trace) where
+module _ {observed : Bool} (old new : DirAt) (told : observed ≡ true) (ext : Extends is_tame old.process old.trace new.trace) (quiet : Quiet old.process old.trace new.trace) where
   stay : ImagesStay old.trace new.trace
   stay = images_stay is_tame tame_leaves old.process ext quiet
 
@@ -58,13 +57,13 @@ module _ (old new : DirSeen) (told : old.observed ≡ true) (ext : Extends is_ta
   unheld : FindsFree old new → IsFreeElsewhere old.process Images Shared (state_after old.trace)
   unheld at = free_before (is_against Images Shared) at ext quiet
 
-  pub prints_store : (text : List ℕ) → ListsStore old new text → WhereUnheld old (λ s. PrintsStore s text)
+  pub prints_store : (text : List ℕ) → ListsStore observed old new text → WhereUnheld old (λ s. PrintsStore s text)
   prints_store text x =
-      let store = store_before (dir_at_moment old) (dir_at_moment new) stay x.images (x.told told) in
+      let store = store_before old new stay x.images (x.told told) in
       (unheld (x.free told), record { images = x.images; are = store; is = x.is; only = λ others are. x.is ∙ one_text (state_after old.trace) x.images others store are })
 
   -- and where an image isn't whole, it names what the state before lacks
-  pub names_damage : (path : List ℕ) → ListsLackingPart path old new → WhereUnheld old (λ s. NamesDamage s path)
+  pub names_damage : (path : List ℕ) → ListsLackingPart observed path old new → WhereUnheld old (λ s. NamesDamage s path)
   names_damage path x =
-      let first = damage_before (dir_at_moment old) (dir_at_moment new) stay path (x.told told) in
+      let first = damage_before old new stay path (x.told told) in
       (unheld (x.free told), record { is = first; only = λ other is. one_damage (state_after old.trace) path other first is })

@@ -21,8 +21,6 @@ use Rattle.stage1.specs.declared.error.RunError.TheVariants as run
 use Rattle.tree_digest.specs.declared.listing_error.ListingError.{ListingError}
 use Rattle.tree_digest.specs.declared.listing_error.ListingError.TheVariants as listing
 use Rattle.command_outcomes.specs.declared.refusal.Refusal.TheVariants.{Stray}
-use Rattle.command_outcomes.specs.Conforming.{dir_at_moment}
-use Rattle.command_outcomes.specs.Moments.{DirSeen}
 use Rattle.commands.specs.Prepare.{RefusesPod}
 use Rattle.commands.specs.PrepareRefusals.{refusal_of_build}
 use Rattle.commands.specs.References.{OfReferences}
@@ -93,6 +91,6 @@ module _ (now : ℕ) (draw : Draw) where
   pub built : (wants : Wants) (error : BuildError) {a b : DirAt} → OfReferences wants.images (λ refs. IsBuildRefused true refs wants.wishes draw now error a b) → error ≡ build.Stray → IsConforming b.trace → ⊥
   built wants error {a} {b} cause same part = never_refused draw (subst (λ (e : BuildError). IsBuildRefused true cause.0 wants.wishes draw now e a b) same cause.2) refl part
 
-  pub pod_never : (wants : Wants) (old new : DirSeen) → RefusesPod wants now draw old new Stray → old.observed ≡ true → NeverComes new.trace
-  pod_never wants old new r told conforming = built wants r.error (subst (λ (b : Bool). OfReferences wants.images (λ refs. IsBuildRefused b refs wants.wishes draw now r.error (dir_at_moment old) (dir_at_moment new))) told r.cause)
+  pub pod_never : {observed : Bool} (wants : Wants) (old new : DirAt) → RefusesPod observed wants now draw old new Stray → observed ≡ true → NeverComes new.trace
+  pod_never wants old new r told conforming = built wants r.error (subst (λ (b : Bool). OfReferences wants.images (λ refs. IsBuildRefused b refs wants.wishes draw now r.error old new)) told r.cause)
       (build_stray wants.images r.error r.is) conforming

@@ -10,7 +10,7 @@ use Rattle.pod_gc.specs.Told.{IsSweptBetween}
 use Rattle.pod_gc.specs.Ended.{EndsSweepBetween}
 use Rattle.command_outcomes.specs.declared.refusal.Refusal.{Refusal}
 use Rattle.command_outcomes.specs.declared.refusal.Refusal.TheVariants.{DirFault, NoMemory}
-use Rattle.command_outcomes.specs.Moments.{CommandOutcome, dir_seen}
+use Rattle.command_outcomes.specs.Moments.{CommandOutcome}
 use Rattle.commands.specs.Strays.{ComesOfApp}
 use Rattle.commands.specs.Gc.{lines_text, sweep_refusal, gc_refusal, SweepsInPart, WhereSweepingPods, GcSays}
 
@@ -24,24 +24,24 @@ sweep_allowed e = refl
 
 module _ (observed : Bool) (a b : DirAt) (times : Times) where
   abbrev Says : CommandOutcome → Type 0
-  Says o = GcSays times (dir_seen observed a) (dir_seen observed b) o
+  Says o = GcSays observed times a b o
 
   pub swept_says : times.now ≤ 18446744073709551615 → (lines : List GcLine) (o : CommandOutcome) → (o ≡ Ok (lines_text lines)) ⊎ (o ≡ Err NoMemory) → (observed ≡ true → IsSweptBetween times a b lines) → Says o
   swept_says moment lines o (inr e) swept = subst Says (sym e)
-      (λ t s k may. inr (lines, record { from = a; can = (s, record { tied = k.tied; handles = k.handles }, may); swept = swept t; moment = moment }))
+      (λ t s k may. inr (lines, record { from = a; can = (s, k, may); swept = swept t; moment = moment }))
   swept_says moment lines o (inl e) swept = subst Says (sym e) (record {
     lines = lines;
     is = refl;
-    swept = λ t s k may. record { from = a; can = (s, record { tied = k.tied; handles = k.handles }, may); swept = swept t; moment = moment };
+    swept = λ t s k may. record { from = a; can = (s, k, may); swept = swept t; moment = moment };
   })
 
-  in_part : times.now ≤ 18446744073709551615 → (observed ≡ true → EndsSweepBetween times a b) → WhereSweepingPods times (dir_seen observed a) (SweepsInPart times a.process a.trace b.trace)
-  in_part moment ended t s k may = record { from = a; can = (s, record { tied = k.tied; handles = k.handles }, may); ended = ended t; moment = moment }
+  in_part : times.now ≤ 18446744073709551615 → (observed ≡ true → EndsSweepBetween times a b) → WhereSweepingPods observed times a (SweepsInPart times a.process a.trace b.trace)
+  in_part moment ended t s k may = record { from = a; can = (s, k, may); ended = ended t; moment = moment }
 
   abbrev Lawful : GcError → Type 0
-  Lawful e = e ≡ error.Stray → WhereSweepingPods times (dir_seen observed a) (ComesOfApp a.process a.trace b.trace)
+  Lawful e = e ≡ error.Stray → WhereSweepingPods observed times a (ComesOfApp a.process a.trace b.trace)
 
-  early : (e : GcError) → GcCause observed e a b → WhereSweepingPods times (dir_seen observed a) (SweepsInPart times a.process a.trace b.trace) → Lawful e → Says (Err (sweep_refusal e))
+  early : (e : GcError) → GcCause observed e a b → WhereSweepingPods observed times a (SweepsInPart times a.process a.trace b.trace) → Lawful e → Says (Err (sweep_refusal e))
   early error.DirFault cause part lawful = part
   early error.NoMemory cause part lawful = λ t s k may. inl (part t s k may)
   early error.Stray cause part lawful = (λ t. cause.stray refl t, part, lawful refl)

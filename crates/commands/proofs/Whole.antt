@@ -20,8 +20,6 @@ use Rattle.pod_build.specs.declared.error.BuildError.{BuildError}
 use Rattle.pod_build.specs.Causes.{IsStretchWithin, IsBuildRefused, IsMadeByPlan, FindsImagesFree}
 use Rattle.pod_build.specs.Preparations.{IsPrepared}
 use Rattle.command_outcomes.specs.declared.refusal.Refusal.{Refusal}
-use Rattle.command_outcomes.specs.Moments.{DirSeen}
-use Rattle.command_outcomes.specs.Conforming.{dir_at_moment}
 use Rattle.commands.specs.Prepare.{IsFaithful, RefusesPod}
 use Rattle.commands.specs.Wants.{Wants}
 use Rattle.commands.proofs.Parts.{Part}
@@ -58,13 +56,13 @@ made_whole {observed} draw {a = a} {b = b} {c = c} {d = d} within x = (x.0, (x.1
     }
 
 -- why the pod wasn't prepared
-pub refuses_whole : {wants : Wants} {now : ℕ} {draw : Draw} {r : Refusal} {a b c d : DirSeen} (asks : Request → Bool) → b.observed ≡ a.observed → b.process ≡ a.process → c.process ≡ b.process
-    → (a.observed ≡ true → Extends asks a.process a.trace b.trace) → (a.observed ≡ true → Extends asks c.process c.trace d.trace)
-    → RefusesPod wants now draw b c r → RefusesPod wants now draw a d r
-refuses_whole {wants} {now} {draw} {r} {a} {b} {c} {d} asks told ab same begins ends x = record {
+pub refuses_whole : {observed : Bool} {wants : Wants} {now : ℕ} {draw : Draw} {r : Refusal} {a b c d : DirAt} (asks : Request → Bool) → b.process ≡ a.process → c.process ≡ b.process
+    → (observed ≡ true → Extends asks a.process a.trace b.trace) → (observed ≡ true → Extends asks c.process c.trace d.trace)
+    → RefusesPod observed wants now draw b c r → RefusesPod observed wants now draw a d r
+refuses_whole {observed} {wants} {now} {draw} {r} {a} {b} {c} {d} asks ab same begins ends x = record {
   error = x.error;
   is = x.is;
-  cause = (x.cause.0, x.cause.1, refused_whole draw ab same begins ends (subst (λ (o : Bool). IsBuildRefused o x.cause.0 wants.wishes draw now x.error (dir_at_moment b) (dir_at_moment c)) told x.cause.2));
+  cause = (x.cause.0, x.cause.1, refused_whole draw ab same begins ends x.cause.2);
 }
 
 -- that the pod was prepared
@@ -89,6 +87,6 @@ pub prepared_move : {refs : List ImageRef} {options : Wishes} {me : ℕ} {draw :
 unfolding prepared_wider
 prepared_move a b c d earlier rest begins ends x = refl
 
-pub faithful_wider : (wants : Wants) (draw : PodId) (a b c d : DirSeen) (earlier rest : List Event) → b.process ≡ a.process → b.trace ≡ a.trace ++ earlier → d.trace ≡ c.trace ++ rest → IsFaithful wants draw b c → IsFaithful wants draw a d
+pub faithful_wider : (wants : Wants) (draw : PodId) (a b c d : DirAt) (earlier rest : List Event) → b.process ≡ a.process → b.trace ≡ a.trace ++ earlier → d.trace ≡ c.trace ++ rest → IsFaithful wants draw b c → IsFaithful wants draw a d
 faithful_wider wants draw a b c d earlier rest same begins ends x =
     (x.0, x.1, prepared_wider earlier rest begins ends (subst (λ (me : ℕ). IsPrepared x.0 wants.wishes me draw Prepared b.trace c.trace) same x.2))

@@ -8,7 +8,7 @@ use Rattle.command_outcomes.specs.Moments.{Inside, Moment, SinkSeen, CommandOutc
 
 -- the directory and the spawner at a moment
 abbrev pub inside_in : Moment → Inside
-inside_in m = record { dir = m.outside.dir; spawner = m.spawner }
+inside_in m = record { observed = m.outside.observed; dir = m.outside.dir; spawner = m.spawner }
 
 -- the sink refused a piece
 abbrev pub HasRefused : SinkSeen → SinkSeen → Type 0

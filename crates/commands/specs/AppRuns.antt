@@ -9,7 +9,7 @@ use Rattle.stage1.specs.Runs.{HasRun, IsRefusedRun}
 use Rattle.command_outcomes.specs.declared.refusal.Refusal.{Refusal}
 use Rattle.command_outcomes.specs.declared.refusal.Refusal.TheVariants.{NoMemory}
 use Rattle.command_outcomes.specs.declared.told.Told.{Told}
-use Rattle.command_outcomes.specs.Moments.{Answer, Inside, dir_seen}
+use Rattle.command_outcomes.specs.Moments.{Answer}
 use Rattle.commands.specs.AppEnds.{told_of_ends}
 use Rattle.commands.specs.RunRefusals.{IsRunSaid}
 use Rattle.commands.specs.Strays.{NeverComes}
@@ -37,11 +37,3 @@ pub record IsStopped (seen observed : Bool) (owned : Owned) (address : List ℕ)
 abbrev pub RunSays : Bool → Bool → Owned → List ℕ → List ℕ → DirAt → DirAt → SpawnerAt → SpawnerAt → Answer → Type 0
 RunSays seen observed owned address front d d' s s' (Ok told) = IsRunToEnd seen observed owned address front d d' s s' told
 RunSays seen observed owned address front d d' s s' (Err refusal) = IsStopped seen observed owned address d d' s s' (Err refusal) ⊎ IsUntold seen observed owned address d d' s s' (Err refusal)
-
--- between two moments, whatever the counts of calls
-pub record Between (P : DirAt → DirAt → SpawnerAt → SpawnerAt → Type 0) (old new : Inside) : Type 0 where
-  pub from : DirAt
-  pub to : DirAt
-  pub begins : dir_seen old.dir.observed from ≡ old.dir
-  pub ends : dir_seen new.dir.observed to ≡ new.dir
-  pub so : P from to old.spawner.shown new.spawner.shown

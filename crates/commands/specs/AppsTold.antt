@@ -6,31 +6,30 @@ use Rattle.dir_model.specs.declared.request.Request.TheVariants.{Finish}
 use Rattle.dir_model.specs.declared.request.Reply.TheVariants.{Done}
 use Rattle.dir_trait.specs.Calls.{Extends, CallStep}
 use Rattle.dir_trait.specs.Knowledge.{Knows}
+use Rattle.dir_trait.specs.DirCalls.{DirAt}
 use Rattle.command_outcomes.specs.declared.refusal.Refusal.{Refusal}
 use Rattle.command_outcomes.specs.declared.refusal.Refusal.TheVariants.{NoMemory}
 use Rattle.command_outcomes.specs.declared.told.Told.{Told}
 use Rattle.command_outcomes.specs.Texts.{exit_status_of}
-use Rattle.command_outcomes.specs.Moments.{DirSeen, SpawnerSeen, Inside, Moment, Answer}
-use Rattle.command_outcomes.specs.Conforming.{dir_at_moment}
+use Rattle.command_outcomes.specs.Moments.{SpawnerSeen, Inside, Moment, Answer}
 use Rattle.command_outcomes.specs.Conforming.{seen_at_begin as just_begun}
 use Rattle.commands.specs.Answers.{Complained, inside_in}
 use Rattle.commands.specs.Opening.{Approach, Opens}
 
-abbrev pub inside : DirSeen → SpawnerSeen → Inside
-inside dir spawner = record { dir = dir; spawner = spawner }
+abbrev pub inside : Bool → DirAt → SpawnerSeen → Inside
+inside observed dir spawner = record { observed = observed; dir = dir; spawner = spawner }
 
 -- the process began and came to its pod, then this was so, and it finished
 pub record WithinProcess (approach : Approach) (asks : Request → Bool) (P : Inside → Inside → Type 0) (intent : Intent) (old new : Inside) : Type 0 where
-  pub begun : DirSeen
-  pub ended : DirSeen
-  pub told : begun.observed ≡ old.dir.observed
+  pub begun : DirAt
+  pub ended : DirAt
   pub me : begun.process ≡ old.dir.process
-  pub begins : old.dir.observed ≡ true → Opens approach intent old.dir.process old.dir.trace begun.trace
-  pub came : P (inside begun old.spawner) (inside ended new.spawner)
-  pub knows : old.dir.observed ≡ true → Knows (dir_at_moment begun) (just_begun intent)
+  pub begins : old.observed ≡ true → Opens approach intent old.dir.process old.dir.trace begun.trace
+  pub came : P (inside old.observed begun old.spawner) (inside old.observed ended new.spawner)
+  pub knows : old.observed ≡ true → Knows begun (just_begun intent)
   pub same : ended.process ≡ begun.process
-  pub extends : old.dir.observed ≡ true → Extends asks begun.process begun.trace ended.trace
-  pub finishes : old.dir.observed ≡ true → CallStep ended.process ended.trace Finish Done new.dir.trace
+  pub extends : old.observed ≡ true → Extends asks begun.process begun.trace ended.trace
+  pub finishes : old.observed ≡ true → CallStep ended.process ended.trace Finish Done new.dir.trace
 
 -- or it couldn't begin
 abbrev pub CameOrNeverBegan : Approach → (Request → Bool) → (Inside → Inside → Answer → Type 0) → Intent → Inside → Inside → Answer → Type 0

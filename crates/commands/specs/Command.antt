@@ -74,8 +74,8 @@ intent_for kind word now draw = record { kind = kind; word = word; now = now; gr
 
 -- it is so where the directory's trace is observed
 abbrev pub WhereObserved : Moment → Type 0 → Type 0
-WhereObserved old P = old.outside.dir.observed ≡ true → P
+WhereObserved old P = old.outside.observed ≡ true → P
 
 -- and where every process keeps the local rules
 abbrev pub WhereAllKeepRules : Moment → Moment → Type 0 → Type 0
-WhereAllKeepRules old new P = old.outside.dir.observed ≡ true → IsConforming new.outside.dir.trace → P
+WhereAllKeepRules old new P = old.outside.observed ≡ true → IsConforming new.outside.dir.trace → P

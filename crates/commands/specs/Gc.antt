@@ -23,8 +23,7 @@ use Rattle.pod_gc.specs.Ended.{EndsSweep}
 use Rattle.command_outcomes.specs.declared.refusal.Refusal.{Refusal}
 use Rattle.command_outcomes.specs.declared.refusal.Refusal.TheVariants.{DirFault, Stray, NoMemory}
 use Rattle.command_outcomes.specs.Texts.{area_text, lock_text}
-use Rattle.command_outcomes.specs.Moments.{DirSeen, CommandOutcome}
-use Rattle.command_outcomes.specs.Conforming.{dir_at_moment}
+use Rattle.command_outcomes.specs.Moments.{CommandOutcome}
 use Rattle.command_outcomes.specs.Ends.{is_common}
 use Rattle.command_outcomes.specs.Meanwhile.{Meanwhile}
 use Rattle.commands.specs.Strays.{ComesOfApp}
@@ -96,36 +95,36 @@ pub record SweepsInPart (times : Times) (me : ℕ) (old new : List Event) : Type
   pub moment : times.now ≤ 18446744073709551615
 
 -- it is so where the process has begun to sweep at this moment
-abbrev pub WhereSweepingPods : Times → DirSeen → Type 0 → Type 0
-WhereSweepingPods times old P = old.observed ≡ true → (s : Seen) → Knows (dir_at_moment old) s → MaySweepAll times.now times.expire s → P
+abbrev pub WhereSweepingPods : Bool → Times → DirAt → Type 0 → Type 0
+WhereSweepingPods observed times old P = observed ≡ true → (s : Seen) → Knows old s → MaySweepAll times.now times.expire s → P
 
 -- it printed the lines of what it did
-pub record SweepsPods (times : Times) (old new : DirSeen) (text : List ℕ) : Type 0 where
+pub record SweepsPods (observed : Bool) (times : Times) (old new : DirAt) (text : List ℕ) : Type 0 where
   pub lines : List GcLine
   pub is : text ≡ lines_text lines
-  pub swept : WhereSweepingPods times old (SweepsByPasses times lines old.process old.trace new.trace)
+  pub swept : WhereSweepingPods observed times old (SweepsByPasses times lines old.process old.trace new.trace)
 
 -- what was told of the pods, and what was done with them where it was refused
-abbrev pub GcSays : Times → DirSeen → DirSeen → CommandOutcome → Type 0
-GcSays times old new (Ok text) = SweepsPods times old new text
-GcSays times old new (Err Stray) =
-    (old.observed ≡ true → WasStrayStep old.process old.trace new.trace) × WhereSweepingPods times old (SweepsInPart times old.process old.trace new.trace) × WhereSweepingPods times old (ComesOfApp old.process old.trace new.trace)
-GcSays times old new (Err NoMemory) = WhereSweepingPods times old (SweepsInPart times old.process old.trace new.trace ⊎ SweepsUntold times old.process old.trace new.trace)
-GcSays times old new (Err refusal) = WhereSweepingPods times old (SweepsInPart times old.process old.trace new.trace)
+abbrev pub GcSays : Bool → Times → DirAt → DirAt → CommandOutcome → Type 0
+GcSays observed times old new (Ok text) = SweepsPods observed times old new text
+GcSays observed times old new (Err Stray) =
+    (observed ≡ true → WasStrayStep old.process old.trace new.trace) × WhereSweepingPods observed times old (SweepsInPart times old.process old.trace new.trace) × WhereSweepingPods observed times old (ComesOfApp old.process old.trace new.trace)
+GcSays observed times old new (Err NoMemory) = WhereSweepingPods observed times old (SweepsInPart times old.process old.trace new.trace ⊎ SweepsUntold times old.process old.trace new.trace)
+GcSays observed times old new (Err refusal) = WhereSweepingPods observed times old (SweepsInPart times old.process old.trace new.trace)
 
 -- of a whole process: it printed the lines of what it did
-pub record HasSweptPods (times : Times) (old new : DirSeen) (text : List ℕ) : Type 0 where
+pub record HasSweptPods (times : Times) (old new : DirAt) (text : List ℕ) : Type 0 where
   pub lines : List GcLine
   pub is : text ≡ lines_text lines
   pub swept : Meanwhile (SweepsByPasses times lines) old.process old.trace new.trace
 
 -- it made its six passes
-abbrev pub HasMadePasses : Times → DirSeen → DirSeen → Type 0
+abbrev pub HasMadePasses : Times → DirAt → DirAt → Type 0
 HasMadePasses times old new = Meanwhile (SweepsUntold times) old.process old.trace new.trace
 
 -- it ended early
-abbrev pub HasSweptInPart : Times → DirSeen → DirSeen → Type 0
+abbrev pub HasSweptInPart : Times → DirAt → DirAt → Type 0
 HasSweptInPart times old new = Meanwhile (SweepsInPart times) old.process old.trace new.trace
 
-abbrev pub HasMetStrayInPods : DirSeen → DirSeen → Type 0
+abbrev pub HasMetStrayInPods : DirAt → DirAt → Type 0
 HasMetStrayInPods old new = Meanwhile WasStrayStep old.process old.trace new.trace

@@ -12,6 +12,7 @@ use Rattle.dir_trait.specs.Knowledge.{Knows}
 use Rattle.dir_trait.specs.State.{DirState, folder_at}
 use Rattle.dir_trait.specs.Trace.{state_after}
 use Rattle.dir_files.specs.AreaLocks.{IsBusyElsewhere}
+use Rattle.dir_trait.specs.DirCalls.{DirAt}
 use Rattle.image_removal.specs.declared.pass.SweepLine.{SweepLine}
 use Rattle.image_removal.specs.declared.pass.SweepLine.TheVariants.{Moved, Deleted, BusyGate}
 use Rattle.image_removal.specs.Causes.{WasStrayRemoval}
@@ -22,8 +23,7 @@ use Rattle.image_removal.specs.Work.{MaySweepStore}
 use Rattle.command_outcomes.specs.declared.refusal.Refusal.{Refusal}
 use Rattle.command_outcomes.specs.declared.refusal.Refusal.TheVariants.{DirFault, Stray}
 use Rattle.command_outcomes.specs.Texts.{area_text}
-use Rattle.command_outcomes.specs.Moments.{DirSeen, CommandOutcome}
-use Rattle.command_outcomes.specs.Conforming.{dir_at_moment}
+use Rattle.command_outcomes.specs.Moments.{CommandOutcome}
 use Rattle.command_outcomes.specs.Ends.{is_common}
 use Rattle.command_outcomes.specs.Meanwhile.{Meanwhile}
 use Rattle.commands.specs.SweepTable.{AreSweepLines}
@@ -58,36 +58,36 @@ pub record StrayInSweep (me : ℕ) (old new : List Event) : Type 0 where
   pub early : EndsEarly me old new
 
 -- it is so where the process has begun to sweep
-abbrev pub WhereSweepingImages : DirSeen → Type 0 → Type 0
-WhereSweepingImages old P = old.observed ≡ true → (s : Seen) → Knows (dir_at_moment old) s → MaySweepStore s → P
+abbrev pub WhereSweepingImages : Bool → DirAt → Type 0 → Type 0
+WhereSweepingImages observed old P = observed ≡ true → (s : Seen) → Knows old s → MaySweepStore s → P
 
 -- it printed the lines of what it did, where the process has begun to sweep
-pub record SweepsStore (old new : DirSeen) (text : List ℕ) : Type 0 where
+pub record SweepsStore (observed : Bool) (old new : DirAt) (text : List ℕ) : Type 0 where
   pub lines : List SweepLine
   pub is : text ≡ sweep_texts lines
-  pub swept : WhereSweepingImages old (SweepsImages lines old.process old.trace new.trace)
+  pub swept : WhereSweepingImages observed old (SweepsImages lines old.process old.trace new.trace)
 
 -- what was told of the two areas
-abbrev pub ImageGcSays : DirSeen → DirSeen → CommandOutcome → Type 0
-ImageGcSays old new (Ok text) = SweepsStore old new text
-ImageGcSays old new (Err Stray) = (old.observed ≡ true → StrayInSweep old.process old.trace new.trace) × WhereSweepingImages old (NeverComes new.trace)
-ImageGcSays old new (Err DirFault) = old.observed ≡ true → EndsEarly old.process old.trace new.trace
-ImageGcSays old new (Err refusal) = Unit {0}
+abbrev pub ImageGcSays : Bool → DirAt → DirAt → CommandOutcome → Type 0
+ImageGcSays observed old new (Ok text) = SweepsStore observed old new text
+ImageGcSays observed old new (Err Stray) = (observed ≡ true → StrayInSweep old.process old.trace new.trace) × WhereSweepingImages observed old (NeverComes new.trace)
+ImageGcSays observed old new (Err DirFault) = observed ≡ true → EndsEarly old.process old.trace new.trace
+ImageGcSays observed old new (Err refusal) = Unit {0}
 
 -- of a whole process: it printed the lines of what it did
-pub record HasSwept (old new : DirSeen) (text : List ℕ) : Type 0 where
+pub record HasSwept (old new : DirAt) (text : List ℕ) : Type 0 where
   pub lines : List SweepLine
   pub is : text ≡ sweep_texts lines
   pub swept : Meanwhile (SweepsImages lines) old.process old.trace new.trace
 
-abbrev pub HasEndedEarly : DirSeen → DirSeen → Type 0
+abbrev pub HasEndedEarly : DirAt → DirAt → Type 0
 HasEndedEarly old new = Meanwhile EndsEarly old.process old.trace new.trace
 
-abbrev pub HasMetStrayInSweep : DirSeen → DirSeen → Type 0
+abbrev pub HasMetStrayInSweep : DirAt → DirAt → Type 0
 HasMetStrayInSweep old new = Meanwhile StrayInSweep old.process old.trace new.trace
 
 -- no folder of the area has the text of a uuid as its name, unless another process held the area's lock before
-abbrev pub LeavesNoFolder : Area → DirSeen → DirSeen → Type 0
+abbrev pub LeavesNoFolder : Area → DirAt → DirAt → Type 0
 LeavesNoFolder area old new =
     ((name : List ℕ) → is_uuid name ≡ true → folder_at (state_after new.trace).namespace (record { area = area; name = name }) ≡ None)
     ⊎ IsBusyElsewhere old.process area Exclusive (state_after old.trace)
@@ -101,7 +101,7 @@ pub record PrintsSweepOfState (me : ℕ) (s : DirState) (text : List ℕ) : Type
 
 -- what it comes to where nobody else steps: the lines of the state before, and no such folder is left in either area; or by its own
 -- answers
-abbrev pub SweepsQuietly : DirSeen → DirSeen → CommandOutcome → Type 0
+abbrev pub SweepsQuietly : DirAt → DirAt → CommandOutcome → Type 0
 SweepsQuietly old new (Ok text) = HasSwept old new text × PrintsSweepOfState old.process (state_after old.trace) text × LeavesNoFolder Incoming old new × LeavesNoFolder Removed old new
 SweepsQuietly old new (Err Stray) = HasMetStrayInSweep old new × NeverComes new.trace
 SweepsQuietly old new (Err refusal) = ⊥

@@ -13,7 +13,7 @@ use Rattle.dir_model.specs.declared.intent.Intent.{Intent}
 use Rattle.dir_model.specs.declared.pod.PodId.{PodId}
 use Rattle.dir_model.specs.declared.spot.Mode.TheVariants.{Shared}
 use Rattle.dir_model.specs.declared.spot.Spot.{Spot}
-use Rattle.dir_trait.specs.DirCalls.{HeldBetween}
+use Rattle.dir_trait.specs.DirCalls.{DirAt, HeldBetween}
 use Rattle.dir_trait.specs.Knowledge.{Knows}
 use Rattle.dir_trait.specs.State.{DirState, folder_at, is_owned, spot_eq}
 use Rattle.dir_trait.specs.Trace.{state_after}
@@ -32,8 +32,8 @@ use Rattle.image_store.specs.Requests.{building_spot}
 use Rattle.image_store.specs.Work.{IsImport}
 use Rattle.command_outcomes.specs.declared.refusal.Refusal.{Refusal}
 use Rattle.command_outcomes.specs.declared.refusal.Refusal.TheVariants.{Busy, BadManifest, NoImage, Limit, DirFault, BundleFault, NoMemory, NoFile, Conflict, Damaged, BadKind, Stray}
-use Rattle.command_outcomes.specs.Moments.{DirSeen, BundleSeen, Outside, CommandOutcome}
-use Rattle.command_outcomes.specs.Conforming.{dir_at_moment, seen_at_begin}
+use Rattle.command_outcomes.specs.Moments.{BundleSeen, Outside, CommandOutcome}
+use Rattle.command_outcomes.specs.Conforming.{seen_at_begin}
 use Rattle.command_outcomes.specs.Ends.{is_common}
 use Rattle.standing_images.specs.Images.{SameImages}
 use Rattle.commands.specs.ImageImportTable.{HasOneDigest, RefusesByStanding}
@@ -97,9 +97,9 @@ source_of path bundle = bundle_source_at bundle.observed bundle.tree path
 
 -- the image was there with its digest, and nothing was moved into images; or by an own move its folder came there, and just after
 -- that it holds the image, imported at that moment
-abbrev pub IsStored : BundleImage → ℕ → PodId → DirSeen → DirSeen → Type 0
+abbrev pub IsStored : BundleImage → ℕ → PodId → DirAt → DirAt → Type 0
 IsStored image now draw old new =
-    (WasThere (key_of_image image) (digest_of image) (dir_at_moment old) (dir_at_moment new) × MovedNoImage old.process old.trace new.trace)
+    (WasThere (key_of_image image) (digest_of image) old new × MovedNoImage old.process old.trace new.trace)
     ⊎ IsImported old.process (building_spot draw) (image_spot (key_of_image image)) (IsOf image now) old.trace new.trace
 
 -- the text is the line of the image that the bundle says
@@ -111,34 +111,34 @@ abbrev pub StoresImage : List ℕ → ℕ → PodId → Outside → Outside → 
 StoresImage path now draw old new text = OfBundle (source_of path old.bundle) (λ image. (text ≡ key_line (key_of_image image)) × IsStored image now draw old.dir new.dir)
 
 -- it is so where this process has just begun to import with that draw
-abbrev pub WhereImportBegun : PodId → DirSeen → Type 0 → Type 0
-WhereImportBegun draw old P = (intent : Intent) → IsImport draw intent → Knows (dir_at_moment old) (seen_at_begin intent) → P
+abbrev pub WhereImportBegun : PodId → DirAt → Type 0 → Type 0
+WhereImportBegun draw old P = (intent : Intent) → IsImport draw intent → Knows old (seen_at_begin intent) → P
 
 -- it printed the key, and in an execution in which every process keeps the local rules the image is stored
 pub record ImportsImage (path : List ℕ) (now : ℕ) (draw : PodId) (old new : Outside) (text : List ℕ) : Type 0 where
   pub key : PrintsKey path old.bundle text
-  pub stores : old.dir.observed ≡ true → IsConforming new.dir.trace → WhereImportBegun draw old.dir (StoresImage path now draw old new text)
+  pub stores : old.observed ≡ true → IsConforming new.dir.trace → WhereImportBegun draw old.dir (StoresImage path now draw old new text)
 
 -- why it imported nothing, which came in its turn, and that this is what is said; and it moved nothing into images
 pub record RefusesImage (path : List ℕ) (old new : Outside) (refusal : Refusal) : Type 0 where
   pub error : StoreError
   pub is : refusal ≡ import_refusal error
-  pub cause : IsImportRefused old.dir.observed (source_of path old.bundle) error (dir_at_moment old.dir) (dir_at_moment new.dir)
-  pub turn : RefusalComesInTurn old.dir.observed (source_of path old.bundle) error (dir_at_moment old.dir) (dir_at_moment new.dir)
-  pub still : old.dir.observed ≡ true → MovedNoImage old.dir.process old.dir.trace new.dir.trace
+  pub cause : IsImportRefused old.observed (source_of path old.bundle) error old.dir new.dir
+  pub turn : RefusalComesInTurn old.observed (source_of path old.bundle) error old.dir new.dir
+  pub still : old.observed ≡ true → MovedNoImage old.dir.process old.dir.trace new.dir.trace
 
 -- where a lock was refused, another process held it exclusively at an own step
-abbrev pub IsAreaHeld : Area → DirSeen → DirSeen → Type 0
-IsAreaHeld area old new = HeldBetween (dir_at_moment old) (dir_at_moment new) (IsBusyElsewhere old.process area Shared)
+abbrev pub IsAreaHeld : Area → DirAt → DirAt → Type 0
+IsAreaHeld area old new = HeldBetween old new (IsBusyElsewhere old.process area Shared)
 
-abbrev pub IsHeldFromImport : PodId → Refusal → DirSeen → DirSeen → Type 0
-IsHeldFromImport draw refusal old new = (area : Area) → refusal ≡ Busy area → old.observed ≡ true → WhereImportBegun draw old (IsAreaHeld area old new)
+abbrev pub IsHeldFromImport : Bool → PodId → Refusal → DirAt → DirAt → Type 0
+IsHeldFromImport observed draw refusal old new = (area : Area) → refusal ≡ Busy area → observed ≡ true → WhereImportBegun draw old (IsAreaHeld area old new)
 
 -- what was told of the bundle and of the store
 abbrev pub ImageImportSays : List ℕ → ℕ → PodId → Outside → Outside → CommandOutcome → Type 0
 ImageImportSays path now draw old new (Ok text) = ImportsImage path now draw old new text
 ImageImportSays path now draw old new (Err NoMemory) = Unit {0}
-ImageImportSays path now draw old new (Err refusal) = RefusesImage path old new refusal × IsHeldFromImport draw refusal old.dir new.dir
+ImageImportSays path now draw old new (Err refusal) = RefusesImage path old new refusal × IsHeldFromImport old.observed draw refusal old.dir new.dir
 
 -- each image that stood there stands there still, and holds what it held
 abbrev pub KeepsImages : DirState → DirState → Type 0
@@ -154,9 +154,9 @@ pub record HoldsImage (image : BundleImage) (now : ℕ) (s : DirState) : Type 0 
 
 -- the image stood there before with its digest, and every image is as it was; or none stood at its key, and in the end the folder
 -- there holds it
-abbrev pub ComesStored : BundleImage → ℕ → DirSeen → DirSeen → Type 0
+abbrev pub ComesStored : BundleImage → ℕ → DirAt → DirAt → Type 0
 ComesStored image now old new =
-    (WasThere (key_of_image image) (digest_of image) (dir_at_moment old) (dir_at_moment new) × HasOneDigest (key_of_image image) (digest_of image) (state_after old.trace)
+    (WasThere (key_of_image image) (digest_of image) old new × HasOneDigest (key_of_image image) (digest_of image) (state_after old.trace)
     × SameImages (state_after old.trace) (state_after new.trace))
     ⊎ (IsImageAbsent (key_of_image image) (state_after old.trace) × HoldsImage image now (state_after new.trace))
 

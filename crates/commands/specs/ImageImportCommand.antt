@@ -23,8 +23,8 @@ use Rattle.commands.specs.ImageImport.{image_import_refusal, import_refusal, Ima
 pub record RefusesImport (path : List ℕ) (refusal : Refusal) (old new : Outside) : Type 0 where
   pub own : image_import_refusal refusal ≡ true
   pub why : RefusesImage path old new refusal
-  pub held : (area : Area) → refusal ≡ Busy area → old.dir.observed ≡ true → IsAreaHeld area old.dir new.dir
-  pub lawful : refusal ≡ Stray → old.dir.observed ≡ true → IsConforming new.dir.trace → ⊥
+  pub held : (area : Area) → refusal ≡ Busy area → old.observed ≡ true → IsAreaHeld area old.dir new.dir
+  pub lawful : refusal ≡ Stray → old.observed ≡ true → IsConforming new.dir.trace → ⊥
 
 -- the bundle's first fault was answered, or the bundle has an image; or the bundle failed, or memory ran out
 abbrev pub IsBundleJudgement : List ℕ → ℕ → Moment → Moment → Type 0

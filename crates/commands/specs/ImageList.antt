@@ -10,7 +10,7 @@ use Rattle.dir_model.specs.declared.spot.Mode.TheVariants.{Shared}
 use Rattle.dir_rules.specs.declared.seen.Seen.{Seen}
 use Rattle.dir_trait.specs.State.{DirState}
 use Rattle.dir_trait.specs.Trace.{state_after}
-use Rattle.dir_trait.specs.DirCalls.{HeldBetween}
+use Rattle.dir_trait.specs.DirCalls.{DirAt, HeldBetween}
 use Rattle.dir_trait.specs.Knowledge.{Knows}
 use Rattle.dir_files.specs.AreaLocks.{is_taking_area, is_free_of, IsBusyElsewhere, IsFreeElsewhere}
 use Rattle.dir_files.specs.declared.lock_error.LockError.{LockError}
@@ -24,8 +24,7 @@ use Rattle.standing_images.specs.Damage.{IsFirstDamage}
 use Rattle.standing_images.specs.Images.{AreStore, StoodTogether}
 use Rattle.command_outcomes.specs.declared.refusal.Refusal.{Refusal}
 use Rattle.command_outcomes.specs.declared.refusal.Refusal.TheVariants.{Busy, DirFault, NoMemory, Damaged}
-use Rattle.command_outcomes.specs.Moments.{DirSeen, CommandOutcome}
-use Rattle.command_outcomes.specs.Conforming.{dir_at_moment}
+use Rattle.command_outcomes.specs.Moments.{CommandOutcome}
 use Rattle.command_outcomes.specs.Ends.{is_common}
 
 -- the line that it prints of an image: its key, the name in its manifest, and the moment of its import
@@ -58,43 +57,43 @@ images_read_refusal store_error.DirFault = DirFault
 images_read_refusal error = NoMemory
 
 -- no other process held the lock of the images exclusively at an own step
-abbrev pub FindsFree : DirSeen → DirSeen → Type 0
-FindsFree old new = HeldBetween (dir_at_moment old) (dir_at_moment new) (IsFreeElsewhere old.process Images Shared)
+abbrev pub FindsFree : DirAt → DirAt → Type 0
+FindsFree old new = HeldBetween old new (IsFreeElsewhere old.process Images Shared)
 
 -- it had that lock, and printed the images that it read
-pub record ListsStore (old new : DirSeen) (text : List ℕ) : Type 0 where
+pub record ListsStore (observed : Bool) (old new : DirAt) (text : List ℕ) : Type 0 where
   pub images : List Stored
-  pub free : old.observed ≡ true → FindsFree old new
-  pub told : old.observed ≡ true → ReadsStore images (dir_at_moment old) (dir_at_moment new)
+  pub free : observed ≡ true → FindsFree old new
+  pub told : observed ≡ true → ReadsStore images old new
   pub is : text ≡ images_text images
 
 -- it printed the images that stood together while it had the lock
-pub record ListsStanding (old new : DirSeen) (text : List ℕ) : Type 0 where
+pub record ListsStanding (old new : DirAt) (text : List ℕ) : Type 0 where
   pub images : List Stored
   pub is : text ≡ images_text images
   pub stood : StoodTogether images old.process old.trace new.trace
 
 -- it is so where the process knows that it has no handle open on the lock of the images
-abbrev pub WhereFree : DirSeen → Type 0 → Type 0
-WhereFree old P = old.observed ≡ true → (s : Seen) → Knows (dir_at_moment old) s → is_free_of Images s ≡ true → P
+abbrev pub WhereFree : Bool → DirAt → Type 0 → Type 0
+WhereFree observed old P = observed ≡ true → (s : Seen) → Knows old s → is_free_of Images s ≡ true → P
 
 -- another process held the lock of the images exclusively at an own step
-abbrev pub ImagesHeldElsewhere : DirSeen → DirSeen → Type 0
-ImagesHeldElsewhere old new = HeldBetween (dir_at_moment old) (dir_at_moment new) (IsBusyElsewhere old.process Images Shared)
+abbrev pub ImagesHeldElsewhere : DirAt → DirAt → Type 0
+ImagesHeldElsewhere old new = HeldBetween old new (IsBusyElsewhere old.process Images Shared)
 
 -- it had the lock, and the path is of a part that wasn't there or had no reading, the first of its image, which is the first that isn't
 -- whole of those that the listing of the area showed
-pub record ListsLackingPart (path : List ℕ) (old new : DirSeen) : Type 0 where
+pub record ListsLackingPart (observed : Bool) (path : List ℕ) (old new : DirAt) : Type 0 where
   pub place : IsStorePath path
-  pub free : old.observed ≡ true → FindsFree old new
-  pub told : old.observed ≡ true → LacksListed (store_error.Damaged path) (dir_at_moment old) (dir_at_moment new)
+  pub free : observed ≡ true → FindsFree old new
+  pub told : observed ≡ true → LacksListed (store_error.Damaged path) old new
 
 -- what was told of the images, or of their lock
-abbrev pub ImageListSays : DirSeen → DirSeen → CommandOutcome → Type 0
-ImageListSays old new (Ok text) = ListsStore old new text × WhereFree old (IsConforming new.trace → ListsStanding old new text)
-ImageListSays old new (Err (Busy area)) = WhereFree old (ImagesHeldElsewhere old new)
-ImageListSays old new (Err (Damaged path)) = ListsLackingPart path old new
-ImageListSays old new (Err refusal) = Unit {0}
+abbrev pub ImageListSays : Bool → DirAt → DirAt → CommandOutcome → Type 0
+ImageListSays observed old new (Ok text) = ListsStore observed old new text × WhereFree observed old (IsConforming new.trace → ListsStanding old new text)
+ImageListSays observed old new (Err (Busy area)) = WhereFree observed old (ImagesHeldElsewhere old new)
+ImageListSays observed old new (Err (Damaged path)) = ListsLackingPart observed path old new
+ImageListSays observed old new (Err refusal) = Unit {0}
 
 -- the text is that of the images of the store, whatever list of them is taken
 pub record PrintsStore (s : DirState) (text : List ℕ) : Type 0 where
@@ -110,12 +109,12 @@ pub record NamesDamage (s : DirState) (path : List ℕ) : Type 0 where
   pub only : (other : List ℕ) → IsFirstDamage other s → path ≡ other
 
 -- no other process holds the lock of the images exclusively, and this is so
-abbrev pub WhereUnheld : DirSeen → (DirState → Type 0) → Type 0
+abbrev pub WhereUnheld : DirAt → (DirState → Type 0) → Type 0
 WhereUnheld old P = IsFreeElsewhere old.process Images Shared (state_after old.trace) × P (state_after old.trace)
 
 -- what it comes to where nobody else steps: by the lock as it was held before; or by its own reads, which are of the store as it was before
-abbrev pub ListsImagesQuietly : DirSeen → DirSeen → CommandOutcome → Type 0
-ListsImagesQuietly old new (Ok text) = ListsStore old new text × WhereUnheld old (λ s. PrintsStore s text)
-ListsImagesQuietly old new (Err (Busy area)) = (area ≡ Images) × IsBusyElsewhere old.process Images Shared (state_after old.trace)
-ListsImagesQuietly old new (Err (Damaged path)) = ListsLackingPart path old new × WhereUnheld old (λ s. NamesDamage s path)
-ListsImagesQuietly old new (Err refusal) = ⊥
+abbrev pub ListsImagesQuietly : Bool → DirAt → DirAt → CommandOutcome → Type 0
+ListsImagesQuietly observed old new (Ok text) = ListsStore observed old new text × WhereUnheld old (λ s. PrintsStore s text)
+ListsImagesQuietly observed old new (Err (Busy area)) = (area ≡ Images) × IsBusyElsewhere old.process Images Shared (state_after old.trace)
+ListsImagesQuietly observed old new (Err (Damaged path)) = ListsLackingPart observed path old new × WhereUnheld old (λ s. NamesDamage s path)
+ListsImagesQuietly observed old new (Err refusal) = ⊥

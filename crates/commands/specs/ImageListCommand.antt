@@ -1,11 +1,12 @@
 -- `image list`, as a whole process of it.
-use Rattle.std.specs.Prelude.{◌≡◌, ℕ, true, List, [], Some}
+use Rattle.std.specs.Prelude.{◌≡◌, ℕ, true, List, [], Some, Bool}
 use Rattle.dep_match.specs.declared.stored.Stored.{Stored}
 use Rattle.dir_model.specs.declared.area.Area.TheVariants.{Images}
 use Rattle.dir_model.specs.declared.intent.Kind.TheVariants as kind
+use Rattle.dir_trait.specs.DirCalls.{DirAt}
 use Rattle.command_outcomes.specs.declared.refusal.Refusal.{Refusal}
 use Rattle.command_outcomes.specs.declared.refusal.Refusal.TheVariants.{Busy, Damaged}
-use Rattle.command_outcomes.specs.Moments.{DirSeen, Moment}
+use Rattle.command_outcomes.specs.Moments.{Moment}
 use Rattle.commands.specs.Answers.{WritesOf}
 use Rattle.commands.specs.Opening.{directly}
 use Rattle.commands.specs.Phases.{names_none}
@@ -14,15 +15,15 @@ use Rattle.commands.specs.ImageList.{image_list_refusal, lists_images, images_te
 use Rattle.commands.specs.NextState.{LeavesAll}
 
 -- another process held the lock of the images exclusively at an own step; or a part of an image wasn't there or had no reading
-abbrev pub RefusesImageList : Refusal → DirSeen → DirSeen → Type 0
-RefusesImageList (Busy Images) old new = old.observed ≡ true → ImagesHeldElsewhere old new
-RefusesImageList (Damaged path) old new = ListsLackingPart path old new
-RefusesImageList refusal old new = ⊥
+abbrev pub RefusesImageList : Bool → Refusal → DirAt → DirAt → Type 0
+RefusesImageList observed (Busy Images) old new = observed ≡ true → ImagesHeldElsewhere old new
+RefusesImageList observed (Damaged path) old new = ListsLackingPart observed path old new
+RefusesImageList observed refusal old new = ⊥
 
 -- with status 0 it wrote the lines of the images that it read; and where every process keeps the local rules, they stood together while it
 -- had the lock, and are all that stood when its listing began
 pub record TellsImageLines (status : ℕ) (old new : Moment) : Type 0 where
-  pub read : WhereObserved old (status ≡ 0 → WritesOf (ListsStore old.outside.dir new.outside.dir) old new)
+  pub read : WhereObserved old (status ≡ 0 → WritesOf (ListsStore old.outside.observed old.outside.dir new.outside.dir) old new)
   pub stood : WhereAllKeepRules old new (status ≡ 0 → WritesOf (ListsStanding old.outside.dir new.outside.dir) old new)
 
 -- it asks for images and their lock
@@ -34,10 +35,10 @@ image_list_command = record {
   reads = nothing;
   prints = λ draw bundle text. (images : List Stored) × (text ≡ images_text images);
   refusals = image_list_refusal;
-  refused_for = λ now draw refusal old new. RefusesImageList refusal old.outside.dir new.outside.dir;
+  refused_for = λ now draw refusal old new. RefusesImageList old.outside.observed refusal old.outside.dir new.outside.dir;
   names = names_none;
   tells = λ now draw status old new. TellsImageLines status old new;
-  quiet = λ now draw old new o. ListsImagesQuietly old.outside.dir new.outside.dir o;
+  quiet = λ now draw old new o. ListsImagesQuietly old.outside.observed old.outside.dir new.outside.dir o;
   leaves = λ me draw old new. LeavesAll me old new;
-  says = alone (λ now draw old new o. ImageListSays old.dir new.dir o);
+  says = alone (λ now draw old new o. ImageListSays old.observed old.dir new.dir o);
 }

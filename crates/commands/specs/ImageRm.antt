@@ -13,6 +13,7 @@ use Rattle.dir_trait.specs.Knowledge.{Knows}
 use Rattle.dir_trait.specs.State.{folder_at, spot_eq}
 use Rattle.dir_trait.specs.Trace.{state_after}
 use Rattle.dir_files.specs.AreaLocks.{is_taking_area, IsBusyElsewhere}
+use Rattle.dir_trait.specs.DirCalls.{DirAt}
 use Rattle.image_reading.specs.declared.error.StoreError.{StoreError}
 use Rattle.image_reading.specs.declared.error.StoreError.TheVariants as store_error
 use Rattle.image_reading.specs.Places.{image_spot, IsImageAbsent}
@@ -23,8 +24,7 @@ use Rattle.image_removal.specs.Work.{MayRemoveImage}
 use Rattle.command_outcomes.specs.declared.refusal.Refusal.{Refusal}
 use Rattle.command_outcomes.specs.declared.refusal.Refusal.TheVariants.{Busy, NoImage, DirFault, NoMemory, Stray}
 use Rattle.command_outcomes.specs.Texts.{named_line}
-use Rattle.command_outcomes.specs.Moments.{DirSeen, CommandOutcome}
-use Rattle.command_outcomes.specs.Conforming.{dir_at_moment}
+use Rattle.command_outcomes.specs.Moments.{CommandOutcome}
 use Rattle.command_outcomes.specs.Ends.{is_common}
 use Rattle.command_outcomes.specs.Meanwhile.{Meanwhile}
 use Rattle.commands.specs.Strays.{NeverComes}
@@ -62,45 +62,45 @@ pub record FindsBusy (me : ℕ) (old new : List Event) : Type 0 where
   pub only : Extends (is_taking_area Images Exclusive) me old new
 
 -- it is so where the process has begun to remove an image with that draw
-abbrev pub WhereRemovingImage : PodId → DirSeen → Type 0 → Type 0
-WhereRemovingImage draw old P = old.observed ≡ true → (s : Seen) → Knows (dir_at_moment old) s → MayRemoveImage draw s → P
+abbrev pub WhereRemovingImage : Bool → PodId → DirAt → Type 0 → Type 0
+WhereRemovingImage observed draw old P = observed ≡ true → (s : Seen) → Knows old s → MayRemoveImage draw s → P
 
 -- it printed the image's key, and the image was removed
-pub record RemovesImage (key : StoreKey) (draw : PodId) (old new : DirSeen) (text : List ℕ) : Type 0 where
+pub record RemovesImage (observed : Bool) (key : StoreKey) (draw : PodId) (old new : DirAt) (text : List ℕ) : Type 0 where
   pub is : text ≡ removed_image_text key
-  pub removed : WhereRemovingImage draw old (RemovesStoredImage key draw old.process old.trace new.trace)
+  pub removed : WhereRemovingImage observed draw old (RemovesStoredImage key draw old.process old.trace new.trace)
 
 -- it named the key, and its own move was answered that no image has it, and none had
-pub record FindsNoImage (key : StoreKey) (draw : PodId) (old new : DirSeen) (named : List ℕ) : Type 0 where
+pub record FindsNoImage (observed : Bool) (key : StoreKey) (draw : PodId) (old new : DirAt) (named : List ℕ) : Type 0 where
   pub is : named ≡ id_text key.bytes
-  pub found : old.observed ≡ true → FoundNoImage key draw old.process old.trace new.trace
+  pub found : observed ≡ true → FoundNoImage key draw old.process old.trace new.trace
 
 -- what was told of the image and of the locks
-abbrev pub ImageRmSays : StoreKey → PodId → DirSeen → DirSeen → CommandOutcome → Type 0
-ImageRmSays key draw old new (Ok text) = RemovesImage key draw old new text
-ImageRmSays key draw old new (Err (Busy area)) = WhereRemovingImage draw old (FindsBusy old.process old.trace new.trace)
-ImageRmSays key draw old new (Err (NoImage named)) = FindsNoImage key draw old new named
-ImageRmSays key draw old new (Err Stray) = (old.observed ≡ true → StrayRemoval key draw old.process old.trace new.trace) × WhereRemovingImage draw old (NeverComes new.trace)
-ImageRmSays key draw old new (Err refusal) = Unit {0}
+abbrev pub ImageRmSays : Bool → StoreKey → PodId → DirAt → DirAt → CommandOutcome → Type 0
+ImageRmSays observed key draw old new (Ok text) = RemovesImage observed key draw old new text
+ImageRmSays observed key draw old new (Err (Busy area)) = WhereRemovingImage observed draw old (FindsBusy old.process old.trace new.trace)
+ImageRmSays observed key draw old new (Err (NoImage named)) = FindsNoImage observed key draw old new named
+ImageRmSays observed key draw old new (Err Stray) = (observed ≡ true → StrayRemoval key draw old.process old.trace new.trace) × WhereRemovingImage observed draw old (NeverComes new.trace)
+ImageRmSays observed key draw old new (Err refusal) = Unit {0}
 
 -- of a whole process: that it removed the image, that it found none, that it met an answer which the locks don't explain
-abbrev pub HasRemoved : StoreKey → PodId → DirSeen → DirSeen → Type 0
+abbrev pub HasRemoved : StoreKey → PodId → DirAt → DirAt → Type 0
 HasRemoved key draw old new = Meanwhile (RemovesStoredImage key draw) old.process old.trace new.trace
 
-abbrev pub HasFoundNone : StoreKey → PodId → DirSeen → DirSeen → Type 0
+abbrev pub HasFoundNone : StoreKey → PodId → DirAt → DirAt → Type 0
 HasFoundNone key draw old new = Meanwhile (FoundNoImage key draw) old.process old.trace new.trace
 
-abbrev pub HasMetStray : StoreKey → PodId → DirSeen → DirSeen → Type 0
+abbrev pub HasMetStray : StoreKey → PodId → DirAt → DirAt → Type 0
 HasMetStray key draw old new = Meanwhile (StrayRemoval key draw) old.process old.trace new.trace
 
 -- no image has the key any more, and its folder is gone, unless another process held the lock of removed before
-pub record LeavesNone (key : StoreKey) (draw : PodId) (old new : DirSeen) : Type 0 where
+pub record LeavesNone (key : StoreKey) (draw : PodId) (old new : DirAt) : Type 0 where
   pub absent : IsImageAbsent key (state_after new.trace)
   pub gone : (folder_at (state_after new.trace).namespace (away_spot draw) ≡ None) ⊎ IsBusyElsewhere old.process Removed Exclusive (state_after old.trace)
 
 -- what it comes to where nobody else steps: the image is gone; or none had the key before, or the lock was held before, or by its
 -- own answers
-abbrev pub RemovesQuietly : StoreKey → PodId → DirSeen → DirSeen → CommandOutcome → Type 0
+abbrev pub RemovesQuietly : StoreKey → PodId → DirAt → DirAt → CommandOutcome → Type 0
 RemovesQuietly key draw old new (Ok text) = (text ≡ removed_image_text key) × HasRemoved key draw old new × LeavesNone key draw old new
 RemovesQuietly key draw old new (Err (Busy area)) = (area ≡ Images) × IsBusyElsewhere old.process Images Exclusive (state_after old.trace)
 RemovesQuietly key draw old new (Err (NoImage named)) = (named ≡ id_text key.bytes) × HasFoundNone key draw old new × IsImageAbsent key (state_after old.trace)

@@ -31,8 +31,8 @@ use Rattle.pod_build.specs.Causes.{IsBuildRefused, IsMadeByPlan, FindsImagesFree
 use Rattle.pod_build.specs.Preparations.{Began, KnowsPrepared, IsPrepared}
 use Rattle.command_outcomes.specs.declared.refusal.Refusal.{Refusal}
 use Rattle.command_outcomes.specs.declared.refusal.Refusal.TheVariants.{Busy, DirFault, NoMemory}
-use Rattle.command_outcomes.specs.Moments.{DirSeen, CommandOutcome}
-use Rattle.command_outcomes.specs.Conforming.{dir_at_moment, seen_at_begin}
+use Rattle.command_outcomes.specs.Moments.{CommandOutcome}
+use Rattle.command_outcomes.specs.Conforming.{seen_at_begin}
 use Rattle.command_outcomes.specs.Meanwhile.{Meanwhile}
 use Rattle.commands.specs.References.{OfReferences}
 use Rattle.commands.specs.Wants.{Wants}
@@ -62,24 +62,24 @@ SyncSays line observed old new (Err DirFault) = DirCall observed old (SyncArea a
 SyncSays line observed old new (Err refusal) = ⊥
 
 -- it is so where this process has just begun to prepare with that draw
-abbrev pub WherePrepareBegun : Draw → ℕ → DirSeen → (Intent → Type 0) → Type 0
-WherePrepareBegun draw now old P = (intent : Intent) → Began area.Prepared draw now intent → Knows (dir_at_moment old) (seen_at_begin intent) → P intent
+abbrev pub WherePrepareBegun : Draw → ℕ → DirAt → (Intent → Type 0) → Type 0
+WherePrepareBegun draw now old P = (intent : Intent) → Began area.Prepared draw now intent → Knows old (seen_at_begin intent) → P intent
 
 -- the pod that is wanted was prepared faithfully, by an own Ok move
-abbrev pub IsFaithful : Wants → PodId → DirSeen → DirSeen → Type 0
+abbrev pub IsFaithful : Wants → PodId → DirAt → DirAt → Type 0
 IsFaithful wants draw old new = OfReferences wants.images (λ refs. IsPrepared refs wants.wishes old.process draw area.Prepared old.trace new.trace)
 
 -- by its own answers it brought the pod to prepared, by the plan that the store gave, and had the lock of images, which no other process held
 -- exclusively; and where every process keeps the local rules, the pod was prepared faithfully. Then it asked that the area be synced, which was answered so
-pub record BringsAndSyncsPod (wants : Wants) (now : ℕ) (draw : Draw) (reply : Reply) (old new : DirSeen) : Type 0 where
-  pub brought : DirSeen
+pub record BringsAndSyncsPod (observed : Bool) (wants : Wants) (now : ℕ) (draw : Draw) (reply : Reply) (old new : DirAt) : Type 0 where
+  pub brought : DirAt
   pub same : brought.process ≡ old.process
-  pub free : FindsImagesFree old.observed (dir_at_moment old) (dir_at_moment brought)
-  pub planned : OfReferences wants.images (λ refs. IsMadeByPlan old.observed refs wants.wishes draw now (dir_at_moment old) (dir_at_moment brought))
-  pub extends : old.observed ≡ true → Extends (prepares draw.uuid area.Prepared) old.process old.trace brought.trace
-  pub knows : old.observed ≡ true → WherePrepareBegun draw now old (λ intent. KnowsPrepared draw.uuid area.Prepared intent [] (dir_at_moment brought))
-  pub faithful : old.observed ≡ true → IsConforming brought.trace → WherePrepareBegun draw now old (λ intent. IsFaithful wants draw.uuid old brought)
-  pub synced : old.observed ≡ true → CallStep old.process brought.trace (SyncArea area.Prepared) reply new.trace
+  pub free : FindsImagesFree observed old brought
+  pub planned : OfReferences wants.images (λ refs. IsMadeByPlan observed refs wants.wishes draw now old brought)
+  pub extends : observed ≡ true → Extends (prepares draw.uuid area.Prepared) old.process old.trace brought.trace
+  pub knows : observed ≡ true → WherePrepareBegun draw now old (λ intent. KnowsPrepared draw.uuid area.Prepared intent [] brought)
+  pub faithful : observed ≡ true → IsConforming brought.trace → WherePrepareBegun draw now old (λ intent. IsFaithful wants draw.uuid old brought)
+  pub synced : observed ≡ true → CallStep old.process brought.trace (SyncArea area.Prepared) reply new.trace
 
 -- by its own answers it knew the pod in prepared and held nothing, and then its sync of that area was answered so
 pub record SyncsPreparedArea (draw : PodId) (reply : Reply) (me : ℕ) (old new : List Event) : Type 0 where
@@ -91,10 +91,10 @@ pub record SyncsPreparedArea (draw : PodId) (reply : Reply) (me : ℕ) (old new 
   pub synced : CallStep me mid (SyncArea area.Prepared) reply new
 
 -- a whole process did so, where the sync was answered so, or Ok
-abbrev pub HasBrought : PodId → Reply → DirSeen → DirSeen → Type 0
+abbrev pub HasBrought : PodId → Reply → DirAt → DirAt → Type 0
 HasBrought draw reply old new = Meanwhile (SyncsPreparedArea draw reply) old.process old.trace new.trace
 
-abbrev pub HasSynced : PodId → DirSeen → DirSeen → Type 0
+abbrev pub HasSynced : PodId → DirAt → DirAt → Type 0
 HasSynced draw old new = HasBrought draw Done old new
 
 -- by its own answers it holds nothing, and has made no folder, or one that stands in embryo or in prepare
@@ -105,29 +105,29 @@ pub record KeepsFolder (draw : PodId) (me : ℕ) (old new : List Event) : Type 0
   pub knew : IsTied me new (seen_making intent [] progress)
 
 -- a whole process left it so, or asked for no more than to begin
-abbrev pub HasKeptFolder : PodId → DirSeen → DirSeen → Type 0
+abbrev pub HasKeptFolder : PodId → DirAt → DirAt → Type 0
 HasKeptFolder draw old new = Extends is_begin old.process old.trace new.trace ⊎ Meanwhile (KeepsFolder draw) old.process old.trace new.trace
 
 -- it leaves nothing, or its own folder in embryo or in prepare, and no lock
-abbrev pub LeavesFolder : ℕ → Draw → DirSeen → DirSeen → Type 0
-LeavesFolder now draw old new = old.observed ≡ true → WherePrepareBegun draw now old (λ intent. HasMakerFolder draw.uuid intent [] (dir_at_moment new))
+abbrev pub LeavesFolder : Bool → ℕ → Draw → DirAt → DirAt → Type 0
+LeavesFolder observed now draw old new = observed ≡ true → WherePrepareBegun draw now old (λ intent. HasMakerFolder draw.uuid intent [] new)
 
 -- why the pod wasn't prepared, and that this is what is said
-pub record RefusesPod (wants : Wants) (now : ℕ) (draw : Draw) (old new : DirSeen) (refusal : Refusal) : Type 0 where
+pub record RefusesPod (observed : Bool) (wants : Wants) (now : ℕ) (draw : Draw) (old new : DirAt) (refusal : Refusal) : Type 0 where
   pub error : BuildError
   pub is : refusal ≡ refusal_of_build wants.images error
-  pub cause : OfReferences wants.images (λ refs. IsBuildRefused old.observed refs wants.wishes draw now error (dir_at_moment old) (dir_at_moment new))
+  pub cause : OfReferences wants.images (λ refs. IsBuildRefused observed refs wants.wishes draw now error old new)
 
 -- where a lock was refused, another process held it exclusively at an own step
-abbrev pub IsAreaHeld : Area → DirSeen → DirSeen → Type 0
-IsAreaHeld area old new = HeldBetween (dir_at_moment old) (dir_at_moment new) (IsBusyElsewhere old.process area Shared)
+abbrev pub IsAreaHeld : Area → DirAt → DirAt → Type 0
+IsAreaHeld area old new = HeldBetween old new (IsBusyElsewhere old.process area Shared)
 
-abbrev pub IsHeldFromPrepare : ℕ → Draw → Refusal → DirSeen → DirSeen → Type 0
-IsHeldFromPrepare now draw refusal old new = (area : Area) → refusal ≡ Busy area → old.observed ≡ true → WherePrepareBegun draw now old (λ intent. IsAreaHeld area old new)
+abbrev pub IsHeldFromPrepare : Bool → ℕ → Draw → Refusal → DirAt → DirAt → Type 0
+IsHeldFromPrepare observed now draw refusal old new = (area : Area) → refusal ≡ Busy area → observed ≡ true → WherePrepareBegun draw now old (λ intent. IsAreaHeld area old new)
 
 -- what was told of the pod. Only where the area wasn't synced the pod stands in prepared, and its name isn't printed
-abbrev pub PrepareSays : Wants → ℕ → Draw → DirSeen → DirSeen → CommandOutcome → Type 0
-PrepareSays wants now draw old new (Ok text) = (text ≡ pod_line draw.uuid) × BringsAndSyncsPod wants now draw Done old new
-PrepareSays wants now draw old new (Err NoMemory) = LeavesFolder now draw old new ⊎ BringsAndSyncsPod wants now draw (Refused dir.NoMemory 0) old new
-PrepareSays wants now draw old new (Err DirFault) = LeavesFolder now draw old new ⊎ BringsAndSyncsPod wants now draw (Refused dir.Failed 0) old new
-PrepareSays wants now draw old new (Err refusal) = LeavesFolder now draw old new × RefusesPod wants now draw old new refusal × IsHeldFromPrepare now draw refusal old new
+abbrev pub PrepareSays : Bool → Wants → ℕ → Draw → DirAt → DirAt → CommandOutcome → Type 0
+PrepareSays observed wants now draw old new (Ok text) = (text ≡ pod_line draw.uuid) × BringsAndSyncsPod observed wants now draw Done old new
+PrepareSays observed wants now draw old new (Err NoMemory) = LeavesFolder observed now draw old new ⊎ BringsAndSyncsPod observed wants now draw (Refused dir.NoMemory 0) old new
+PrepareSays observed wants now draw old new (Err DirFault) = LeavesFolder observed now draw old new ⊎ BringsAndSyncsPod observed wants now draw (Refused dir.Failed 0) old new
+PrepareSays observed wants now draw old new (Err refusal) = LeavesFolder observed now draw old new × RefusesPod observed wants now draw old new refusal × IsHeldFromPrepare observed now draw refusal old new

@@ -1,14 +1,15 @@
 -- `prepare IMAGE..`, as a whole process of it.
-use Rattle.std.specs.Prelude.{◌≡◌, ◌⊎◌, ◌||◌, ◌==◌, ℕ, true, false, [], Some}
+use Rattle.std.specs.Prelude.{◌≡◌, ◌⊎◌, ◌||◌, ◌==◌, ℕ, true, false, [], Some, Bool}
 use Rattle.dir_model.specs.declared.area.Area.{Area}
 use Rattle.dir_model.specs.declared.intent.Draw.{Draw}
 use Rattle.dir_model.specs.declared.intent.Kind.TheVariants as kind
 use Rattle.dir_model.specs.declared.pod.PodId.{PodId}
 use Rattle.dir_model.specs.declared.request.DirError.TheVariants.{Failed, NoMemory}
 use Rattle.dir_model.specs.declared.request.Reply.TheVariants.{Refused}
+use Rattle.dir_trait.specs.DirCalls.{DirAt}
 use Rattle.command_outcomes.specs.declared.refusal.Refusal.{Refusal}
 use Rattle.command_outcomes.specs.declared.refusal.Refusal.TheVariants.{Busy}
-use Rattle.command_outcomes.specs.Moments.{DirSeen, Moment}
+use Rattle.command_outcomes.specs.Moments.{Moment}
 use Rattle.commands.specs.Answers.{WritesOf}
 use Rattle.commands.specs.Opening.{directly}
 use Rattle.commands.specs.Phases.{names_none}
@@ -21,15 +22,15 @@ use Rattle.commands.specs.Wants.{Wants}
 
 -- why the pod wasn't prepared, by its own reads and answers; and where a lock was refused, another process held it exclusively at an
 -- own step
-pub record RefusesPrepare (wants : Wants) (now : ℕ) (draw : Draw) (refusal : Refusal) (old new : DirSeen) : Type 0 where
+pub record RefusesPrepare (observed : Bool) (wants : Wants) (now : ℕ) (draw : Draw) (refusal : Refusal) (old new : DirAt) : Type 0 where
   pub own : prepare_refusal refusal ≡ true
-  pub why : RefusesPod wants now draw old new refusal
-  pub held : (area : Area) → refusal ≡ Busy area → old.observed ≡ true → IsAreaHeld area old new
+  pub why : RefusesPod observed wants now draw old new refusal
+  pub held : (area : Area) → refusal ≡ Busy area → observed ≡ true → IsAreaHeld area old new
 
 -- with status 0 and 12 it brought the pod to prepared and synced that area; with 9 it may have, and the sync was refused; with 14 it may
 -- have, and memory ran out at the sync or later. Else, and only with another status than 0 and 12, it left at most its own folder in
 -- embryo or in prepare; in each case it held no lock
-abbrev pub LeavesPod : PodId → ℕ → DirSeen → DirSeen → Type 0
+abbrev pub LeavesPod : PodId → ℕ → DirAt → DirAt → Type 0
 LeavesPod draw status old new =
     (((status ≡ 0) ⊎ (status ≡ 12)) × HasSynced draw old new)
     ⊎ ((status ≡ 9) × HasBrought draw (Refused Failed 0) old new)
@@ -52,10 +53,10 @@ prepare_command wants = record {
   reads = nothing;
   prints = λ draw bundle text. text ≡ pod_line draw.uuid;
   refusals = prepare_refusal;
-  refused_for = λ now draw refusal old new. RefusesPrepare wants now draw refusal old.outside.dir new.outside.dir;
+  refused_for = λ now draw refusal old new. RefusesPrepare old.outside.observed wants now draw refusal old.outside.dir new.outside.dir;
   names = names_none;
   tells = λ now draw status old new. TellsPrepare wants draw status old new;
-  quiet = λ now draw old new o. PreparesQuietly wants now draw old.outside.dir new.outside.dir o;
+  quiet = λ now draw old new o. PreparesQuietly old.outside.observed wants now draw old.outside.dir new.outside.dir o;
   leaves = λ me draw old new. LeavesBeside (is_making_spot draw.uuid) me old new;
-  says = alone (λ now draw old new o. PrepareSays wants now draw old.dir new.dir o);
+  says = alone (λ now draw old new o. PrepareSays old.observed wants now draw old.dir new.dir o);
 }

@@ -13,8 +13,9 @@ use Rattle.dir_trait.specs.Trace.{state_after}
 use Rattle.dir_files.specs.AreaLocks.{IsBusyElsewhere, IsFreeElsewhere}
 use Rattle.lifecycle.specs.Executions.{IsConforming}
 use Rattle.dir_model.specs.Spots.{pod_spot}
+use Rattle.dir_trait.specs.DirCalls.{DirAt}
 use Rattle.command_outcomes.specs.declared.refusal.Refusal.TheVariants.{Busy, DirFault, Stray, NoMemory}
-use Rattle.command_outcomes.specs.Moments.{DirSeen, CommandOutcome}
+use Rattle.command_outcomes.specs.Moments.{CommandOutcome}
 use Rattle.pod_build.specs.Preparations.{IsPrepared}
 use Rattle.pod_manifest.specs.Wishes.{Wishes}
 use Rattle.standing_images.specs.Images.{AreStore}
@@ -31,23 +32,23 @@ pub record StandsPrepared {refs : List ImageRef} {wishes : Wishes} {me : ℕ} {d
 
 -- of some references that its words are, the pod was prepared faithfully, of the images that are the store of the state before, and stands
 -- in the end as it was made; and nothing refused them
-abbrev pub HasPreparedQuietly : Wants → PodId → DirSeen → DirSeen → Type 0
+abbrev pub HasPreparedQuietly : Wants → PodId → DirAt → DirAt → Type 0
 HasPreparedQuietly wants draw old new =
     OfReferences wants.images (λ refs. (x : IsPrepared refs wants.wishes old.process draw Prepared old.trace new.trace) × StandsPrepared x (state_after new.trace)
     × AreStore x.faithful.images (state_after old.trace) × NothingRefuses old.process draw refs wants.wishes (state_after old.trace))
 
 -- by its own reads, and by the state before: by a lock that another process holds, or by the store, where nobody else holds that of
 -- images exclusively
-abbrev pub PreparesQuietly : Wants → ℕ → Draw → DirSeen → DirSeen → CommandOutcome → Type 0
-PreparesQuietly wants now draw old new (Ok text) =
+abbrev pub PreparesQuietly : Bool → Wants → ℕ → Draw → DirAt → DirAt → CommandOutcome → Type 0
+PreparesQuietly observed wants now draw old new (Ok text) =
     (text ≡ pod_line draw.uuid) × IsFreeElsewhere old.process Images Shared (state_after old.trace) × (IsConforming new.trace → HasPreparedQuietly wants draw.uuid old new)
-PreparesQuietly wants now draw old new (Err (Busy area)) =
-    RefusesPod wants now draw old new (Busy area) × IsBusyElsewhere old.process area Shared (state_after old.trace)
+PreparesQuietly observed wants now draw old new (Err (Busy area)) =
+    RefusesPod observed wants now draw old new (Busy area) × IsBusyElsewhere old.process area Shared (state_after old.trace)
     × RefusesByState wants draw.uuid (Busy area) old.process (state_after old.trace)
-PreparesQuietly wants now draw old new (Err NoMemory) = ⊥
-PreparesQuietly wants now draw old new (Err DirFault) = ⊥
-PreparesQuietly wants now draw old new (Err Stray) = RefusesPod wants now draw old new Stray × NeverComes new.trace
-PreparesQuietly wants now draw old new (Err refusal) = RefusesPod wants now draw old new refusal × RefusesByState wants draw.uuid refusal old.process (state_after old.trace)
+PreparesQuietly observed wants now draw old new (Err NoMemory) = ⊥
+PreparesQuietly observed wants now draw old new (Err DirFault) = ⊥
+PreparesQuietly observed wants now draw old new (Err Stray) = RefusesPod observed wants now draw old new Stray × NeverComes new.trace
+PreparesQuietly observed wants now draw old new (Err refusal) = RefusesPod observed wants now draw old new refusal × RefusesByState wants draw.uuid refusal old.process (state_after old.trace)
 
 -- where it makes and moves folders
 abbrev pub is_making_spot : PodId → Spot → Bool

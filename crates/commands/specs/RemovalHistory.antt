@@ -4,12 +4,12 @@ use Rattle.std.specs.List.{AllByRecursion}
 use Rattle.dir_model.specs.declared.event.Event.{Event}
 use Rattle.dir_model.specs.declared.pod.PodId.{PodId}
 use Rattle.dir_model.specs.Pods.{pod_text}
+use Rattle.dir_trait.specs.DirCalls.{DirAt}
 use Rattle.lifecycle.specs.PodMachine.{pod_state, exists}
 use Rattle.pod_locks.specs.Work.{Grew}
 use Rattle.pod_gc.specs.declared.ages.Times.{Times}
 use Rattle.pod_gc.specs.declared.line.Deed.TheVariants.{Deleted}
 use Rattle.pod_gc.specs.declared.line.GcLine.{GcLine}
-use Rattle.command_outcomes.specs.Moments.{DirSeen}
 use Rattle.commands.specs.Gc.{HasSweptPods}
 use Rattle.commands.specs.RemovalQuiet.{IsGoneForGood}
 
@@ -30,6 +30,6 @@ abbrev pub IsDeletedForGood : List Event → List Event → GcLine → Type 0
 IsDeletedForGood old new line = (pod : PodId) → line.pod ≡ Some pod → line.deed ≡ Deleted → ExistedThenGone pod old new
 
 -- a sweep printed the lines of what it did, and so are the pods that they call deleted
-pub record SweepsForGood (times : Times) (old new : DirSeen) (text : List ℕ) : Type 0 where
+pub record SweepsForGood (times : Times) (old new : DirAt) (text : List ℕ) : Type 0 where
   pub swept : HasSweptPods times old new text
   pub deleted : AllByRecursion (IsDeletedForGood old.trace new.trace) swept.lines

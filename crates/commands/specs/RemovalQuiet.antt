@@ -25,6 +25,7 @@ use Rattle.lifecycle.specs.Executions.{IsConforming}
 use Rattle.phase_read.specs.declared.found.Found.TheVariants.{At}
 use Rattle.phase_read.specs.Exact.{IsInPhase}
 use Rattle.dir_model.specs.Spots.{pod_spot}
+use Rattle.dir_trait.specs.DirCalls.{DirAt}
 use Rattle.phase_read.specs.Read.{is_pod_spot}
 use Rattle.phase_read.specs.Sequential.{sequential_read}
 use Rattle.pod_locks.specs.ClaimCauses.{IsPreparedWithoutManifest}
@@ -39,7 +40,7 @@ use Rattle.pod_gc.specs.Ages.{is_young, is_ripe}
 use Rattle.pod_gc.specs.Requests.{goes_to, moves_pods, lets_be, may_be_busy}
 use Rattle.command_outcomes.specs.declared.refusal.Refusal.TheVariants.{NoPod, WrongPhase, NoManifest, PodBusy, Stray}
 use Rattle.command_outcomes.specs.Meanwhile.{Meanwhile}
-use Rattle.command_outcomes.specs.Moments.{DirSeen, CommandOutcome}
+use Rattle.command_outcomes.specs.Moments.{CommandOutcome}
 use Rattle.commands.specs.Rm.{removed_pod_text, HasRemovedPod, HasFoundNoPod, HasFoundWrong, HasFoundNoManifest, HasFoundBusy, HasMetStrayAtPod}
 use Rattle.commands.specs.Gc.{HasSweptPods, HasMetStrayInPods}
 use Rattle.commands.specs.RemovalTable.{mark_moment_at, deed_when_moved, removal_refusal, ByTable}
@@ -79,7 +80,7 @@ pub record IsHeldNow (its_place : Spot → Bool) (which : Which) (me : ℕ) (s :
 
 -- of `rm`: the pod is gone, which could be removed before; or by the state before there was none, or it had that phase, or no manifest, or its lock was held; or by
 -- its own answers. Whether it is refused, and why, is what the state before asks for
-abbrev pub RemovesPodQuietly : PodId → DirSeen → DirSeen → CommandOutcome → Type 0
+abbrev pub RemovesPodQuietly : PodId → DirAt → DirAt → CommandOutcome → Type 0
 RemovesPodQuietly pod old new (Ok text) =
     (text ≡ removed_pod_text pod) × HasRemovedPod pod old new × (IsConforming new.trace → IsGoneForGood pod new.trace × IsRemovableNow pod old.trace × (removal_refusal old.process pod (state_after old.trace) ≡ None))
 RemovesPodQuietly pod old new (Err NoPod) = HasFoundNoPod pod old new × StandsNowhere pod (state_after old.trace) × (removal_refusal old.process pod (state_after old.trace) ≡ Some NoPod)
@@ -98,7 +99,7 @@ abbrev pub is_pods_place : Spot → Bool
 is_pods_place place = is_stage place.area
 
 -- no folder of a pod stands in embryo, unless another process held that area's lock before
-abbrev pub LeavesNoEmbryo : DirSeen → DirSeen → Type 0
+abbrev pub LeavesNoEmbryo : DirAt → DirAt → Type 0
 LeavesNoEmbryo old new =
     ((name : List ℕ) (pod : PodId) → pod_of_text name ≡ Some pod → folder_at (state_after new.trace).namespace (record { area = Embryo; name = name }) ≡ None)
     ⊎ IsBusyElsewhere old.process Embryo Exclusive (state_after old.trace)
@@ -153,7 +154,7 @@ abbrev pub GoneAfter : List Event → GcLine → Type 0
 GoneAfter new line = (pod : PodId) → line.pod ≡ Some pod → line.deed ≡ Deleted → IsGoneForGood pod new
 
 -- each pod that stood in an area before has a line of that place, but those in embryo where another process held that area's lock
-abbrev pub TellsOfEach : List GcLine → DirSeen → Type 0
+abbrev pub TellsOfEach : List GcLine → DirAt → Type 0
 TellsOfEach lines old =
     (name : List ℕ) (pod : PodId) (place : Area) → pod_of_text name ≡ Some pod → is_stage place ≡ true → stands (state_after old.trace).namespace (pod_spot pod place) ≡ true →
     HasLine place pod lines ⊎ ((place ≡ Embryo) × IsBusyElsewhere old.process Embryo Exclusive (state_after old.trace))
@@ -216,7 +217,7 @@ SaysFitting line = (pod : PodId) → line.pod ≡ Some pod → may_say line.plac
 -- of `gc`: its lines by its own steps, one of each pod that stood before, one more where a pod was moved to, and none of others; those of
 -- kept, moved, busy and left pods agree with the state before, and so do the ages; the deleted ones are gone, those neither moved nor
 -- deleted stand where they were, and no embryo is left
-pub record SweepsByOwnSteps (times : Times) (old new : DirSeen) (text : List ℕ) : Type 0 where
+pub record SweepsByOwnSteps (times : Times) (old new : DirAt) (text : List ℕ) : Type 0 where
   pub swept : HasSweptPods times old new text
   pub tells : IsConforming new.trace → TellsOfEach swept.lines old
   pub kept : IsConforming new.trace → AllByRecursion (KeptAsBefore old.trace) swept.lines
@@ -238,7 +239,7 @@ pub record SweepsByOwnSteps (times : Times) (old new : DirSeen) (text : List ℕ
   pub moved_on : IsConforming new.trace → AllByRecursion (ByTableMoved times old.process swept.lines old.trace) swept.lines
   pub whole : IsConforming new.trace → AreTheGcLines times old.process (state_after old.trace) swept.lines
 
-abbrev pub SweepsPodsQuietly : Times → DirSeen → DirSeen → CommandOutcome → Type 0
+abbrev pub SweepsPodsQuietly : Times → DirAt → DirAt → CommandOutcome → Type 0
 SweepsPodsQuietly times old new (Ok text) = SweepsByOwnSteps times old new text
 SweepsPodsQuietly times old new (Err Stray) = HasMetStrayInPods old new × Meanwhile ComesOfApp old.process old.trace new.trace
 SweepsPodsQuietly times old new (Err refusal) = ⊥

@@ -8,10 +8,11 @@ use Rattle.dir_model.specs.declared.request.Request.{Request}
 use Rattle.dir_model.specs.Quiet.{Quiet, OwnsNothing}
 use Rattle.dir_trait.specs.State.{DirState}
 use Rattle.dir_trait.specs.Trace.{state_after}
+use Rattle.dir_trait.specs.DirCalls.{DirAt}
 use Rattle.lifecycle.specs.Executions.{IsConforming}
 use Rattle.command_outcomes.specs.declared.refusal.Refusal.{Refusal}
 use Rattle.command_outcomes.specs.Ends.{is_own_end}
-use Rattle.command_outcomes.specs.Moments.{DirSeen, Moment, CommandOutcome}
+use Rattle.command_outcomes.specs.Moments.{Moment, CommandOutcome}
 use Rattle.commands.specs.Answers.{WritesOf}
 use Rattle.commands.specs.Command.{Command, nothing, alone, intent_for, WhereAllKeepRules, WhereObserved}
 use Rattle.commands.specs.NextState.{LeavesAll}
@@ -34,12 +35,12 @@ pub record Report : Type 1 where
   pub quiet : DirState → CommandOutcome → Type 0
 
 -- an end of its own tells what it read, and more where every process keeps the local rules
-pub record ReportSays (r : Report) (old new : DirSeen) (o : CommandOutcome) : Type 0 where
+pub record ReportSays (observed : Bool) (r : Report) (old new : DirAt) (o : CommandOutcome) : Type 0 where
   pub prints : IfOk o r.prints
-  pub seen : old.observed ≡ true → r.sees old.process old.trace new.trace o
-  pub told : is_own_end o ≡ true → old.observed ≡ true → IsConforming new.trace → r.tells old.process old.trace new.trace o
+  pub seen : observed ≡ true → r.sees old.process old.trace new.trace o
+  pub told : is_own_end o ≡ true → observed ≡ true → IsConforming new.trace → r.tells old.process old.trace new.trace o
   pub quiet :
-      is_own_end o ≡ true → old.observed ≡ true → IsConforming new.trace → Quiet old.process old.trace new.trace →
+      is_own_end o ≡ true → observed ≡ true → IsConforming new.trace → Quiet old.process old.trace new.trace →
       OwnsNothing old.process (state_after old.trace).namespace → r.quiet (state_after old.trace) o
 
 -- the same of the whole process
@@ -72,5 +73,5 @@ report_command kind word approach r = record {
   tells = λ now draw status old new. WritesReport r status old new;
   quiet = λ now draw old new o. IsConforming new.outside.dir.trace → r.quiet (state_after old.outside.dir.trace) o;
   leaves = λ me draw old new. LeavesAll me old new;
-  says = alone (λ now draw old new o. ReportSays r old.dir new.dir o);
+  says = alone (λ now draw old new o. ReportSays old.observed r old.dir new.dir o);
 }

@@ -9,6 +9,7 @@ use Rattle.dir_model.specs.Calls.{AtOwnStep}
 use Rattle.dir_model.specs.Pods.{pod_text}
 use Rattle.dir_rules.specs.declared.seen.Seen.{Seen}
 use Rattle.dir_trait.specs.Knowledge.{Knows}
+use Rattle.dir_trait.specs.DirCalls.{DirAt}
 use Rattle.lifecycle.specs.Executions.{IsConforming}
 use Rattle.phase_read.specs.Exact.{AtOwnEvent}
 use Rattle.pod_locks.specs.ClaimCauses.{IsPreparedWithoutManifest}
@@ -24,8 +25,7 @@ use Rattle.pod_gc.specs.Found.{TakenAway, LockWasRefused, FirstOrMissed}
 use Rattle.command_outcomes.specs.declared.refusal.Refusal.{Refusal}
 use Rattle.command_outcomes.specs.declared.refusal.Refusal.TheVariants.{NoPod, WrongPhase, NoManifest, PodBusy, DirFault, Stray, NoMemory}
 use Rattle.command_outcomes.specs.Texts.{named_line}
-use Rattle.command_outcomes.specs.Moments.{DirSeen, CommandOutcome}
-use Rattle.command_outcomes.specs.Conforming.{dir_at_moment}
+use Rattle.command_outcomes.specs.Moments.{CommandOutcome}
 use Rattle.command_outcomes.specs.Ends.{is_common}
 use Rattle.commands.specs.Opening.{OnceFound}
 use Rattle.impossible_replies.specs.Replies.{AppWroteOn}
@@ -66,8 +66,8 @@ pub record FindsPodBusy (pod : PodId) (which : Which) (me : ℕ) (old new : List
   pub first : FirstOrMissed pod (LockWasRefused pod which) me old new
 
 -- it is so where the process has begun to remove this pod at this moment
-abbrev pub WhereRemovingPod : PodId → ℕ → DirSeen → Type 0 → Type 0
-WhereRemovingPod pod now old P = old.observed ≡ true → (s : Seen) → Knows (dir_at_moment old) s → MayRemovePod pod now s → P
+abbrev pub WhereRemovingPod : Bool → PodId → ℕ → DirAt → Type 0 → Type 0
+WhereRemovingPod observed pod now old P = observed ≡ true → (s : Seen) → Knows old s → MayRemovePod pod now s → P
 
 -- in a conforming execution the pod had a phase at an own event in which another process owned it
 abbrev pub IsOwnedIn : PodId → Phase → ℕ → List Event → List Event → Type 0
@@ -81,9 +81,9 @@ ConformingHadPhase pod phase me old new = IsConforming new → WasWrongToRemove 
 abbrev pub WasOwned : PodId → Phase → ℕ → List Event → List Event → Type 0
 WasOwned pod phase me old new = IsConforming new → IsOwnedIn pod phase me old new
 
-pub record FindsWrong (pod : PodId) (now : ℕ) (phase : Phase) (old new : DirSeen) : Type 0 where
-  pub was : old.observed ≡ true → ConformingHadPhase pod phase old.process old.trace new.trace
-  pub owner : WhereRemovingPod pod now old (WasOwned pod phase old.process old.trace new.trace)
+pub record FindsWrong (observed : Bool) (pod : PodId) (now : ℕ) (phase : Phase) (old new : DirAt) : Type 0 where
+  pub was : observed ≡ true → ConformingHadPhase pod phase old.process old.trace new.trace
+  pub owner : WhereRemovingPod observed pod now old (WasOwned pod phase old.process old.trace new.trace)
 
 -- in a conforming execution the pod stood in prepared without its manifest, at an own step
 abbrev pub HadNoManifest : PodId → ℕ → List Event → List Event → Type 0
@@ -94,14 +94,14 @@ abbrev pub MeetsStray : PodId → ℕ → List Event → List Event → Type 0
 MeetsStray pod me old new = WasStrayStep me old new ⊎ MissedTimes 6 pod me old new
 
 -- what was told of the pod
-abbrev pub RmSays : PodId → ℕ → DirSeen → DirSeen → CommandOutcome → Type 0
-RmSays pod now old new (Ok text) = (text ≡ removed_pod_text pod) × (old.observed ≡ true → RemovesPod pod old.process old.trace new.trace)
-RmSays pod now old new (Err NoPod) = old.observed ≡ true → FoundNoPod pod old.process old.trace new.trace
-RmSays pod now old new (Err (WrongPhase phase)) = FindsWrong pod now phase old new
-RmSays pod now old new (Err (NoManifest other)) = (other ≡ pod) × (old.observed ≡ true → HadNoManifest pod old.process old.trace new.trace)
-RmSays pod now old new (Err (PodBusy other which)) = (other ≡ pod) × WhereRemovingPod pod now old (FindsPodBusy pod which old.process old.trace new.trace)
-RmSays pod now old new (Err Stray) = (old.observed ≡ true → MeetsStray pod old.process old.trace new.trace) × WhereRemovingPod pod now old (ComesOfApp old.process old.trace new.trace)
-RmSays pod now old new (Err refusal) = Unit {0}
+abbrev pub RmSays : Bool → PodId → ℕ → DirAt → DirAt → CommandOutcome → Type 0
+RmSays observed pod now old new (Ok text) = (text ≡ removed_pod_text pod) × (observed ≡ true → RemovesPod pod old.process old.trace new.trace)
+RmSays observed pod now old new (Err NoPod) = observed ≡ true → FoundNoPod pod old.process old.trace new.trace
+RmSays observed pod now old new (Err (WrongPhase phase)) = FindsWrong observed pod now phase old new
+RmSays observed pod now old new (Err (NoManifest other)) = (other ≡ pod) × (observed ≡ true → HadNoManifest pod old.process old.trace new.trace)
+RmSays observed pod now old new (Err (PodBusy other which)) = (other ≡ pod) × WhereRemovingPod observed pod now old (FindsPodBusy pod which old.process old.trace new.trace)
+RmSays observed pod now old new (Err Stray) = (observed ≡ true → MeetsStray pod old.process old.trace new.trace) × WhereRemovingPod observed pod now old (ComesOfApp old.process old.trace new.trace)
+RmSays observed pod now old new (Err refusal) = Unit {0}
 
 -- the directory failed, memory ran out, or a started app wrote on that had outlived its owner
 abbrev pub FailsFor : Refusal → ℕ → List Event → List Event → Type 0
@@ -111,26 +111,26 @@ FailsFor Stray me old new = AppWroteOn me old new
 FailsFor refusal me old new = ⊥
 
 -- in a conforming execution in which nothing hinders the pod's removal, only a failure refuses it
-abbrev pub FailsAlone : PodId → DirSeen → DirSeen → Refusal → Type 0
+abbrev pub FailsAlone : PodId → DirAt → DirAt → Refusal → Type 0
 FailsAlone pod old new refusal = IsConforming new.trace → IsUnhinderedThroughout pod old.process old.trace new.trace → FailsFor refusal old.process old.trace new.trace
 
 -- of a whole process: that it removed the pod, that it found none, that it found it in such a phase or without its manifest, that
 -- another process held its lock, that it met an answer which the locks don't explain
-abbrev pub HasRemovedPod : PodId → DirSeen → DirSeen → Type 0
+abbrev pub HasRemovedPod : PodId → DirAt → DirAt → Type 0
 HasRemovedPod pod old new = OnceFound (RemovesPod pod) old.process old.trace new.trace
 
-abbrev pub HasFoundNoPod : PodId → DirSeen → DirSeen → Type 0
+abbrev pub HasFoundNoPod : PodId → DirAt → DirAt → Type 0
 HasFoundNoPod pod old new = OnceFound (FoundNoPod pod) old.process old.trace new.trace
 
-pub record HasFoundWrong (pod : PodId) (phase : Phase) (old new : DirSeen) : Type 0 where
+pub record HasFoundWrong (pod : PodId) (phase : Phase) (old new : DirAt) : Type 0 where
   pub was : OnceFound (ConformingHadPhase pod phase) old.process old.trace new.trace
   pub owner : OnceFound (WasOwned pod phase) old.process old.trace new.trace
 
-abbrev pub HasFoundNoManifest : PodId → DirSeen → DirSeen → Type 0
+abbrev pub HasFoundNoManifest : PodId → DirAt → DirAt → Type 0
 HasFoundNoManifest pod old new = OnceFound (HadNoManifest pod) old.process old.trace new.trace
 
-abbrev pub HasFoundBusy : PodId → Which → DirSeen → DirSeen → Type 0
+abbrev pub HasFoundBusy : PodId → Which → DirAt → DirAt → Type 0
 HasFoundBusy pod which old new = OnceFound (FindsPodBusy pod which) old.process old.trace new.trace
 
-abbrev pub HasMetStrayAtPod : PodId → DirSeen → DirSeen → Type 0
+abbrev pub HasMetStrayAtPod : PodId → DirAt → DirAt → Type 0
 HasMetStrayAtPod pod old new = OnceFound (MeetsStray pod) old.process old.trace new.trace

@@ -3,12 +3,13 @@ use Rattle.std.specs.Prelude.{◌≡◌, ◌⊎◌, ◌==◌, ℕ, Bool, true, L
 use Rattle.std.specs.List.{list_any}
 use Rattle.dir_model.specs.declared.intent.Kind.TheVariants as kind
 use Rattle.dir_model.specs.declared.pod.PodId.{PodId}
+use Rattle.dir_trait.specs.DirCalls.{DirAt}
 use Rattle.phase_read.specs.Read.{is_pod_spot}
 use Rattle.pod_gc.specs.Hindrances.{IsUnhinderedThroughout}
 use Rattle.pod_gc.specs.RemovalRequests.{removes}
 use Rattle.command_outcomes.specs.declared.refusal.Refusal.{Refusal}
 use Rattle.command_outcomes.specs.declared.refusal.Refusal.TheVariants.{NoPod, WrongPhase, NoManifest, PodBusy, Stray}
-use Rattle.command_outcomes.specs.Moments.{DirSeen, Moment}
+use Rattle.command_outcomes.specs.Moments.{Moment}
 use Rattle.commands.specs.Answers.{WritesOf}
 use Rattle.commands.specs.Kept.{KeepsRefused, RemovesNoneUnlessDone}
 use Rattle.commands.specs.Opening.{OnceFound, approach_of}
@@ -25,20 +26,20 @@ use Rattle.commands.specs.Strays.{ComesOfApp}
 -- phase has an owner; it stood in prepared without its manifest; another process held that lock of it; or an answer came that what the
 -- locks keep doesn't explain, or the pod was found and missed six times, but where every process keeps the local rules only that a started
 -- app wrote on
-abbrev pub RefusesRm : PodId → Refusal → DirSeen → DirSeen → Type 0
-RefusesRm pod NoPod old new = old.observed ≡ true → HasFoundNoPod pod old new
-RefusesRm pod (WrongPhase phase) old new = old.observed ≡ true → HasFoundWrong pod phase old new
-RefusesRm pod (NoManifest other) old new = (other ≡ pod) × (old.observed ≡ true → HasFoundNoManifest pod old new)
-RefusesRm pod (PodBusy other which) old new = (other ≡ pod) × (old.observed ≡ true → HasFoundBusy pod which old new)
-RefusesRm pod Stray old new = old.observed ≡ true → HasMetStrayAtPod pod old new × OnceFound ComesOfApp old.process old.trace new.trace
-RefusesRm pod refusal old new = ⊥
+abbrev pub RefusesRm : Bool → PodId → Refusal → DirAt → DirAt → Type 0
+RefusesRm observed pod NoPod old new = observed ≡ true → HasFoundNoPod pod old new
+RefusesRm observed pod (WrongPhase phase) old new = observed ≡ true → HasFoundWrong pod phase old new
+RefusesRm observed pod (NoManifest other) old new = (other ≡ pod) × (observed ≡ true → HasFoundNoManifest pod old new)
+RefusesRm observed pod (PodBusy other which) old new = (other ≡ pod) × (observed ≡ true → HasFoundBusy pod which old new)
+RefusesRm observed pod Stray old new = observed ≡ true → HasMetStrayAtPod pod old new × OnceFound ComesOfApp old.process old.trace new.trace
+RefusesRm observed pod refusal old new = ⊥
 
 -- how a removal of a pod ends that nothing hinders: it is done, or the directory failed, its line wasn't written or memory ran out; or a
 -- started app wrote on that had outlived its owner
 abbrev pub is_removal_end : ℕ → Bool
 is_removal_end status = list_any (λ n. n == status) (0 ∷ 9 ∷ 12 ∷ 14 ∷ [])
 
-abbrev pub EndsUnhindered : ℕ → DirSeen → DirSeen → Type 0
+abbrev pub EndsUnhindered : ℕ → DirAt → DirAt → Type 0
 EndsUnhindered status old new = (is_removal_end status ≡ true) ⊎ ((status ≡ 20) × AppWroteOn old.process old.trace new.trace)
 
 -- with status 0 it wrote that the pod is removed, and removed it, or found it gone after it had been there. Where every process keeps the
@@ -59,10 +60,10 @@ rm_command word pod = record {
   reads = nothing;
   prints = λ draw bundle text. text ≡ removed_pod_text pod;
   refusals = rm_refusal;
-  refused_for = λ now draw refusal old new. RefusesRm pod refusal old.outside.dir new.outside.dir;
+  refused_for = λ now draw refusal old new. RefusesRm old.outside.observed pod refusal old.outside.dir new.outside.dir;
   names = names_refused pod;
   tells = λ now draw status old new. TellsRm pod status old new;
   quiet = λ now draw old new o. RemovesPodQuietly pod old.outside.dir new.outside.dir o;
   leaves = λ me draw old new. LeavesBeside (is_pod_spot pod) me old new;
-  says = alone (λ now draw old new o. RmSays pod now old.dir new.dir o × KeepsRefused old.dir new.dir o);
+  says = alone (λ now draw old new o. RmSays old.observed pod now old.dir new.dir o × KeepsRefused old.observed old.dir new.dir o);
 }

@@ -28,7 +28,7 @@ use Rattle.commands.specs.References.{OfReferences}
 use Rattle.commands.specs.PrepareRefusals.{IsSaidOfBuild}
 use Rattle.commands.specs.Prepare.{pod_line}
 use Rattle.commands.specs.Wants.{Wants}
-use Rattle.commands.specs.AppRuns.{RunSays, Between}
+use Rattle.commands.specs.AppRuns.{RunSays}
 
 -- what it asks of the directory: what a prepare asks for that brings the pod to run, and what a run of the pod does
 abbrev pub makes_and_runs : PodId → Request → Bool
@@ -78,4 +78,4 @@ NewRunSays seen observed wants address now draw d d' s s' answer =
     MakesAndRuns seen observed wants address now draw d d' s s' answer ⊎ IsUnmade seen wants now draw d d' s s' answer ⊎ IsUnbegun d d' s s' answer
 
 abbrev pub RunIsTold : Wants → List ℕ → ℕ → Draw → Inside → Inside → Answer → Type 0
-RunIsTold wants address now draw old new answer = Between (λ d d' s s'. NewRunSays old.dir.observed old.spawner.observed wants address now draw d d' s s' answer) old new
+RunIsTold wants address now draw old new answer = NewRunSays old.observed old.spawner.observed wants address now draw old.dir new.dir old.spawner.shown new.spawner.shown answer

@@ -47,7 +47,7 @@ LeavesMade wants address now draw old new (Err NoMemory) = Unit {0}
 LeavesMade wants address now draw old new (Err refusal) =
     IsRefusedFor draw.uuid refusal new.dir.trace (λ error.
     (x : HasMadeAndLeft wants old.dir.process draw.uuid old.dir.trace new.dir.trace) × StoppedFor draw.uuid address (entries_made x.2.0) error old.spawner new.spawner)
-    ⊎ IsUnmadeFor wants now draw old.dir new.dir refusal
+    ⊎ IsUnmadeFor old.observed wants now draw old.dir new.dir refusal
 
 -- it asks for what a prepare asks for that leads to run, and then for what a run of the pod does
 abbrev pub run_command : Wants → List ℕ → Command

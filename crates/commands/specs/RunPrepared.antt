@@ -20,7 +20,7 @@ use Rattle.pod_locks.specs.Work.{Grew, WhereObservedKnew, MovedNothing, TookBoth
 use Rattle.stage1.specs.Runs.{runs_pod}
 use Rattle.command_outcomes.specs.Moments.{Answer, Inside}
 use Rattle.commands.specs.RunRefusals.{claim_refusal}
-use Rattle.commands.specs.AppRuns.{RunSays, Between}
+use Rattle.commands.specs.AppRuns.{RunSays}
 
 -- what it asks of the directory: what a claim asks for, and what a run of the pod does
 abbrev pub runs_prepared : PodId → Request → Bool
@@ -58,7 +58,5 @@ pub record IsUnclaimed (seen : Bool) (pod : PodId) (d d' : DirAt) (s s' : Spawne
 -- what was told of the pod
 abbrev pub RunPreparedSays : PodId → List ℕ → Inside → Inside → Answer → Type 0
 RunPreparedSays pod address old new answer =
-    Between
-    (λ d d' s s'. ClaimsAndRuns old.dir.observed old.spawner.observed pod address d d' s s' answer ⊎ IsUnclaimed old.dir.observed pod d d' s s' answer)
-    old
-    new
+    ClaimsAndRuns old.observed old.spawner.observed pod address old.dir new.dir old.spawner.shown new.spawner.shown answer
+    ⊎ IsUnclaimed old.observed pod old.dir new.dir old.spawner.shown new.spawner.shown answer

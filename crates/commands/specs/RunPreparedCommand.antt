@@ -12,7 +12,6 @@ use Rattle.pod_locks.specs.declared.claim_error.ClaimError.{ClaimError}
 use Rattle.stage1.specs.declared.end.AppEnd.{AppEnd}
 use Rattle.command_outcomes.specs.declared.refusal.Refusal.{Refusal}
 use Rattle.command_outcomes.specs.declared.refusal.Refusal.TheVariants.{NoMemory}
-use Rattle.command_outcomes.specs.Conforming.{dir_at_moment}
 use Rattle.command_outcomes.specs.Moments.{Inside, Moment, CommandOutcome}
 use Rattle.commands.specs.Answers.{inside_in}
 use Rattle.commands.specs.AppEnds.{app_lines}
@@ -42,7 +41,7 @@ is_unfree_status status = list_any (λ n. n == status) (2 ∷ 4 ∷ 5 ∷ [])
 -- own step, and no other process holds a lock of it, it isn't refused for such a cause
 pub record TellsRunPrepared (word : List ℕ) (pod : PodId) (address : List ℕ) (now : ℕ) (draw : Draw) (status : ℕ) (old new : Moment) : Type 0 where
   pub apps : TellsApps (CameOrNeverBegan (approach_of word) (runs_prepared pod) (RunPreparedSays pod address) (run_prepared_intent word now draw) (inside_in old) (inside_in new)) status old new
-  pub complete : WhereAllKeepRules old new (IsFreeThroughout pod (dir_at_moment old.outside.dir) (dir_at_moment new.outside.dir) → is_unfree_status status ≡ false)
+  pub complete : WhereAllKeepRules old new (IsFreeThroughout pod old.outside.dir new.outside.dir → is_unfree_status status ≡ false)
 
 -- the pod waited in prepared before and is left in run, without an owner, and the mark and the status of each app whose line is told stand
 -- there; its apps were those of what its folder held before. Where it is refused for a cause of the run it is left so too, by what its

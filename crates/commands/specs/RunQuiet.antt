@@ -1,5 +1,5 @@
 -- What `run-prepared` and `run` come to, and leave, where nobody else steps.
-use Rattle.std.specs.Prelude.{◌≡◌, ℕ, true, false, Some, None, List, ◌++◌}
+use Rattle.std.specs.Prelude.{◌≡◌, ℕ, true, false, Some, None, List, ◌++◌, Bool}
 use Rattle.std.specs.List.{AllByRecursion, list_any}
 use Rattle.ac_types.specs.declared.image_ref.ImageRef.{ImageRef}
 use Rattle.dir_model.specs.declared.area.Area.{Area}
@@ -21,9 +21,9 @@ use Rattle.phase_read.specs.declared.found.Found.TheVariants.{At}
 use Rattle.phase_read.specs.Exact.{IsInPhase}
 use Rattle.phase_read.specs.Sequential.{sequential_read}
 use Rattle.dir_files.specs.AreaLocks.{IsBusyElsewhere, IsFreeElsewhere}
+use Rattle.dir_trait.specs.DirCalls.{DirAt}
 use Rattle.command_outcomes.specs.declared.refusal.Refusal.{Refusal}
 use Rattle.command_outcomes.specs.declared.refusal.Refusal.TheVariants.{Busy, Stray}
-use Rattle.command_outcomes.specs.Moments.{DirSeen}
 use Rattle.pod_build.specs.Preparations.{IsPrepared}
 use Rattle.pod_manifest.specs.Wishes.{Wishes}
 use Rattle.pod_locks.specs.declared.claim_error.ClaimError.{ClaimError}
@@ -111,8 +111,8 @@ UnclaimedFor pod error me old new = Unit {0}
 
 -- a pod wasn't made for its run, for this cause, by the reads of its process and the locks and the store of the state before; where a lock
 -- was refused, another process held it before. By its own answers the process left at most its own folder, in embryo or in prepare, without a lock
-pub record IsUnmadeFor (wants : Wants) (now : ℕ) (draw : Draw) (old new : DirSeen) (refusal : Refusal) : Type 0 where
-  pub why : RefusesPod wants now draw old new refusal
+pub record IsUnmadeFor (observed : Bool) (wants : Wants) (now : ℕ) (draw : Draw) (old new : DirAt) (refusal : Refusal) : Type 0 where
+  pub why : RefusesPod observed wants now draw old new refusal
   pub state : RefusesByState wants draw.uuid refusal old.process (state_after old.trace)
   pub held : (area : Area) → refusal ≡ Busy area → IsBusyElsewhere old.process area Shared (state_after old.trace)
   pub lawful : refusal ≡ Stray → NeverComes new.trace

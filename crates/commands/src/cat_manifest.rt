@@ -6,7 +6,6 @@ ghost use Rattle.dir_trait.specs.Pods.{pod_text};
 ghost use Rattle.manifests.specs.ManifestRules.{IsPodManifest};
 ghost use Rattle.manifests.specs.PodData.{pod_data};
 ghost use Rattle.pod_report.specs.Requests.{OnlyAsksFor, visits};
-ghost use Rattle.command_outcomes.specs.Moments.{dir_at};
 ghost use Rattle.commands.specs.CatManifest.{cat_manifest_refusal, cat_manifest_report, manifest_line, unread_refusal};
 ghost use Rattle.commands.specs.Report.{ReportSays};
 
@@ -68,7 +67,7 @@ pub fn cat_manifest<D: Dir>(alloc: Global, pod: PodId, dir: &mut D) -> Result<Ou
     ensures only { OnlyAsksFor D.observed (visits pod) (D.shown dir.old) (D.shown dir.new) }
     ensures cause { IsErrOf result Refusal.DirFault → Rose (D.shown dir.old).faults (D.shown dir.new).faults }
     ensures refusals { IfErr result (λ r. cat_manifest_refusal r ≡ true) }
-    ensures says { ReportSays (cat_manifest_report pod) (dir_at D.Dir dir.old) (dir_at D.Dir dir.new) result }
+    ensures says { ReportSays D.observed (cat_manifest_report pod) (D.shown dir.old) (D.shown dir.new) result }
 {
     let found = manifest_of(alloc, dir, pod);
     written(alloc, pod, found)

@@ -6,7 +6,6 @@ ghost use Rattle.dir_trait.specs.Effects.{OnlyAsks, Given};
 ghost use Rattle.pod_locks.specs.Holding.{KeepsReady};
 ghost use Rattle.pod_gc.specs.Requests.{sweeps};
 ghost use Rattle.pod_gc.specs.Sweeping.{MaySweepAll};
-ghost use Rattle.command_outcomes.specs.Moments.{dir_at};
 ghost use Rattle.commands.specs.Gc.{times_of, subject_text, deed_text, gc_line_text, lines_text, sweep_refusal, gc_refusal, GcSays};
 
 use ac_types::NoMemory;
@@ -113,7 +112,7 @@ pub fn gc_pods<D: Dir>(
     ensures cause { IsErrOf result Refusal.DirFault → Rose (D.shown dir.old).faults (D.shown dir.new).faults }
     ensures refusals { IfErr result (λ r. gc_refusal r ≡ true) }
     ensures ready { D.observed ≡ true → Given (MaySweepAll now expire) (D.shown dir.old) (λ s. KeepsReady s (D.shown dir.new)) }
-    ensures says { GcSays (times_of now grace expire) (dir_at D.Dir dir.old) (dir_at D.Dir dir.new) result }
+    ensures says { GcSays D.observed (times_of now grace expire) (D.shown dir.old) (D.shown dir.new) result }
 {
     match gc(alloc, dir, now, grace, expire) {
         Ok(lines) => printed_lines(alloc, lines.as_slice()),

@@ -8,7 +8,6 @@ ghost use Rattle.image_removal.specs.Requests.{sweeps_store};
 ghost use Rattle.image_removal.specs.Work.{MaySweepStore, KeepsStandingAndRules, Stays};
 ghost use Rattle.commands.specs.ImageRm.{refusal_of_removal};
 ghost use Rattle.commands.specs.ImageGc.{sweep_text, sweep_texts, image_gc_refusal, ImageGcSays};
-ghost use Rattle.command_outcomes.specs.Moments.{dir_at};
 
 use ac_types::NoMemory;
 use command_outcomes::{Output, Refusal};
@@ -104,7 +103,7 @@ pub fn image_gc<D: Dir>(alloc: Global, dir: &mut D) -> Result<Output, Refusal>
     ensures cause { IsErrOf result Refusal.DirFault → Rose (D.shown dir.old).faults (D.shown dir.new).faults }
     ensures refusals { IfErr result (λ r. image_gc_refusal r ≡ true) }
     ensures conforms { D.observed ≡ true → Stays MaySweepStore KeepsStandingAndRules (D.shown dir.old) (D.shown dir.new) }
-    ensures says { ImageGcSays (dir_at D.Dir dir.old) (dir_at D.Dir dir.new) result }
+    ensures says { ImageGcSays D.observed (D.shown dir.old) (D.shown dir.new) result }
 {
     match sweep(alloc, dir) {
         Ok(lines) => printed_lines(alloc, lines.as_slice()),

@@ -10,7 +10,7 @@ ghost use Rattle.image_store.specs.Requests.{building_spot, imports_at};
 ghost use Rattle.image_store.specs.Work.{IsImport};
 ghost use Rattle.command_outcomes.specs.Conforming.{StaysConforming};
 ghost use Rattle.commands.specs.ImageImport.{key_line, image_import_refusal, import_listing_refusal, is_import_error, import_refusal, IsSaidOf, ImageImportSays};
-ghost use Rattle.command_outcomes.specs.Moments.{dir_at, outside_at};
+ghost use Rattle.command_outcomes.specs.Moments.{outside_at};
 
 use ac_types::{BAD_ID, NoMemory, StoreKey, Text};
 use command_outcomes::{Output, Refusal};
@@ -135,7 +135,7 @@ pub fn image_import<D: Dir, B: Bundle>(
     ensures bundle { (B.shown bundle.old).faults ≤ (B.shown bundle.new).faults }
     ensures bundle_cause { IsErrOf result Refusal.BundleFault → Rose (B.shown bundle.old).faults (B.shown bundle.new).faults }
     ensures refusals { IfErr result (λ r. image_import_refusal r ≡ true) }
-    ensures known { D.observed ≡ true → (intent : Intent) → IsImport draw intent → StaysConforming intent (dir_at D.Dir dir.old) (dir_at D.Dir dir.new) }
+    ensures known { D.observed ≡ true → (intent : Intent) → IsImport draw intent → StaysConforming intent (D.shown dir.old) (D.shown dir.new) }
     ensures says { ImageImportSays path.now now draw (outside_at D.Dir B.Bundle dir.old bundle.old) (outside_at D.Dir B.Bundle dir.new bundle.new) result }
 {
     match import(alloc, dir, bundle, path.as_str(), now, draw) {

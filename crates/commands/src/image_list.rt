@@ -9,7 +9,6 @@ ghost use Rattle.dir_files.specs.AreaLocks.{is_free_of};
 ghost use Rattle.image_reading.specs.Refusals.{IsReadRefusal};
 ghost use Rattle.image_reading.specs.Store.{IsStorePath};
 ghost use Rattle.commands.specs.ImageList.{image_line_text, images_text, image_list_refusal, lists_images, images_lock_refusal, images_read_refusal, ImageListSays};
-ghost use Rattle.command_outcomes.specs.Moments.{dir_at};
 
 use ac_types::NoMemory;
 use command_outcomes::{Output, Refusal};
@@ -100,7 +99,7 @@ pub fn image_list<D: Dir>(alloc: Global, dir: &mut D) -> Result<Output, Refusal>
     ensures refusals { IfErr result (λ r. image_list_refusal r ≡ true) }
     ensures known { D.observed ≡ true → (s : Seen) → Knows (D.shown dir.old) s → is_free_of Area.Images s ≡ true → Knows (D.shown dir.new) s }
     ensures extends { D.observed ≡ true → ExtendsBy lists_images (D.shown dir.old) (D.shown dir.new) }
-    ensures says { ImageListSays (dir_at D.Dir dir.old) (dir_at D.Dir dir.new) result }
+    ensures says { ImageListSays D.observed (D.shown dir.old) (D.shown dir.new) result }
 {
     match lock_area(alloc, dir, Area::Images, Mode::Shared) {
         Ok(gate) => {

@@ -9,7 +9,6 @@ ghost use Rattle.image_removal.specs.Requests.{removes_at};
 ghost use Rattle.image_removal.specs.Work.{MayRemoveImage, KeepsStandingAndRules, Stays};
 ghost use Rattle.commands.specs.Kept.{KeepsRefused};
 ghost use Rattle.commands.specs.ImageRm.{removed_image_text, image_rm_refusal, IsRemovalSaid, ImageRmSays};
-ghost use Rattle.command_outcomes.specs.Moments.{dir_at};
 
 use ac_types::{NoMemory, StoreKey};
 use command_outcomes::{Output, Refusal, named};
@@ -64,8 +63,8 @@ fn remove_saying<D: Dir>(
     ensures cause { IsErrOf result Refusal.DirFault → Rose (D.shown dir.old).faults (D.shown dir.new).faults }
     ensures refusals { IfErr result (λ r. image_rm_refusal r ≡ true) }
     ensures conforms { D.observed ≡ true → Stays (MayRemoveImage draw) KeepsStandingAndRules (D.shown dir.old) (D.shown dir.new) }
-    ensures says { ImageRmSays key draw (dir_at D.Dir dir.old) (dir_at D.Dir dir.new) result }
-    ensures kept { KeepsRefused (dir_at D.Dir dir.old) (dir_at D.Dir dir.new) result }
+    ensures says { ImageRmSays D.observed key draw (D.shown dir.old) (D.shown dir.new) result }
+    ensures kept { KeepsRefused D.observed (D.shown dir.old) (D.shown dir.new) result }
 {
     match remove(alloc, dir, key, draw) {
         Ok(()) => Ok(line),
@@ -89,8 +88,8 @@ pub fn image_rm<D: Dir>(
     ensures cause { IsErrOf result Refusal.DirFault → Rose (D.shown dir.old).faults (D.shown dir.new).faults }
     ensures refusals { IfErr result (λ r. image_rm_refusal r ≡ true) }
     ensures conforms { D.observed ≡ true → Stays (MayRemoveImage draw) KeepsStandingAndRules (D.shown dir.old) (D.shown dir.new) }
-    ensures says { ImageRmSays key draw (dir_at D.Dir dir.old) (dir_at D.Dir dir.new) result }
-    ensures kept { KeepsRefused (dir_at D.Dir dir.old) (dir_at D.Dir dir.new) result }
+    ensures says { ImageRmSays D.observed key draw (D.shown dir.old) (D.shown dir.new) result }
+    ensures kept { KeepsRefused D.observed (D.shown dir.old) (D.shown dir.new) result }
 {
     // Made first: an image that is gone can't be said to be removed where there is no memory for the line.
     match removed_line(alloc, key) {

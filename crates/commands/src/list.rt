@@ -5,7 +5,6 @@ ghost use Rattle.dir_trait.specs.Causes.{Rose};
 ghost use Rattle.dir_trait.specs.Local.{IsActive};
 ghost use Rattle.pod_report.specs.Outside.{IsUnsaid};
 ghost use Rattle.pod_report.specs.Requests.{HasNoPodOpen, OnlyAsksFor, surveys};
-ghost use Rattle.command_outcomes.specs.Moments.{dir_at};
 ghost use Rattle.commands.specs.PodList.{apps_text, pod_line_text, list_refusal, list_report, list_text, name_behind, names_text, unlisted_refusal};
 ghost use Rattle.commands.specs.Report.{ReportSays};
 
@@ -119,7 +118,7 @@ pub fn list<D: Dir>(alloc: Global, dir: &mut D) -> Result<Output, Refusal>
     ensures only { OnlyAsksFor D.observed surveys (D.shown dir.old) (D.shown dir.new) }
     ensures cause { IsErrOf result Refusal.DirFault → Rose (D.shown dir.old).faults (D.shown dir.new).faults }
     ensures refusals { IfErr result (λ r. list_refusal r ≡ true) }
-    ensures says { ReportSays list_report (dir_at D.Dir dir.old) (dir_at D.Dir dir.new) result }
+    ensures says { ReportSays D.observed list_report (D.shown dir.old) (D.shown dir.new) result }
 {
     let found = list_pods(alloc, dir);
     listed(alloc, found)

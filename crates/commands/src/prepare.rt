@@ -7,7 +7,6 @@ ghost use Rattle.dir_trait.specs.Local.{IsActive};
 ghost use Rattle.dir_trait.specs.Effects.{OnlyAsks};
 ghost use Rattle.pod_build.specs.Preparations.{Began, MakesFaithfully};
 ghost use Rattle.command_outcomes.specs.Conforming.{StaysConforming};
-ghost use Rattle.command_outcomes.specs.Moments.{dir_at};
 ghost use Rattle.commands.specs.PrepareRefusals.{prepare_refusal};
 ghost use Rattle.commands.specs.Prepare.{pod_line, syncs, prepares_pod, prepared_sync_refusal, SyncSays, PrepareSays};
 
@@ -66,9 +65,9 @@ fn prepare_saying<D: Dir>(
     ensures worked { OnlyAsks D.observed (prepares_pod draw.now.uuid) (D.shown dir.old) (D.shown dir.new) }
     ensures cause { IsErrOf result Refusal.DirFault → Rose (D.shown dir.old).faults (D.shown dir.new).faults }
     ensures refusals { IfErr result (λ r. prepare_refusal r ≡ true) }
-    ensures known { D.observed ≡ true → (intent : Intent) → Began Area.Prepared draw.now now intent → StaysConforming intent (dir_at D.Dir dir.old) (dir_at D.Dir dir.new) }
+    ensures known { D.observed ≡ true → (intent : Intent) → Began Area.Prepared draw.now now intent → StaysConforming intent (D.shown dir.old) (D.shown dir.new) }
     ensures makers { D.observed ≡ true → MakesFaithfully Area.Prepared draw.now now (D.shown dir.old) (D.shown dir.new) }
-    ensures says { PrepareSays wanted.now now draw.now (dir_at D.Dir dir.old) (dir_at D.Dir dir.new) result }
+    ensures says { PrepareSays D.observed wanted.now now draw.now (D.shown dir.old) (D.shown dir.new) result }
 {
     match prepare(
         alloc,
@@ -106,9 +105,9 @@ pub fn prepare_pod<D: Dir>(
     ensures worked { OnlyAsks D.observed (prepares_pod draw.now.uuid) (D.shown dir.old) (D.shown dir.new) }
     ensures cause { IsErrOf result Refusal.DirFault → Rose (D.shown dir.old).faults (D.shown dir.new).faults }
     ensures refusals { IfErr result (λ r. prepare_refusal r ≡ true) }
-    ensures known { D.observed ≡ true → (intent : Intent) → Began Area.Prepared draw.now now intent → StaysConforming intent (dir_at D.Dir dir.old) (dir_at D.Dir dir.new) }
+    ensures known { D.observed ≡ true → (intent : Intent) → Began Area.Prepared draw.now now intent → StaysConforming intent (D.shown dir.old) (D.shown dir.new) }
     ensures makers { D.observed ≡ true → MakesFaithfully Area.Prepared draw.now now (D.shown dir.old) (D.shown dir.new) }
-    ensures says { PrepareSays wanted.now now draw.now (dir_at D.Dir dir.old) (dir_at D.Dir dir.new) result }
+    ensures says { PrepareSays D.observed wanted.now now draw.now (D.shown dir.old) (D.shown dir.new) result }
 {
     // Made first: a pod that is prepared can't be told where there is no memory for its line.
     match pod_line(alloc, draw.uuid) {

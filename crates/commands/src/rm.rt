@@ -7,7 +7,6 @@ ghost use Rattle.dir_trait.specs.Effects.{OnlyAsks, Given};
 ghost use Rattle.pod_locks.specs.Holding.{KeepsReady};
 ghost use Rattle.pod_gc.specs.RemovalHolding.{MayRemovePod};
 ghost use Rattle.pod_gc.specs.RemovalRequests.{removes};
-ghost use Rattle.command_outcomes.specs.Moments.{dir_at};
 ghost use Rattle.commands.specs.Kept.{KeepsRefused};
 ghost use Rattle.commands.specs.Rm.{removed_pod_text, remove_refusal, rm_refusal, RmSays, WhereRemovingPod, FailsAlone};
 
@@ -56,8 +55,8 @@ fn remove_saying<D: Dir>(
     ensures cause { IsErrOf result Refusal.DirFault → Rose (D.shown dir.old).faults (D.shown dir.new).faults }
     ensures refusals { IfErr result (λ r. rm_refusal r ≡ true) }
     ensures ready { D.observed ≡ true → Given (MayRemovePod pod now) (D.shown dir.old) (λ s. KeepsReady s (D.shown dir.new)) }
-    ensures says { RmSays pod now (dir_at D.Dir dir.old) (dir_at D.Dir dir.new) result }
-    ensures kept { KeepsRefused (dir_at D.Dir dir.old) (dir_at D.Dir dir.new) result }
+    ensures says { RmSays D.observed pod now (D.shown dir.old) (D.shown dir.new) result }
+    ensures kept { KeepsRefused D.observed (D.shown dir.old) (D.shown dir.new) result }
 {
     match remove_pod(alloc, dir, pod, now) {
         Ok(()) => Ok(line),
@@ -80,9 +79,9 @@ pub fn rm<D: Dir>(alloc: Global, pod: PodId, now: u64, dir: &mut D) -> Result<Ou
     ensures cause { IsErrOf result Refusal.DirFault → Rose (D.shown dir.old).faults (D.shown dir.new).faults }
     ensures refusals { IfErr result (λ r. rm_refusal r ≡ true) }
     ensures ready { D.observed ≡ true → Given (MayRemovePod pod now) (D.shown dir.old) (λ s. KeepsReady s (D.shown dir.new)) }
-    ensures says { RmSays pod now (dir_at D.Dir dir.old) (dir_at D.Dir dir.new) result }
-    ensures kept { KeepsRefused (dir_at D.Dir dir.old) (dir_at D.Dir dir.new) result }
-    ensures complete { IfErr result (λ r. WhereRemovingPod pod now (dir_at D.Dir dir.old) (FailsAlone pod (dir_at D.Dir dir.old) (dir_at D.Dir dir.new) r)) }
+    ensures says { RmSays D.observed pod now (D.shown dir.old) (D.shown dir.new) result }
+    ensures kept { KeepsRefused D.observed (D.shown dir.old) (D.shown dir.new) result }
+    ensures complete { IfErr result (λ r. WhereRemovingPod D.observed pod now (D.shown dir.old) (FailsAlone pod (D.shown dir.old) (D.shown dir.new) r)) }
 {
     // Made first: a pod that is gone can't be said to be removed where there is no memory for the line.
     match removed_line(alloc, pod) {

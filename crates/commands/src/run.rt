@@ -8,7 +8,7 @@ ghost use Rattle.dir_trait.specs.Effects.{OnlyAsks};
 ghost use Rattle.pod_build.specs.Preparations.{Began, MakesFaithfully};
 ghost use Rattle.commands.specs.Prepare.{pod_line};
 ghost use Rattle.command_outcomes.specs.Conforming.{StaysConforming};
-ghost use Rattle.command_outcomes.specs.Moments.{dir_at, inside_at};
+ghost use Rattle.command_outcomes.specs.Moments.{inside_at};
 ghost use Rattle.commands.specs.RunRefusals.{new_run_refusal};
 ghost use Rattle.commands.specs.Run.{makes_and_runs, CanRun, NewRunSays, RunIsTold};
 
@@ -53,7 +53,7 @@ fn run_saying<D: Dir, S: Spawner>(
     ensures cause { IsErrOf result Refusal.DirFault → Rose (D.shown dir.old).faults (D.shown dir.new).faults }
     ensures spawn_cause { IsErrOf result Refusal.SpawnFault → Rose (S.shown spawner.old).faults (S.shown spawner.new).faults }
     ensures refusals { IfErr result (λ r. new_run_refusal r ≡ true) }
-    ensures known { D.observed ≡ true → (intent : Intent) → Began Area.Run draw.now now intent → StaysConforming intent (dir_at D.Dir dir.old) (dir_at D.Dir dir.new) }
+    ensures known { D.observed ≡ true → (intent : Intent) → Began Area.Run draw.now now intent → StaysConforming intent (D.shown dir.old) (D.shown dir.new) }
     ensures makers { D.observed ≡ true → MakesFaithfully Area.Run draw.now now (D.shown dir.old) (D.shown dir.new) }
     ensures says { NewRunSays D.observed S.observed wanted.now address.now now draw.now (D.shown dir.old) (D.shown dir.new) (S.shown spawner.old) (S.shown spawner.new) result }
 {
@@ -85,7 +85,7 @@ pub fn run<D: Dir, S: Spawner>(
     ensures cause { IsErrOf result Refusal.DirFault → Rose (D.shown dir.old).faults (D.shown dir.new).faults }
     ensures spawn_cause { IsErrOf result Refusal.SpawnFault → Rose (S.shown spawner.old).faults (S.shown spawner.new).faults }
     ensures refusals { IfErr result (λ r. new_run_refusal r ≡ true) }
-    ensures known { D.observed ≡ true → (intent : Intent) → Began Area.Run draw.now now intent → StaysConforming intent (dir_at D.Dir dir.old) (dir_at D.Dir dir.new) }
+    ensures known { D.observed ≡ true → (intent : Intent) → Began Area.Run draw.now now intent → StaysConforming intent (D.shown dir.old) (D.shown dir.new) }
     ensures makers { D.observed ≡ true → MakesFaithfully Area.Run draw.now now (D.shown dir.old) (D.shown dir.new) }
     ensures says { RunIsTold wanted.now address.now now draw.now (inside_at D.Dir S.Spawner dir.old spawner.old) (inside_at D.Dir S.Spawner dir.new spawner.new) result }
 {

@@ -6,7 +6,7 @@ ghost use Rattle.dir_rules.specs.Standing.{is_run_prepared};
 ghost use Rattle.dir_trait.specs.Local.{IsActive};
 ghost use Rattle.dir_trait.specs.Effects.{OnlyAsks};
 ghost use Rattle.command_outcomes.specs.Conforming.{StaysConforming};
-ghost use Rattle.command_outcomes.specs.Moments.{dir_at, inside_at};
+ghost use Rattle.command_outcomes.specs.Moments.{inside_at};
 ghost use Rattle.commands.specs.RunRefusals.{run_prepared_refusal};
 ghost use Rattle.commands.specs.RunPrepared.{runs_prepared, CanClaim, RunPreparedSays};
 
@@ -40,7 +40,7 @@ pub fn run_prepared<D: Dir, S: Spawner>(
     ensures cause { IsErrOf result Refusal.DirFault → Rose (D.shown dir.old).faults (D.shown dir.new).faults }
     ensures spawn_cause { IsErrOf result Refusal.SpawnFault → Rose (S.shown spawner.old).faults (S.shown spawner.new).faults }
     ensures refusals { IfErr result (λ r. run_prepared_refusal r ≡ true) }
-    ensures known { D.observed ≡ true → (intent : Intent) → is_run_prepared intent.kind ≡ true → StaysConforming intent (dir_at D.Dir dir.old) (dir_at D.Dir dir.new) }
+    ensures known { D.observed ≡ true → (intent : Intent) → is_run_prepared intent.kind ≡ true → StaysConforming intent (D.shown dir.old) (D.shown dir.new) }
     ensures says { RunPreparedSays pod address.now (inside_at D.Dir S.Spawner dir.old spawner.old) (inside_at D.Dir S.Spawner dir.new spawner.new) result }
 {
     match claim(alloc, dir, pod) {

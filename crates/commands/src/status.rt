@@ -5,7 +5,6 @@ ghost use Rattle.dir_trait.specs.Causes.{Rose};
 ghost use Rattle.dir_trait.specs.Local.{IsActive, has_own_open};
 ghost use Rattle.dir_trait.specs.Pods.{pod_text};
 ghost use Rattle.pod_report.specs.Requests.{OnlyAsksFor, inspects};
-ghost use Rattle.command_outcomes.specs.Moments.{dir_at};
 ghost use Rattle.commands.specs.Report.{ReportSays};
 ghost use Rattle.commands.specs.Status.{created_line, ended_line, status_lines, status_refusal, status_report, unknown_refusal};
 ghost use Rattle.commands.specs.Texts.{state_text};
@@ -97,7 +96,7 @@ pub fn pod_status<D: Dir>(alloc: Global, pod: PodId, dir: &mut D) -> Result<Outp
     ensures only { OnlyAsksFor D.observed (inspects pod) (D.shown dir.old) (D.shown dir.new) }
     ensures cause { IsErrOf result Refusal.DirFault → Rose (D.shown dir.old).faults (D.shown dir.new).faults }
     ensures refusals { IfErr result (λ r. status_refusal r ≡ true) }
-    ensures says { ReportSays (status_report pod) (dir_at D.Dir dir.old) (dir_at D.Dir dir.new) result }
+    ensures says { ReportSays D.observed (status_report pod) (D.shown dir.old) (D.shown dir.new) result }
 {
     let found = status_of(alloc, dir, pod);
     said(alloc, found)

@@ -16,8 +16,8 @@ use Rattle.dir_trait.specs.DirCalls.{DirAt, DirCall, ExtendsBy}
 use Rattle.dir_trait.specs.Knowledge.{Knows}
 use Rattle.command_outcomes.specs.declared.refusal.Refusal.{Refusal}
 use Rattle.command_outcomes.specs.declared.refusal.Refusal.TheVariants.{NoMemory, SpawnFault}
-use Rattle.command_outcomes.specs.Conforming.{seen_at_begin, dir_at_moment, StaysConforming}
-use Rattle.command_outcomes.specs.Moments.{BundleSeen, DirSeen, Inside, Outside, Moment, SinkSeen, SpawnerSeen, Answer, dir_seen, is_well, outcome_of}
+use Rattle.command_outcomes.specs.Conforming.{seen_at_begin, StaysConforming}
+use Rattle.command_outcomes.specs.Moments.{BundleSeen, Inside, Outside, Moment, SinkSeen, SpawnerSeen, Answer, is_well, outcome_of}
 use Rattle.command_outcomes.specs.Texts.{exit_status_of}
 use Rattle.command_outcomes.proofs.Seen.{beside}
 use Rattle.commands.specs.AppsTold.{inside}
@@ -84,12 +84,12 @@ same_approach (line.Rm word) pod = refl
 same_approach l pod = refl
 
 -- the pod that it was found to mean
-pub is_meant_by : (l : Line) (pod : PodId) (draw : Draw) (b m : DirSeen) → FindsPodByWord (pod_word_of l) draw b m (Ok pod) → IsMeantBy (pod_word_of l) draw pod
-is_meant_by (line.Status word) pod draw b m f = f.0
-is_meant_by (line.CatManifest word) pod draw b m f = f.0
-is_meant_by (line.RunPrepared word address) pod draw b m f = f.0
-is_meant_by (line.Rm word) pod draw b m f = f.0
-is_meant_by l pod draw b m f = let same : pod ≡ draw.uuid = cc in same
+pub is_meant_by : (observed : Bool) (l : Line) (pod : PodId) (draw : Draw) (b m : DirAt) → FindsPodByWord observed (pod_word_of l) draw b m (Ok pod) → IsMeantBy (pod_word_of l) draw pod
+is_meant_by observed (line.Status word) pod draw b m f = f.0
+is_meant_by observed (line.CatManifest word) pod draw b m f = f.0
+is_meant_by observed (line.RunPrepared word address) pod draw b m f = f.0
+is_meant_by observed (line.Rm word) pod draw b m f = f.0
+is_meant_by observed l pod draw b m f = let same : pod ≡ draw.uuid = cc in same
 
 pub means_its : (l : Line) (pod : PodId) (draw : Draw) → IsMeantBy (pod_word_of l) draw pod → MeansItsPod (task_of l pod)
 means_its (line.Status word) pod draw m = m
@@ -98,7 +98,7 @@ means_its (line.RunPrepared word address) pod draw m = m
 means_its (line.Rm word) pod draw m = m
 means_its l pod draw m = tt
 
-finds_its : (l : Line) (pod : PodId) (draw : Draw) (b m : DirSeen) → FindsPodByWord (pod_word_of l) draw b m (Ok pod) → b.observed ≡ true → FindsItsPod (task_of l pod) b.process b.trace m.trace
+finds_its : {observed : Bool} (l : Line) (pod : PodId) (draw : Draw) (b m : DirAt) → FindsPodByWord observed (pod_word_of l) draw b m (Ok pod) → observed ≡ true → FindsItsPod (task_of l pod) b.process b.trace m.trace
 finds_its (line.Status word) pod draw b m f t = f.1 t
 finds_its (line.CatManifest word) pod draw b m f t = f.1 t
 finds_its (line.RunPrepared word address) pod draw b m f t = f.1 t
@@ -125,28 +125,28 @@ begin_error intent e may = cc
 module _ (observed : Bool) (l : Line) (now : ℕ) (draw : Draw) (intent : Intent) (a b : DirAt) (said : intent_in l now draw ≡ Some intent) where
   -- it couldn't begin
   pub acted_never : (u : BundleSeen) (s : SpawnerSeen) (e : DirError) → may_refuse (Begin intent) e ≡ true → DirCall observed a (Begin intent) (done_reply {T = Unit {0}} (Err e)) b →
-      Acts l now draw (beside (dir_seen observed a) u) (beside (dir_seen observed b) u) s s (Err NoMemory)
+      Acts l now draw (beside observed a u) (beside observed b u) s s (Err NoMemory)
   acted_never u s e may call =
       let refused : DirCall observed a (Begin intent) (Refused dir_error.NoMemory 0) b = subst (λ (x : DirError). DirCall observed a (Begin intent) (Refused x 0) b) (begin_error intent e may) call in
-      let never : NeverBegan intent (beside (dir_seen observed a) u) (beside (dir_seen observed b) u) (Err NoMemory) = record { is = refl; same = refused.same; local = refused.local; faults = refused.faults; step = refused.step; bundle = refl } in
+      let never : NeverBegan intent (beside observed a u) (beside observed b u) (Err NoMemory) = record { is = refl; same = refused.same; local = refused.local; faults = refused.faults; step = refused.step; bundle = refl } in
       inr (NoMemory, refl, inr (inl (intent, said, refl, never)), refl, refl)
 
-  module _ (fresh : a.local ≡ nothing_local) (begins : DirCall observed a (Begin intent) Done b) (m : DirAt) (comes : ComesToPod (pod_word_of l) (dir_seen observed b) (dir_seen observed m)) where
+  module _ (fresh : a.local ≡ nothing_local) (begins : DirCall observed a (Begin intent) Done b) (m : DirAt) (comes : ComesToPod observed (pod_word_of l) b m) where
     began : b.local ≡ begun_local intent
     began = begins.local ∙ ap (λ (x : Local). local_replied x (Begin intent) Done) fresh
 
-    knew : observed ≡ true → Knows (dir_at_moment (dir_seen observed b)) (seen_at_begin intent)
+    knew : observed ≡ true → Knows b (seen_at_begin intent)
     knew t = let k = begun_at intent fresh begins t in record { tied = k.tied; handles = k.handles }
 
-    pub acted_knows : observed ≡ true → Knows (dir_at_moment (dir_seen observed m)) (seen_at_begin intent)
+    pub acted_knows : observed ≡ true → Knows m (seen_at_begin intent)
     acted_knows t = comes.knows t intent (knew t)
 
     -- its pod was found, the command ran, and it finished
-    module _ (pod : PodId) (found : FindsPodByWord (pod_word_of l) draw (dir_seen observed b) (dir_seen observed m) (Ok pod)) (c d : DirAt) (u v : BundleSeen) (s s' : SpawnerSeen) (answer : Answer)
+    module _ (pod : PodId) (found : FindsPodByWord observed (pod_word_of l) draw b m (Ok pod)) (c d : DirAt) (u v : BundleSeen) (s s' : SpawnerSeen) (answer : Answer)
         (uses : uses_dir (any_task l) ≡ true)
-        (ran : CommandRan (task_of l pod) now draw (beside (dir_seen observed m) u) (beside (dir_seen observed c) v) (outcome_of answer))
-        (keeps : observed ≡ true → (i : Intent) → intent_of (task_of l pod) now draw ≡ Some i → StaysConforming i (dir_seen observed m) (dir_seen observed c))
-        (came : TellsOfItsApps (task_of l pod) now draw (inside (dir_seen observed m) s) (inside (dir_seen observed c) s') answer)
+        (ran : CommandRan (task_of l pod) now draw (beside observed m u) (beside observed c v) (outcome_of answer))
+        (keeps : observed ≡ true → (i : Intent) → intent_of (task_of l pod) now draw ≡ Some i → StaysConforming i m c)
+        (came : TellsOfItsApps (task_of l pod) now draw (inside observed m s) (inside observed c s') answer)
         (spawn_cause : IsErrOf answer SpawnFault → Rose s.shown.faults s'.shown.faults)
         (finish : DirCall observed c Finish Done d) (faultless : d.faults ≡ c.faults) where
       abbrev task : Task
@@ -162,18 +162,18 @@ module _ (observed : Bool) (l : Line) (now : ℕ) (draw : Draw) (intent : Intent
         looks = subst (λ (p : ℕ). Looks (approach_in task) p b.trace m.trace) begins.same (subst (λ (x : Approach). Looks x b.process b.trace m.trace) (same_approach l pod) (comes.looks t));
       }
 
-      in_process : InProcess task now draw intent (beside (dir_seen observed a) u) (beside (dir_seen observed d) v) (outcome_of answer)
+      in_process : InProcess task now draw intent (beside observed a u) (beside observed d v) (outcome_of answer)
       in_process = record {
         uses = same_uses l pod ∙ uses;
-        begun = beside (dir_seen observed m) u;
-        ended = beside (dir_seen observed c) v;
+        begun = beside observed m u;
+        ended = beside observed c v;
         told = refl;
         me = comes.same ∙ begins.same;
         risen = omega (arith, begins.faults, comes.faults);
         started = comes.local ∙ began;
-        meant = means_its l pod draw (is_meant_by l pod draw (dir_seen observed b) (dir_seen observed m) found);
+        meant = means_its l pod draw (is_meant_by observed l pod draw b m found);
         begins = opened;
-        found = λ t. subst (λ (p : ℕ). FindsItsPod task p b.trace m.trace) begins.same (finds_its l pod draw (dir_seen observed b) (dir_seen observed m) found t);
+        found = λ t. subst (λ (p : ℕ). FindsItsPod task p b.trace m.trace) begins.same (finds_its l pod draw b m found t);
         knows = acted_knows;
         bundle_before = refl;
         ran = ran;
@@ -185,11 +185,10 @@ module _ (observed : Bool) (l : Line) (now : ℕ) (draw : Draw) (intent : Intent
         bundle_after = refl;
       }
 
-      between : AppsToldBetween task now draw (Some intent) (inside (dir_seen observed a) s) (inside (dir_seen observed d) s') answer
+      between : AppsToldBetween task now draw (Some intent) (inside observed a s) (inside observed d s') answer
       between = inl (record {
-        begun = dir_seen observed m;
-        ended = dir_seen observed c;
-        told = refl;
+        begun = m;
+        ended = c;
         me = comes.same ∙ begins.same;
         begins = opened;
         came = came;
@@ -199,27 +198,26 @@ module _ (observed : Bool) (l : Line) (now : ℕ) (draw : Draw) (intent : Intent
         finishes = finish.step;
       })
 
-      pub acted_whole : Acts l now draw (beside (dir_seen observed a) u) (beside (dir_seen observed d) v) s s' answer
+      pub acted_whole : Acts l now draw (beside observed a u) (beside observed d v) s s' answer
       acted_whole = inl (
         pod,
-        is_meant_by l pod draw (dir_seen observed b) (dir_seen observed m) found,
+        is_meant_by observed l pod draw b m found,
         record {
-          performs = subst (λ (i : Option Intent). Performs task now draw i (beside (dir_seen observed a) u) (beside (dir_seen observed d) v) (outcome_of answer)) (sym its) (inl in_process);
-          came = subst (λ (i : Option Intent). AppsToldBetween task now draw i (inside (dir_seen observed a) s) (inside (dir_seen observed d) s') answer) (sym its) between;
+          performs = subst (λ (i : Option Intent). Performs task now draw i (beside observed a u) (beside observed d v) (outcome_of answer)) (sym its) (inl in_process);
+          came = subst (λ (i : Option Intent). AppsToldBetween task now draw i (inside observed a s) (inside observed d s') answer) (sym its) between;
           spawn_cause = spawn_cause;
         },
       )
 
     -- none was found, and it finished
-    module _ (refusal : Refusal) (d : DirAt) (u : BundleSeen) (s : SpawnerSeen) (vain : FindsPodByWord (pod_word_of l) draw (dir_seen observed b) (dir_seen observed m) (Err refusal)) (finish : DirCall observed m Finish Done d) (faultless : d.faults ≡ m.faults) where
+    module _ (refusal : Refusal) (d : DirAt) (u : BundleSeen) (s : SpawnerSeen) (vain : FindsPodByWord observed (pod_word_of l) draw b m (Err refusal)) (finish : DirCall observed m Finish Done d) (faultless : d.faults ≡ m.faults) where
       abbrev Never : Type 0
-      Never = NeverReachedItsPod l now draw (beside (dir_seen observed a) u) (beside (dir_seen observed d) u) refusal
+      Never = NeverReachedItsPod l now draw (beside observed a u) (beside observed d u) refusal
 
-      looked : (word : List ℕ) → ComesToPod (Some word) (dir_seen observed b) (dir_seen observed m) → FindsPodByWord (Some word) draw (dir_seen observed b) (dir_seen observed m) (Err refusal) → LookedInVain word intent (dir_seen observed a) (dir_seen observed d) refusal
+      looked : (word : List ℕ) → ComesToPod observed (Some word) b m → FindsPodByWord observed (Some word) draw b m (Err refusal) → LookedInVain observed word intent a d refusal
       looked word came why = record {
-        begun = dir_seen observed b;
-        looked = dir_seen observed m;
-        told = refl;
+        begun = b;
+        looked = m;
         me = begins.same;
         risen = begins.faults;
         begins = begins.step;
@@ -232,17 +230,17 @@ module _ (observed : Bool) (l : Line) (now : ℕ) (draw : Draw) (intent : Intent
         local = finish.local ∙ ap (λ (x : Local). local_replied x Finish Done) (comes.local ∙ began);
       }
 
-      never : (word : Option (List ℕ)) → pod_word_of l ≡ word → ComesToPod word (dir_seen observed b) (dir_seen observed m) → FindsPodByWord word draw (dir_seen observed b) (dir_seen observed m) (Err refusal) → Never
+      never : (word : Option (List ℕ)) → pod_word_of l ≡ word → ComesToPod observed word b m → FindsPodByWord observed word draw b m (Err refusal) → Never
       never None is came why = cc
       never (Some word) is came why = inr (inr (word, is, intent, said, looked word came why))
 
-      pub acted_vain : Acts l now draw (beside (dir_seen observed a) u) (beside (dir_seen observed d) u) s s (Err refusal)
+      pub acted_vain : Acts l now draw (beside observed a u) (beside observed d u) s s (Err refusal)
       acted_vain = inr (refusal, refl, never (pod_word_of l) refl comes vain, refl, refl)
 
 -- a command that needs no process
-pub acted_apart : (observed : Bool) (l : Line) (now : ℕ) (draw : Draw) (a b : DirAt) (u v : BundleSeen) (s s' : SpawnerSeen) (answer : Answer) → intent_in l now draw ≡ None → uses_dir (any_task l) ≡ false → dir_seen observed b ≡ dir_seen observed a →
-    CommandRan (task_of l draw.uuid) now draw (beside (dir_seen observed a) u) (beside (dir_seen observed b) v) (outcome_of answer) → is_well answer ≡ true → (IsErrOf answer SpawnFault → Rose s.shown.faults s'.shown.faults) →
-    Acts l now draw (beside (dir_seen observed a) u) (beside (dir_seen observed b) v) s s' answer
+pub acted_apart : (observed : Bool) (l : Line) (now : ℕ) (draw : Draw) (a b : DirAt) (u v : BundleSeen) (s s' : SpawnerSeen) (answer : Answer) → intent_in l now draw ≡ None → uses_dir (any_task l) ≡ false → b ≡ a →
+    CommandRan (task_of l draw.uuid) now draw (beside observed a u) (beside observed b v) (outcome_of answer) → is_well answer ≡ true → (IsErrOf answer SpawnFault → Rose s.shown.faults s'.shown.faults) →
+    Acts l now draw (beside observed a u) (beside observed b v) s s' answer
 acted_apart observed l now draw a b u v s s' answer none apart same ran well spawn_cause =
     let task = task_of l draw.uuid in
     let its : intent_of task now draw ≡ None = same_intent l draw.uuid now draw ∙ none in
@@ -250,8 +248,8 @@ acted_apart observed l now draw a b u v s s' answer none apart same ran well spa
       draw.uuid,
       drawn_alone l draw apart,
       record {
-        performs = subst (λ (i : Option Intent). Performs task now draw i (beside (dir_seen observed a) u) (beside (dir_seen observed b) v) (outcome_of answer)) (sym its) (record { apart = same_uses l draw.uuid ∙ apart; dir = same; ran = ran });
-        came = subst (λ (i : Option Intent). AppsToldBetween task now draw i (inside (dir_seen observed a) s) (inside (dir_seen observed b) s') answer) (sym its) well;
+        performs = subst (λ (i : Option Intent). Performs task now draw i (beside observed a u) (beside observed b v) (outcome_of answer)) (sym its) (record { apart = same_uses l draw.uuid ∙ apart; dir = same; ran = ran });
+        came = subst (λ (i : Option Intent). AppsToldBetween task now draw i (inside observed a s) (inside observed b s') answer) (sym its) well;
         spawn_cause = spawn_cause;
       },
     )
@@ -263,7 +261,7 @@ well_apart (line.Demo count) now draw a b answer apart came = came
 well_apart l now draw a b answer apart came = cc
 
 -- a look lists areas of pods alone
-pub looked_by : (observed : Bool) (word : Option (List ℕ)) (old new : DirAt) → ComesToPod word (dir_seen observed old) (dir_seen observed new) → observed ≡ true → ExtendsBy lists_stages old new
+pub looked_by : (observed : Bool) (word : Option (List ℕ)) (old new : DirAt) → ComesToPod observed word old new → observed ≡ true → ExtendsBy lists_stages old new
 looked_by observed word old new comes t = extends_wider (look_lists (approach_by word)) (look_extends (approach_by word) (comes.looks t))
 
 -- ---- a run

@@ -17,7 +17,7 @@ use Rattle.commands.specs.Run.{NewRunSays, RunIsTold}
 use Rattle.rkt_cli.specs.Tasks.{Task}
 use Rattle.rkt_cli.specs.Tasks.{RunPrepared, Run}
 use Rattle.commands.specs.Answers.{Complained, inside_in}
-use Rattle.commands.specs.AppsTold.{well_status, TellsApps}
+use Rattle.commands.specs.AppsTold.{inside, well_status, TellsApps}
 use Rattle.rkt_cli.specs.Commands.{runs_apps, intent_of}
 use Rattle.rkt_cli.specs.Runs.{AppsIn, End, Unwritten, Printed, Reported, end_status, end_of_writing, status_at, RunOfLine, RunsTaskOrNothing, IsRunOfTask}
 use Rattle.rkt_cli.specs.Spawns.{AppsToldBetween}
@@ -33,24 +33,24 @@ told_text told text front ends is told_is = let e : text ≡ told.text = cc in e
 prepared_text : {address : List ℕ} (pod : PodId) (a b : Inside) (answer : Answer) (text : List ℕ) → Ok text ≡ outcome_of answer → RunPreparedSays pod address a b answer → (ends : List AppEnd) × (text ≡ app_lines ends)
 prepared_text pod a b (Err r) text is says = cc
 prepared_text pod a b (Ok told) text is says =
-    elim says.so [ inl x ↦ (x.says.ends, told_text told text [] x.says.ends is (ap (λ (t : Told). t.text) x.says.is)) | inr x ↦ let clash : telling told ≡ Err (claim_refusal pod x.error) = x.is in cc ]
+    elim says [ inl x ↦ (x.says.ends, told_text told text [] x.says.ends is (ap (λ (t : Told). t.text) x.says.is)) | inr x ↦ let clash : telling told ≡ Err (claim_refusal pod x.error) = x.is in cc ]
 
 made_text : {address : List ℕ} (wants : Wants) (now : ℕ) (draw : Draw) (a b : Inside) (answer : Answer) (text : List ℕ) → Ok text ≡ outcome_of answer → RunIsTold wants address now draw a b answer → (ends : List AppEnd) × (text ≡ pod_line draw.uuid ++ app_lines ends)
 made_text wants now draw a b (Err r) text is says = cc
-made_text {address = address} wants now draw a b (Ok told) text is says = by says.so
+made_text {address = address} wants now draw a b (Ok told) text is says = by says
   where
-    by : NewRunSays a.dir.observed a.spawner.observed wants address now draw says.from says.to a.spawner.shown b.spawner.shown (telling told) → (ends : List AppEnd) × (text ≡ pod_line draw.uuid ++ app_lines ends)
+    by : NewRunSays a.observed a.spawner.observed wants address now draw a.dir b.dir a.spawner.shown b.spawner.shown (telling told) → (ends : List AppEnd) × (text ≡ pod_line draw.uuid ++ app_lines ends)
     by (inl x) = (x.says.ends, told_text told text (pod_line draw.uuid) x.says.ends is (ap (λ (t : Told). t.text) x.says.is))
     by (inr (inl x)) = let clash : telling told ≡ Err x.is.0 = x.is.1 in cc
     by (inr (inr x)) = let clash : telling told ≡ Err NoMemory = x.is in cc
 
 pub run_prepared_printed : (word : List ℕ) {address : List ℕ} (pod : PodId) (now : ℕ) (draw : Draw) (intent : Intent) (a b : Inside) (answer : Answer) (text : List ℕ) → Ok text ≡ outcome_of answer → AppsToldBetween (RunPrepared word pod address) now draw (Some intent) a b answer → (ends : List AppEnd) × (text ≡ app_lines ends)
-run_prepared_printed word pod now draw intent a b answer text is (inl x) = prepared_text pod _ _ answer text is x.came
+run_prepared_printed word pod now draw intent a b answer text is (inl x) = prepared_text pod (inside a.observed x.begun a.spawner) (inside a.observed x.ended b.spawner) answer text is x.came
 run_prepared_printed word pod now draw intent a b answer text is (inr x) = let clash : Ok text ≡ Err NoMemory = is ∙ ap outcome_of x.0 in cc
 
 pub run_printed : {address : List ℕ} (wants : Wants) (now : ℕ) (draw : Draw) (intent : Intent) (a b : Inside) (answer : Answer) (text : List ℕ) → Ok text ≡ outcome_of answer → AppsToldBetween (Run wants address) now draw (Some intent) a b answer →
     (ends : List AppEnd) × (text ≡ pod_line draw.uuid ++ app_lines ends)
-run_printed wants now draw intent a b answer text is (inl x) = made_text wants now draw _ _ answer text is x.came
+run_printed wants now draw intent a b answer text is (inl x) = made_text wants now draw (inside a.observed x.begun a.spawner) (inside a.observed x.ended b.spawner) answer text is x.came
 run_printed wants now draw intent a b answer text is (inr x) = let clash : Ok text ≡ Err NoMemory = is ∙ ap outcome_of x.0 in cc
 
 -- no run has the plain status 16

@@ -11,7 +11,6 @@ use Rattle.command_outcomes.specs.declared.refusal.Refusal.{Refusal}
 use Rattle.command_outcomes.specs.declared.refusal.Refusal.TheVariants.{NoMemory}
 use Rattle.command_outcomes.specs.Texts.{exit_status_of}
 use Rattle.command_outcomes.specs.Moments.{Moment, CommandOutcome}
-use Rattle.command_outcomes.specs.Conforming.{dir_at_moment}
 use Rattle.commands.specs.ImageImport.{import_refusal, source_of, RefusesImage}
 use Rattle.commands.specs.Answers.{IsAnswer}
 use Rattle.commands.specs.ImageImportCommand.{IsBundleJudgement}
@@ -36,7 +35,7 @@ from_outside (bundle.BadKind name) r path status old new is at outside = absurd 
 refused_judged : (path : List ℕ) (r : Refusal) (status : ℕ) (old new : Moment) → old.outside.bundle.observed ≡ true → IsAnswer (Err r) status old new → RefusesImage path old.outside new.outside r → IsBundleJudgement path status old new
 refused_judged path r status old new t answer x = by x.cause
   where
-    by : IsImportRefused old.outside.dir.observed (source_of path old.outside.bundle) x.error (dir_at_moment old.outside.dir) (dir_at_moment new.outside.dir) → IsBundleJudgement path status old new
+    by : IsImportRefused old.outside.observed (source_of path old.outside.bundle) x.error old.outside.dir new.outside.dir → IsBundleJudgement path status old new
     by (inr y) = inr (inr (inr (y.0, y.1 t)))
     by (inl y) =
         let is : r ≡ import_refusal (bundle_refusal y.0) = x.is ∙ ap import_refusal y.1 in

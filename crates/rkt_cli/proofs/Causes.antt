@@ -75,7 +75,7 @@ module _ (now : ℕ) (draw : Draw) (old new : Outside) where
   abbrev Fails : Task → Refusal → Type 0
   Fails line r = Performs line now draw (intent_of line now draw) old new (Err r)
 
-  list_refused : (r : Refusal) → Fails ImageList r → is_shared r ≡ false → may ImageList r ≡ true → RefusesImageList r old.dir new.dir
+  list_refused : (r : Refusal) → Fails ImageList r → is_shared r ≡ false → may ImageList r ≡ true → RefusesImageList old.observed r old.dir new.dir
   list_refused (Busy Images) p plain own = list_busy now draw (intent_of ImageList now draw) old new Images p
   list_refused (Busy area) p plain own = let clash : false ≡ true = own in cc
   list_refused (Damaged path) p plain own = list_lacked now draw (intent_of ImageList now draw) old new path p
@@ -100,7 +100,7 @@ module _ (now : ℕ) (draw : Draw) (old new : Outside) where
     lawful = refusal_lawful path old new r (import_refused path now draw (intent_of (ImageImport path) now draw) old new r (no_memory r plain) p);
   }
 
-  removal_refused : (key : StoreKey) (r : Refusal) → Fails (ImageRm key) r → is_shared r ≡ false → may (ImageRm key) r ≡ true → RefusesImageRm key draw r old.dir new.dir
+  removal_refused : (key : StoreKey) (r : Refusal) → Fails (ImageRm key) r → is_shared r ≡ false → may (ImageRm key) r ≡ true → RefusesImageRm old.observed key draw r old.dir new.dir
   removal_refused key (Busy Images) p plain own = removal_busy key now draw old new Images p
   removal_refused key (Busy area) p plain own = let clash : false ≡ true = own in cc
   removal_refused key (NoImage named) p plain own = (removal_unnamed key now draw (intent_of (ImageRm key) now draw) old new named p, removal_none key now draw (intent_of (ImageRm key) now draw) old new named p)
@@ -109,7 +109,7 @@ module _ (now : ℕ) (draw : Draw) (old new : Outside) where
   removal_refused key DirFault p plain own = let clash : true ≡ false = plain in cc
   removal_refused key r p plain own = let clash : false ≡ true = own in cc
 
-  sweep_refused : (r : Refusal) → Fails ImageGc r → is_shared r ≡ false → may ImageGc r ≡ true → RefusesImageGc r old.dir new.dir
+  sweep_refused : (r : Refusal) → Fails ImageGc r → is_shared r ≡ false → may ImageGc r ≡ true → RefusesImageGc old.observed r old.dir new.dir
   sweep_refused Stray p plain own = sweep_stray now draw old new p
   sweep_refused NoMemory p plain own = let clash : true ≡ false = plain in cc
   sweep_refused DirFault p plain own = let clash : true ≡ false = plain in cc
@@ -124,14 +124,14 @@ module _ (now : ℕ) (draw : Draw) (old new : Outside) where
   prepare_own wants Usage plain own = let clash : true ≡ false = plain in cc
   prepare_own wants r plain own = own
 
-  prepare_causes : (wants : Wants) (r : Refusal) → Fails (Prepare wants) r → is_shared r ≡ false → may (Prepare wants) r ≡ true → RefusesPrepare wants now draw r old.dir new.dir
+  prepare_causes : (wants : Wants) (r : Refusal) → Fails (Prepare wants) r → is_shared r ≡ false → may (Prepare wants) r ≡ true → RefusesPrepare old.observed wants now draw r old.dir new.dir
   prepare_causes wants r p plain own = record {
     own = prepare_own wants r plain own;
     why = prepare_refused wants now draw (intent_of (Prepare wants) now draw) old new r (no_fault r plain) p;
     held = λ area is t. prepare_busy wants now draw old new area (subst (λ (q : Refusal). Fails (Prepare wants) q) is p) t;
   }
 
-  rm_refused : {word : List ℕ} (pod : PodId) (r : Refusal) → Fails (Rm word pod) r → is_shared r ≡ false → may (Rm word pod) r ≡ true → RefusesRm pod r old.dir new.dir
+  rm_refused : {word : List ℕ} (pod : PodId) (r : Refusal) → Fails (Rm word pod) r → is_shared r ≡ false → may (Rm word pod) r ≡ true → RefusesRm old.observed pod r old.dir new.dir
   rm_refused {word = word} pod NoPod p plain own = λ t. rm_none word pod now draw (intent_of (Rm word pod) now draw) old new t p
   rm_refused pod (WrongPhase phase) p plain own = rm_wrong pod now draw old new phase p
   rm_refused {word = word} pod (NoManifest other) p plain own = rm_bare word pod now draw (intent_of (Rm word pod) now draw) old new other p
@@ -141,7 +141,7 @@ module _ (now : ℕ) (draw : Draw) (old new : Outside) where
   rm_refused pod DirFault p plain own = let clash : true ≡ false = plain in cc
   rm_refused pod r p plain own = let clash : false ≡ true = own in cc
 
-  gc_refused : {grace : ℕ} {expire : ℕ} (r : Refusal) → Fails (Gc grace expire) r → is_shared r ≡ false → may (Gc grace expire) r ≡ true → RefusesGc r old.dir new.dir
+  gc_refused : {grace : ℕ} {expire : ℕ} (r : Refusal) → Fails (Gc grace expire) r → is_shared r ≡ false → may (Gc grace expire) r ≡ true → RefusesGc old.observed r old.dir new.dir
   gc_refused {grace = grace} {expire = expire} Stray p plain own = gc_stray {grace = grace} {expire = expire} now draw old new p
   gc_refused NoMemory p plain own = let clash : true ≡ false = plain in cc
   gc_refused DirFault p plain own = let clash : true ≡ false = plain in cc

@@ -17,7 +17,7 @@ use Rattle.pod_gc.specs.Hindrances.{IsUnhinderedThroughout}
 use Rattle.command_outcomes.specs.declared.refusal.Refusal.{Refusal}
 use Rattle.command_outcomes.specs.declared.refusal.Refusal.TheVariants.{Usage, DirFault, BundleFault, OutFault, NoMemory, Stray}
 use Rattle.command_outcomes.specs.Texts.{exit_status_of}
-use Rattle.command_outcomes.specs.Conforming.{seen_at_begin, dir_at_moment, seen_at_begin as just_begun}
+use Rattle.command_outcomes.specs.Conforming.{seen_at_begin, seen_at_begin as just_begun}
 use Rattle.command_outcomes.specs.Moments.{Moment, Inside, Answer, CommandOutcome, SinkSeen, outcome_of}
 use Rattle.commands.specs.RunRefusals.{claim_refusal, run_refusal, IsRunSaid}
 use Rattle.commands.specs.RunPrepared.{ClaimsAndRuns, IsUnclaimed}
@@ -37,7 +37,7 @@ use Rattle.commands.specs.RunPreparedCommand.{is_unfree_status}
 use Rattle.rkt_cli.specs.Commands.{may, intent_of}
 use Rattle.rkt_cli.specs.Runs.{End, InProcess, Performs, Printed, Unwritten, IsStatusWithApps, RunsTaskOrNothing, end_status}
 use Rattle.rkt_cli.specs.Spawns.{AppsToldBetween}
-use Rattle.rkt_cli.proofs.RunsQuiet.{finish_ext, seen, me_is, first, to_is, knows_there}
+use Rattle.rkt_cli.proofs.RunsQuiet.{finish_ext, first}
 use Rattle.rkt_cli.proofs.Conforming.{begun_knows}
 use Rattle.rkt_cli.proofs.PodRemovals.{rm_intent, begun_removes}
 use Rattle.rkt_cli.proofs.Sessions.{finish_part}
@@ -57,7 +57,7 @@ unwritten : (r : Refusal) (old new : SinkSeen) → Unwritten r old new → is_re
 unwritten r old new (inl x) = ap (λ (e : Refusal). is_removal_end (exit_status_of e)) x.0
 unwritten r old new (inr x) = ap (λ (e : Refusal). is_removal_end (exit_status_of e)) x.0
 
-module _ (word : List ℕ) (pod : PodId) (now : ℕ) (draw : Draw) (old new : Moment) (t : old.outside.dir.observed ≡ true) (conforms : IsConforming new.outside.dir.trace)
+module _ (word : List ℕ) (pod : PodId) (now : ℕ) (draw : Draw) (old new : Moment) (t : old.outside.observed ≡ true) (conforms : IsConforming new.outside.dir.trace)
     (free : IsUnhinderedThroughout pod old.outside.dir.process old.outside.dir.trace new.outside.dir.trace) where
   abbrev Ends : ℕ → Type 0
   Ends status = EndsUnhindered status old.outside.dir new.outside.dir
@@ -111,45 +111,36 @@ free_part pod old new d d' more rest me first last free before later left step b
     (free before (more ++ later) (left ++ rest) step (begins ∙ (ap (λ (h : List Event). h ++ later) first ∙ append_assoc old.trace more later))
     (last ∙ (ap (λ (h : List Event). h ++ rest) ends ∙ append_assoc (before ++ step ∷ []) left rest)) (subst (λ (p : ℕ). is_foreign p step ≡ false) me own))
 
-module _ (word address : List ℕ) (pod : PodId) (now : ℕ) (draw : Draw) (a b : Inside) (t : a.dir.observed ≡ true) (conforms : IsConforming b.dir.trace) (free : IsFreeThroughout pod (dir_at_moment a.dir) (dir_at_moment b.dir)) where
+module _ (word address : List ℕ) (pod : PodId) (now : ℕ) (draw : Draw) (a b : Inside) (t : a.observed ≡ true) (conforms : IsConforming b.dir.trace) (free : IsFreeThroughout pod a.dir b.dir) where
   abbrev its_intent : Intent
   its_intent = intent_for kind.RunPrepared word now draw
 
   unfree : (r : Refusal) → AppsToldBetween (RunPrepared word pod address) now draw (Some its_intent) a b (Err r) → is_unfree_status (exit_status_of r) ≡ false
   unfree r (inr x) = ap (λ (z : Refusal). is_unfree_status (exit_status_of z)) (same_refusal r NoMemory x.0)
-  unfree r (inl x) = by x.came.so
+  unfree r (inl x) = by x.came
     where
-      d : DirAt
-      d = x.came.from
-
-      d' : DirAt
-      d' = x.came.to
-
       last : Extends is_finish a.dir.process x.ended.trace b.dir.trace
       last = finish_ext x t is_finish refl
 
-      ends : b.dir.trace ≡ d'.trace ++ last.more
-      ends = last.grown ∙ ap (λ (h : List Event). h ++ last.more) (to_is x t d d' x.came.begins x.came.ends)
-
-      by : ClaimsAndRuns x.begun.observed a.spawner.observed pod address d d' a.spawner.shown b.spawner.shown (Err r) ⊎ IsUnclaimed x.begun.observed pod d d' a.spawner.shown b.spawner.shown (Err r) → is_unfree_status (exit_status_of r) ≡ false
+      by : ClaimsAndRuns a.observed a.spawner.observed pod address x.begun x.ended a.spawner.shown b.spawner.shown (Err r) ⊎ IsUnclaimed a.observed pod x.begun x.ended a.spawner.shown b.spawner.shown (Err r) → is_unfree_status (exit_status_of r) ≡ false
       by (inl c) = stopped c.says
         where
-          stopped : RunSays x.begun.observed a.spawner.observed c.owned address [] c.claimed d' a.spawner.shown b.spawner.shown (Err r) → is_unfree_status (exit_status_of r) ≡ false
+          stopped : RunSays a.observed a.spawner.observed c.owned address [] c.claimed x.ended a.spawner.shown b.spawner.shown (Err r) → is_unfree_status (exit_status_of r) ≡ false
           stopped (inl w) = ap (λ (z : Refusal). is_unfree_status (exit_status_of z)) (same_refusal r w.is.0 w.is.1) ∙ said_apart c.owned.pod w.error w.is.0 w.is.2
           stopped (inr w) = ap (λ (z : Refusal). is_unfree_status (exit_status_of z)) (same_refusal r NoMemory w.is)
       by (inr u) =
-          let grew = first x t d d' x.came.begins x.came.ends in
-          let there = conforming_left d'.trace last.more (subst IsConforming ends conforms) in
-          let fails = u.complete (seen x t d d' x.came.begins x.came.ends) (just_begun its_intent) (may_begin its_intent refl) (knows_there x t d d' x.came.begins x.came.ends) there
-          (free_part pod (dir_at_moment a.dir) (dir_at_moment b.dir) d d' grew.more last.more (sym (me_is x t d d' x.came.begins x.came.ends)) grew.grown ends free) in
+          let grew = first x t in
+          let there = conforming_left x.ended.trace last.more (subst IsConforming last.grown conforms) in
+          let fails = u.complete t (just_begun its_intent) (may_begin its_intent refl) (x.knows t) there
+          (free_part pod a.dir b.dir x.begun x.ended grew.more last.more x.me grew.grown last.grown free) in
           ap (λ (z : Refusal). is_unfree_status (exit_status_of z)) (same_refusal r (claim_refusal pod u.error) u.is) ∙ claim_apart pod u.error fails
 
 unwritten_apart : (r : Refusal) (old new : SinkSeen) → Unwritten r old new → is_unfree_status (exit_status_of r) ≡ false
 unwritten_apart r old new (inl x) = ap (λ (e : Refusal). is_unfree_status (exit_status_of e)) x.0
 unwritten_apart r old new (inr x) = ap (λ (e : Refusal). is_unfree_status (exit_status_of e)) x.0
 
-module _ (pod : PodId) (now : ℕ) (draw : Draw) (old new : Moment) (t : old.outside.dir.observed ≡ true) (conforms : IsConforming new.outside.dir.trace)
-    (free : IsFreeThroughout pod (dir_at_moment old.outside.dir) (dir_at_moment new.outside.dir)) where
+module _ (pod : PodId) (now : ℕ) (draw : Draw) (old new : Moment) (t : old.outside.observed ≡ true) (conforms : IsConforming new.outside.dir.trace)
+    (free : IsFreeThroughout pod old.outside.dir new.outside.dir) where
   run_ended : (word address : List ℕ) (answer : Answer) (end : End) → AppsToldBetween (RunPrepared word pod address) now draw (intent_of (RunPrepared word pod address) now draw) (inside_in old) (inside_in new) answer → Printed (outcome_of answer) old.out new.out end → is_unfree_status (end_status end) ≡ false
   run_ended word address (Ok told) (Ok done) came printed = refl
   run_ended word address (Ok told) (Err r) came printed = unwritten_apart r old.out new.out (printed.cause told.text refl)
@@ -163,6 +154,6 @@ module _ (pod : PodId) (now : ℕ) (draw : Draw) (old new : Moment) (t : old.out
   graded_apart word address plain status (inl same) apart = ap is_unfree_status same ∙ apart
   graded_apart word address plain status (inr x) apart = ap is_unfree_status x.0
 
-pub claim_ends : (word address : List ℕ) (pod : PodId) (now : ℕ) (draw : Draw) (old new : Moment) → old.outside.dir.observed ≡ true → IsConforming new.outside.dir.trace → IsFreeThroughout pod (dir_at_moment old.outside.dir) (dir_at_moment new.outside.dir) →
+pub claim_ends : (word address : List ℕ) (pod : PodId) (now : ℕ) (draw : Draw) (old new : Moment) → old.outside.observed ≡ true → IsConforming new.outside.dir.trace → IsFreeThroughout pod old.outside.dir new.outside.dir →
     (plain status : ℕ) → IsStatusWithApps (RunPrepared word pod address) plain status → RunsTaskOrNothing (RunPrepared word pod address) now draw old new plain → is_unfree_status status ≡ false
 claim_ends word address pod now draw old new t conforms free plain status graded ran = graded_apart pod now draw old new t conforms free word address plain status graded (run_plainly pod now draw old new t conforms free word address plain ran)

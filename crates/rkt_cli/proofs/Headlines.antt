@@ -7,11 +7,12 @@ use Rattle.dir_model.specs.declared.request.Request.{Request}
 use Rattle.dir_model.specs.declared.request.Request.TheVariants.{Begin, Finish}
 use Rattle.dir_model.specs.Calls.{is_begin, is_finish}
 use Rattle.dir_model.proofs.Lists.{not_true}
+use Rattle.dir_trait.specs.DirCalls.{DirAt}
 use Rattle.headline.specs.Keeping.{BeginsAs}
 use Rattle.headline.proofs.Begins.{call_begins, none_begins, begins_then}
 use Rattle.pod_lookup.specs.Looks.{lists_stages}
 use Rattle.command_outcomes.specs.declared.refusal.Refusal.{Refusal}
-use Rattle.command_outcomes.specs.Moments.{DirSeen, Outside, Moment, CommandOutcome}
+use Rattle.command_outcomes.specs.Moments.{Outside, Moment, CommandOutcome}
 use Rattle.commands.specs.Opening.{approach_of}
 use Rattle.commands.proofs.Starts.{look_extends, look_lists}
 use Rattle.rkt_cli.specs.declared.line.Line.{Line}
@@ -40,7 +41,7 @@ no_step {intent} {me} {trace} = record { more = []; grown = sym (append-nil trac
 looks_begin_none : (r : Request) → lists_stages r ≡ true → is_begin r ≡ false
 looks_begin_none r h = not_true (is_begin r) (lists_no_begin r h)
 
-module _ (now : ℕ) (draw : Draw) (old new : Outside) (t : old.dir.observed ≡ true) where
+module _ (now : ℕ) (draw : Draw) (old new : Outside) (t : old.observed ≡ true) where
   abbrev me : ℕ
   me = old.dir.process
 
@@ -57,12 +58,12 @@ module _ (now : ℕ) (draw : Draw) (old new : Outside) (t : old.dir.observed ≡
       begins_then said me began (begins_then said me looked (begins_then said me acted finished))
 
   performed_begins : (task : Task) (o : CommandOutcome) (i : Option Intent) → intent_of task now draw ≡ i → Performs task now draw i old new o → Begins (intent_of task now draw)
-  performed_begins task o None is p = subst (λ (d : DirSeen). BeginsAs (intent_of task now draw) me old.dir.trace d.trace) (sym p.dir) no_step
+  performed_begins task o None is p = subst (λ (d : DirAt). BeginsAs (intent_of task now draw) me old.dir.trace d.trace) (sym p.dir) no_step
   performed_begins task o (Some i) is (inr n) = call_begins (intent_of task now draw) me (n.step t) (λ j same. said_same i j is same)
   performed_begins task o (Some i) is (inl s) = process_begins task o (intent_of task now draw) i is s
 
   never_begins : (l : Line) (r : Refusal) → NeverReachedItsPod l now draw old new r → Begins (intent_in l now draw)
-  never_begins l r (inl x) = subst (λ (d : DirSeen). BeginsAs (intent_in l now draw) me old.dir.trace d.trace) (sym x.1) no_step
+  never_begins l r (inl x) = subst (λ (d : DirAt). BeginsAs (intent_in l now draw) me old.dir.trace d.trace) (sym x.1) no_step
   never_begins l r (inr (inl x)) = call_begins (intent_in l now draw) me (x.3.step t) (λ j same. said_same x.0 j x.1 same)
   never_begins l r (inr (inr x)) =
       let said = intent_in l now draw in
@@ -71,7 +72,7 @@ module _ (now : ℕ) (draw : Draw) (old new : Outside) (t : old.dir.observed ≡
       let finished = none_begins said me finish_no_begin (last_part x.4 t is_finish refl) in
       begins_then said me began (begins_then said me looked finished)
 
-pub run_begins : (now : ℕ) (draw : Draw) (old new : Moment) (status : ℕ) (l : Option Line) → IsRunOf l now draw old new status → old.outside.dir.observed ≡ true →
+pub run_begins : (now : ℕ) (draw : Draw) (old new : Moment) (status : ℕ) (l : Option Line) → IsRunOf l now draw old new status → old.outside.observed ≡ true →
     BeginsAs (intent_said l now draw) old.outside.dir.process old.outside.dir.trace new.outside.dir.trace
 run_begins now draw old new status None (inl r) t = subst (λ (x : Outside). BeginsAs None old.outside.dir.process old.outside.dir.trace x.dir.trace) (sym r.outside) no_step
 run_begins now draw old new status None (inr r) t = subst (λ (x : Outside). BeginsAs None old.outside.dir.process old.outside.dir.trace x.dir.trace) (sym r.outside) no_step

@@ -19,7 +19,6 @@ use Rattle.rkt_cli.specs.Tasks.{ImageImport}
 use Rattle.command_outcomes.specs.declared.refusal.Refusal.{Refusal}
 use Rattle.command_outcomes.specs.declared.refusal.Refusal.TheVariants.{Busy, NoMemory}
 use Rattle.command_outcomes.specs.Moments.{BundleSeen, Outside, CommandOutcome}
-use Rattle.command_outcomes.specs.Conforming.{dir_at_moment}
 use Rattle.commands.specs.Command.{intent_for}
 use Rattle.rkt_cli.specs.Commands.{intent_of}
 use Rattle.rkt_cli.specs.Runs.{InProcess, Performs}
@@ -36,11 +35,11 @@ still : (a b : ℕ) → b ≡ a → a ≤ b
 still a b same = omega arith
 
 module _ {path : List ℕ} {now : ℕ} {draw : Draw} {intent : Intent} {old new : Outside} {o : CommandOutcome} (s : InProcess (ImageImport path) now draw intent old new o) where
-  process_span : Span old.dir.observed (dir_at_moment old.dir) (dir_at_moment s.begun.dir) (dir_at_moment s.ended.dir) (dir_at_moment new.dir)
+  process_span : Span old.observed old.dir s.begun.dir s.ended.dir new.dir
   process_span = record { part = λ t. process_part s t; before = s.risen; after = still s.ended.dir.faults new.dir.faults s.faults }
 
   -- its begin and its finish move nothing
-  moved_wider : old.dir.observed ≡ true → MovedNoImage s.begun.dir.process s.begun.dir.trace s.ended.dir.trace → MovedNoImage old.dir.process old.dir.trace new.dir.trace
+  moved_wider : old.observed ≡ true → MovedNoImage s.begun.dir.process s.begun.dir.trace s.ended.dir.trace → MovedNoImage old.dir.process old.dir.trace new.dir.trace
   moved_wider t x =
       let asks : Request → Bool = λ r. not (is_move r) in
       let off = λ (r : Request) (h : not (is_move r) ≡ true). not_true (is_move r) h in
@@ -52,19 +51,19 @@ module _ {path : List ℕ} {now : ℕ} {draw : Draw} {intent : Intent} {old new 
     error = x.error;
     is = x.is;
     cause = refused_wider process_span (source_of path old.bundle) x.error
-        (subst (λ (b : BundleSeen). IsImportRefused old.dir.observed (source_of path b) x.error (dir_at_moment s.begun.dir) (dir_at_moment s.ended.dir)) s.bundle_before
-        (subst (λ (told : Bool). IsImportRefused told (source_of path s.begun.bundle) x.error (dir_at_moment s.begun.dir) (dir_at_moment s.ended.dir)) s.told x.cause));
+        (subst (λ (b : BundleSeen). IsImportRefused old.observed (source_of path b) x.error s.begun.dir s.ended.dir) s.bundle_before
+        (subst (λ (told : Bool). IsImportRefused told (source_of path s.begun.bundle) x.error s.begun.dir s.ended.dir) s.told x.cause));
     turn = turn_wider process_span (source_of path old.bundle) x.error
-        (subst (λ (b : BundleSeen). RefusalComesInTurn old.dir.observed (source_of path b) x.error (dir_at_moment s.begun.dir) (dir_at_moment s.ended.dir)) s.bundle_before
-        (subst (λ (told : Bool). RefusalComesInTurn told (source_of path s.begun.bundle) x.error (dir_at_moment s.begun.dir) (dir_at_moment s.ended.dir)) s.told x.turn));
+        (subst (λ (b : BundleSeen). RefusalComesInTurn old.observed (source_of path b) x.error s.begun.dir s.ended.dir) s.bundle_before
+        (subst (λ (told : Bool). RefusalComesInTurn told (source_of path s.begun.bundle) x.error s.begun.dir s.ended.dir) s.told x.turn));
     still = λ t. moved_wider t (x.still (s.told ∙ t));
   }
 
-  stored_wider : old.dir.observed ≡ true → (image : BundleImage) → IsStored image now draw.uuid s.begun.dir s.ended.dir → IsStored image now draw.uuid old.dir new.dir
+  stored_wider : old.observed ≡ true → (image : BundleImage) → IsStored image now draw.uuid s.begun.dir s.ended.dir → IsStored image now draw.uuid old.dir new.dir
   stored_wider t image (inl there) = inl (within_wider (process_part s t) there.0, moved_wider t there.1)
   stored_wider t image (inr came) = inr (imported_wider (process_part s t) came)
 
-  conforms_before : old.dir.observed ≡ true → IsConforming new.dir.trace → IsConforming s.ended.dir.trace
+  conforms_before : old.observed ≡ true → IsConforming new.dir.trace → IsConforming s.ended.dir.trace
   conforms_before t conforming = let last = finish_part s t any_call refl in conforming_left s.ended.dir.trace last.more (subst IsConforming last.grown conforming)
 
 -- what was printed
@@ -75,19 +74,19 @@ import_printed path now draw None old new text p = let clash : true ≡ false = 
 
 -- and that it is stored
 pub stored_in_process : (path : List ℕ) (now : ℕ) (draw : Draw) (intent : Intent) (old new : Outside) (text : List ℕ) → intent_of (ImageImport path) now draw ≡ Some intent → InProcess (ImageImport path) now draw intent old new (Ok text) →
-    old.dir.observed ≡ true → IsConforming new.dir.trace → StoresImage path now draw.uuid old new text
+    old.observed ≡ true → IsConforming new.dir.trace → StoresImage path now draw.uuid old new text
 stored_in_process path now draw intent old new text said s t conforming =
     let x = subst (λ (b : BundleSeen). StoresImage path now draw.uuid (record s.begun { bundle = b }) s.ended text) s.bundle_before
     (s.ran.says.stores (s.told ∙ t) (conforms_before s t conforming) intent (imports path now draw intent said) (begun_knows s t)) in
     (x.0, x.1, (x.2.0, stored_wider s t x.0 x.2.1))
 
 pub import_stored : (path : List ℕ) (now : ℕ) (draw : Draw) (old new : Outside) (text : List ℕ) → Performs (ImageImport path) now draw (intent_of (ImageImport path) now draw) old new (Ok text) →
-    old.dir.observed ≡ true → IsConforming new.dir.trace → StoresImage path now draw.uuid old new text
+    old.observed ≡ true → IsConforming new.dir.trace → StoresImage path now draw.uuid old new text
 import_stored path now draw old new text (inl s) t conforming = stored_in_process path now draw (intent_for kind.ImageImport [] now draw) old new text refl s t conforming
 import_stored path now draw old new text (inr n) t conforming = let e = n.is in cc
 
 -- why it was refused
-says_why : (path : List ℕ) (now : ℕ) (draw : Draw) (old new : Outside) (r : Refusal) → is_memory r ≡ false → ImageImportSays path now draw.uuid old new (Err r) → RefusesImage path old new r × IsHeldFromImport draw.uuid r old.dir new.dir
+says_why : (path : List ℕ) (now : ℕ) (draw : Draw) (old new : Outside) (r : Refusal) → is_memory r ≡ false → ImageImportSays path now draw.uuid old new (Err r) → RefusesImage path old new r × IsHeldFromImport old.observed draw.uuid r old.dir new.dir
 says_why path now draw old new NoMemory other says = cc
 says_why path now draw old new r other says = says
 
@@ -97,9 +96,9 @@ import_refused path now draw (Some intent) old new r other (inr n) = let same : 
 import_refused path now draw None old new r other p = let clash : true ≡ false = p.apart in cc
 
 pub import_busy : (path : List ℕ) (now : ℕ) (draw : Draw) (old new : Outside) (area : Area) → Performs (ImageImport path) now draw (intent_of (ImageImport path) now draw) old new (Err (Busy area)) →
-    old.dir.observed ≡ true → IsAreaHeld area old.dir new.dir
+    old.observed ≡ true → IsAreaHeld area old.dir new.dir
 import_busy path now draw old new area (inl s) t =
     held_wider (process_part s t) (IsBusyElsewhere old.dir.process area Shared)
-    (subst (λ (me : ℕ). HeldBetween (dir_at_moment s.begun.dir) (dir_at_moment s.ended.dir) (IsBusyElsewhere me area Shared)) s.me
+    (subst (λ (me : ℕ). HeldBetween s.begun.dir s.ended.dir (IsBusyElsewhere me area Shared)) s.me
     (s.ran.says.1 area refl (s.told ∙ t) (intent_for kind.ImageImport [] now draw) (imports path now draw (intent_for kind.ImageImport [] now draw) refl) (begun_knows s t)))
 import_busy path now draw old new area (inr n) t = let e = n.is in cc

@@ -18,9 +18,10 @@ use Rattle.dir_rules.specs.Standing.{nothing_standing, standing_from, standing_o
 use Rattle.dir_rules.proofs.Standings.{standing_is}
 use Rattle.dir_rules.proofs.Tied.{others_unseen, seen_after-append}
 use Rattle.dir_rules.proofs.Unborn.{refused_unseen}
+use Rattle.dir_trait.specs.DirCalls.{DirAt}
 use Rattle.lifecycle.specs.Executions.{IsConforming, IsDrawnOnce}
 use Rattle.lifecycle.proofs.Draws.{standing_split, same_intent}
-use Rattle.command_outcomes.specs.Moments.{DirSeen, Outside, Moment, CommandOutcome}
+use Rattle.command_outcomes.specs.Moments.{Outside, Moment, CommandOutcome}
 use Rattle.rkt_cli.specs.Tasks.{Task}
 use Rattle.rkt_cli.specs.Tasks.{Status, PodList, CatManifest, Validate, ImageList, ImageImport, ImageRm, ImageGc, Prepare, RunPrepared, Run, Rm, Gc, Metadata, Demo}
 use Rattle.pod_lookup.specs.Looks.{lists_stages}
@@ -158,7 +159,7 @@ module _ (me : ℕ) (old new : List Event) (quiet : Quiet me old new) (conformin
     tokens = once_after intent began (λ i. i.token) conforming.tokens (λ p b has same. fresh.token p b has (same ∙ its.token));
   }
 
-module _ (task : Task) (now : ℕ) (draw : Draw) (old new : Outside) (o : CommandOutcome) (t : old.dir.observed ≡ true) (quiet : Quiet old.dir.process old.dir.trace new.dir.trace) (conforming : IsConforming old.dir.trace) where
+module _ (task : Task) (now : ℕ) (draw : Draw) (old new : Outside) (o : CommandOutcome) (t : old.observed ≡ true) (quiet : Quiet old.dir.process old.dir.trace new.dir.trace) (conforming : IsConforming old.dir.trace) where
   abbrev me : ℕ
   me = old.dir.process
 
@@ -193,11 +194,11 @@ module _ (task : Task) (now : ℕ) (draw : Draw) (old new : Outside) (o : Comman
   }
 
   lawful_performed : (intent : Option Intent) → intent_of task now draw ≡ intent → IsNewDraw draw old.dir.trace → Performs task now draw intent old new o → IsConforming new.dir.trace
-  lawful_performed None said fresh p = subst (λ (d : DirSeen). IsConforming d.trace) (sym p.dir) conforming
+  lawful_performed None said fresh p = subst (λ (d : DirAt). IsConforming d.trace) (sym p.dir) conforming
   lawful_performed (Some intent) said fresh (inl s) = lawful_process intent said fresh s
   lawful_performed (Some intent) said fresh (inr n) = lawful_refused intent n
 
-pub stays_lawful : {task : Task} {now : ℕ} {draw : Draw} {old new : Moment} {status : ℕ} → IsRunOfTask task now draw old new status → old.outside.dir.observed ≡ true → StaysLawful draw old.outside.dir new.outside.dir
+pub stays_lawful : {task : Task} {now : ℕ} {draw : Draw} {old new : Moment} {status : ℕ} → IsRunOfTask task now draw old new status → old.outside.observed ≡ true → StaysLawful draw old.outside.dir new.outside.dir
 stays_lawful {task} {now} {draw} {old} {new} {status} run t quiet conforming fresh = by run.ran
   where
     by : RunsTaskOrNothing task now draw old new run.plain → IsConforming new.outside.dir.trace

@@ -17,7 +17,7 @@ use Rattle.command_outcomes.specs.declared.refusal.Refusal.{Refusal}
 use Rattle.command_outcomes.specs.declared.refusal.Refusal.TheVariants.{LinkFault, NoMemory}
 use Rattle.command_outcomes.specs.declared.told.Told.{Told}
 use Rattle.command_outcomes.specs.Texts.{exit_status_of}
-use Rattle.command_outcomes.specs.Moments.{Answer, DirSeen, Outside, CommandOutcome, SinkSeen, dir_seen, is_well, outcome_of}
+use Rattle.command_outcomes.specs.Moments.{Answer, Outside, CommandOutcome, SinkSeen, is_well, outcome_of}
 use Rattle.commands.specs.Command.{intent_for}
 use Rattle.commands.specs.MetadataService.{ServesAs, service_outcome, service_refusal}
 use Rattle.demo_line.specs.Numbers.{demo_line}
@@ -69,12 +69,12 @@ links_served l draw address said count o answer old new a b is same_address same
 -- ---- its process
 
 module _ (observed : Bool) (l : Line) (now : ℕ) (draw : Draw) (intent : Intent) (a b m : DirAt) (said : intent_in l now draw ≡ Some intent) (begins : DirCall observed a (Begin intent) Done b)
-    (comes : ComesToPod (pod_word_of l) (dir_seen observed b) (dir_seen observed m)) (t : observed ≡ true) where
+    (comes : ComesToPod observed (pod_word_of l) b m) (t : observed ≡ true) where
   -- its command was performed, and it finished
   pub links_whole : (c d : DirAt) (answer : Answer) (old new : ListenerAt) → c.process ≡ m.process → DirCall observed c Finish Done d → LinksBetween l draw answer old new m c → LinksOf l now draw answer old new a d
   links_whole c d answer old new same finish x = by l said comes x
     where
-      by : (k : Line) → intent_in k now draw ≡ Some intent → ComesToPod (pod_word_of k) (dir_seen observed b) (dir_seen observed m) → LinksBetween k draw answer old new m c → LinksOf k now draw answer old new a d
+      by : (k : Line) → intent_in k now draw ≡ Some intent → ComesToPod observed (pod_word_of k) b m → LinksBetween k draw answer old new m c → LinksOf k now draw answer old new a d
       by (line.Metadata address count) its came x =
           let mine : m.process ≡ a.process = came.same ∙ begins.same in
           let is : intent ≡ intent_for kind.Metadata [] now draw = sym (same_intents (intent_for kind.Metadata [] now draw) intent its) in
@@ -100,9 +100,9 @@ links_never (line.Metadata address count) now draw x a b = inr (refl, refl)
 links_never l now draw x a b = refl
 
 -- it found no pod, which the service doesn't look for
-pub links_vain : (l : Line) (now : ℕ) (draw : Draw) (refusal : Refusal) (b m : DirSeen) (x : ListenerAt) (a d : DirAt) → FindsPodByWord (pod_word_of l) draw b m (Err refusal) → LinksOf l now draw (Err refusal) x x a d
-links_vain (line.Metadata address count) now draw refusal b m x a d vain = cc
-links_vain l now draw refusal b m x a d vain = refl
+pub links_vain : (observed : Bool) (l : Line) (now : ℕ) (draw : Draw) (refusal : Refusal) (b m : DirAt) (x : ListenerAt) (a d : DirAt) → FindsPodByWord observed (pod_word_of l) draw b m (Err refusal) → LinksOf l now draw (Err refusal) x x a d
+links_vain observed (line.Metadata address count) now draw refusal b m x a d vain = cc
+links_vain observed l now draw refusal b m x a d vain = refl
 
 no_link_found : (e : LookError) {X : Type 0} → lookup_refusal e ≡ LinkFault → X
 no_link_found lookup.NoPod is = cc
@@ -110,9 +110,9 @@ no_link_found (lookup.Ambiguous first second) is = cc
 no_link_found lookup.DirFault is = cc
 no_link_found lookup.NoMemory is = cc
 
-pub vain_link : (word : Option (List ℕ)) (draw : Draw) (b m : DirSeen) (refusal : Refusal) {X : Type 0} → FindsPodByWord word draw b m (Err refusal) → IsErrOf {T = Told} (Err refusal) LinkFault → X
-vain_link None draw b m refusal vain is = cc
-vain_link (Some word) draw b m refusal vain is = no_link_found vain.error (sym vain.is ∙ (let same : refusal ≡ LinkFault = cc in same))
+pub vain_link : (observed : Bool) (word : Option (List ℕ)) (draw : Draw) (b m : DirAt) (refusal : Refusal) {X : Type 0} → FindsPodByWord observed word draw b m (Err refusal) → IsErrOf {T = Told} (Err refusal) LinkFault → X
+vain_link observed None draw b m refusal vain is = cc
+vain_link observed (Some word) draw b m refusal vain is = no_link_found vain.error (sym vain.is ∙ (let same : refusal ≡ LinkFault = cc in same))
 
 -- it needs no process
 pub links_apart : (l : Line) (now : ℕ) (draw : Draw) (answer : Answer) (old new : ListenerAt) (a b : DirAt) → intent_in l now draw ≡ None → LinksBetween l draw answer old new a b → LinksOf l now draw answer old new a b

@@ -11,31 +11,23 @@ use Rattle.phase_read.specs.declared.found.LookError.{LookError}
 use Rattle.phase_read.specs.declared.found.LookError.TheVariants as lookup
 use Rattle.pod_lookup.specs.Choice.{IfAmbiguous, IsLookupAnswer, NamesMeant}
 use Rattle.pod_lookup.specs.Looks.{OnlyLooksFor, lists_stages}
-use Rattle.pod_lookup.specs.Resolved.{AreTheLeast, Existed, FindsTheOne, IsChosen, IsNoneOf, IsSequential, IsShown}
-use Rattle.command_outcomes.specs.Conforming.{seen_at_begin, dir_at_moment}
-use Rattle.command_outcomes.specs.Moments.{DirSeen, dir_seen}
+use Rattle.pod_lookup.specs.Resolved.{AreTheLeast, Existed, FindsTheOne, IsChosen, IsNoneOf, IsSequential}
+use Rattle.command_outcomes.specs.Conforming.{seen_at_begin}
 use Rattle.commands.specs.Opening.{directly, looking, Looks}
 use Rattle.rkt_cli.specs.Lookups.{ComesToPod, FindsMeant, MeansNone, lookup_refusal}
 use Rattle.command_outcomes.specs.declared.refusal.Refusal.{Refusal}
 
 module _ (observed : Bool) (word : List ℕ) (old new : DirAt) where
-  abbrev before : DirSeen
-  before = dir_seen observed old
-
-  abbrev after : DirSeen
-  after = dir_seen observed new
-
   -- how it came there
-  pub came : OnlyLooksFor observed lists_stages old new → (length word ≡ 36 → new ≡ old) → ComesToPod (Some word) before after
+  pub came : OnlyLooksFor observed lists_stages old new → (length word ≡ 36 → new ≡ old) → ComesToPod observed (Some word) old new
   came only unseen = record {
     same = only.same;
     faults = only.faults;
     local = only.local;
     looks = λ t. looks t (length word == 36) refl;
     knows = λ t intent k.
-        let x = only.known t (seen_at_begin intent) (record { tied = k.tied; handles = k.handles }) in
-        let y : Knows new (seen_at_begin intent) = subst (λ (s : Seen). Knows new s) (x.bare refl) x.knows in
-        record { tied = y.tied; handles = y.handles };
+        let x = only.known t (seen_at_begin intent) k in
+        subst (λ (s : Seen). Knows new s) (x.bare refl) x.knows;
   }
     where
       looks : observed ≡ true → (b : Bool) → (length word == 36) ≡ b → Looks (cond b directly looking) old.process old.trace new.trace
@@ -44,21 +36,15 @@ module _ (observed : Bool) (word : List ℕ) (old new : DirAt) where
 
   -- to the pod
   pub came_to : (pod : PodId) → NamesMeant word (Ok pod) → (length word ≡ 36 → pod_text pod.bytes ≡ word) → ((length word ≡ 36 → ⊥) → observed ≡ true → IsChosen word (Ok pod) old new) → ((length word ≡ 36 → ⊥) → observed ≡ true → Existed pod old new) →
-      (observed ≡ true → FindsTheOne word (Ok pod) old new) → (observed ≡ true → IsSequential word (Ok pod) old new) → FindsMeant word before after (Ok pod)
+      (observed ≡ true → FindsTheOne word (Ok pod) old new) → (observed ≡ true → IsSequential word (Ok pod) old new) → FindsMeant observed word old new (Ok pod)
   came_to pod meant whole chosen existed one quiet =
       (record { begins = meant; whole = whole }, λ t. record { shown = λ part. let x = chosen part t in (x.pods, x.found, x.is); existed = λ part. existed part t; the_one = one t; quiet = quiet t })
 
   -- or to none
-  shown_so : {names : List (List ℕ)} {pod : PodId} → IsShown word names old new pod → IsShown word names (dir_at_moment before) (dir_at_moment after) pod
-  shown_so x = record { meant = x.meant; among = x.among; shown = x.shown; existed = x.existed }
-
-  least_so : {a b : PodId} → AreTheLeast word a b old new → AreTheLeast word a b (dir_at_moment before) (dir_at_moment after)
-  least_so x = record { names = x.names; listed = x.listed; first = shown_so x.first; second = shown_so x.second; rise = x.rise; least = x.least }
-
   why : (error : LookError) → (IsErrOf {T = PodId} (Err error) lookup.DirFault → Rose old.faults new.faults) → (IsErrOf {T = PodId} (Err error) lookup.NoPod → observed ≡ true → IsNoneOf word old new) →
-      IfAmbiguous (Err error) (λ a b. observed ≡ true → AreTheLeast word a b old new) → MeansNone word error before after
+      IfAmbiguous (Err error) (λ a b. observed ≡ true → AreTheLeast word a b old new) → MeansNone observed word error old new
   why lookup.NoPod cause none several = none refl
-  why (lookup.Ambiguous a b) cause none several = λ t. least_so (several t)
+  why (lookup.Ambiguous a b) cause none several = several
   why lookup.DirFault cause none several = cause refl
   why lookup.NoMemory cause none several = tt
 
@@ -69,7 +55,7 @@ module _ (observed : Bool) (word : List ℕ) (old new : DirAt) where
   pub came_to_none : (error : LookError) (refusal : Refusal) → refusal ≡ lookup_refusal error → (IsErrOf {T = PodId} (Err error) lookup.DirFault → Rose old.faults new.faults) → (IsErrOf {T = PodId} (Err error) lookup.NoPod → observed ≡ true → IsNoneOf word old new) →
       IfAmbiguous (Err error) (λ a b. observed ≡ true → AreTheLeast word a b old new) → (length word ≡ 36 → IsOk {T = PodId} {E = LookError} (Err error)) → NamesMeant word (Err error) →
       ((length word ≡ 36 → ⊥) → IsLookupAnswer (Err error) → observed ≡ true → IsChosen word (Err error) old new) → (IsLookupAnswer (Err error) → observed ≡ true → FindsTheOne word (Err error) old new) → (IsLookupAnswer (Err error) → observed ≡ true → IsSequential word (Err error) old new) →
-      FindsMeant word before after (Err refusal)
+      FindsMeant observed word old new (Err refusal)
   came_to_none error refusal is cause none several whole names chosen one quiet = record {
     error = error;
     is = is;

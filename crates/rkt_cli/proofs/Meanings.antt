@@ -19,7 +19,7 @@ use Rattle.rkt_cli.proofs.Sessions.{idle, quiet_look, state_first}
 
 -- one that was found so
 found_before : {task : Task} {now : ℕ} {draw : Draw} {intent : Intent} {old new : Outside} {o : CommandOutcome} (word : List ℕ) (pod : PodId) (s : InProcess task now draw intent old new o) (u : Undisturbed task old new) →
-    ((t : old.dir.observed ≡ true) → IsFoundByWord word pod old.dir.process (s.begins t).first s.begun.dir.trace) → sequential_resolve (state_after old.dir.trace) word ≡ Ok pod
+    ((t : old.observed ≡ true) → IsFoundByWord word pod old.dir.process (s.begins t).first s.begun.dir.trace) → sequential_resolve (state_after old.dir.trace) word ≡ Ok pod
 found_before {intent = intent} {old = old} word pod s u found =
     let t = u.observed s.uses in
     let q = u.alone s.uses in
@@ -29,7 +29,7 @@ found_before {intent = intent} {old = old} word pod s u found =
 
 -- a run of a task that works in a process
 found_by : {task : Task} {now : ℕ} {draw : Draw} {old new : Moment} {status : ℕ} (intent : Intent) → intent_of task now draw ≡ Some intent → (word : List ℕ) (pod : PodId) →
-    ((o : CommandOutcome) (s : InProcess task now draw intent old.outside new.outside o) (t : old.outside.dir.observed ≡ true) → IsFoundByWord word pod old.outside.dir.process (s.begins t).first s.begun.dir.trace) →
+    ((o : CommandOutcome) (s : InProcess task now draw intent old.outside new.outside o) (t : old.outside.observed ≡ true) → IsFoundByWord word pod old.outside.dir.process (s.begins t).first s.begun.dir.trace) →
     IsRunOfTask task now draw old new status → Undisturbed task old.outside new.outside → (status ≡ 14) ⊎ (sequential_resolve (state_after old.outside.dir.trace) word ≡ Ok pod)
 found_by {task} {now} {draw} {old} {new} {status} intent said word pod found run u = by run.ran
   where

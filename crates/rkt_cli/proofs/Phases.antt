@@ -20,7 +20,7 @@ use Rattle.rkt_cli.proofs.PodRemovals.{gc_done}
 use Rattle.rkt_cli.proofs.Promises.{ended, output_as}
 use Rattle.rkt_cli.proofs.Reported.{report_told}
 
-module _ (now : ℕ) (draw : Draw) (old new : Moment) (t : old.outside.dir.observed ≡ true) (conforming : IsConforming new.outside.dir.trace) where
+module _ (now : ℕ) (draw : Draw) (old new : Moment) (t : old.outside.observed ≡ true) (conforming : IsConforming new.outside.dir.trace) where
   -- in the text that it comes to
   text_named : (task : Task) (text : List ℕ) → Performs task now draw (intent_of task now draw) old.outside new.outside (Ok text) → (command_in task).names (Ok text) (HadIn old new)
   text_named (Status word pod) text p =

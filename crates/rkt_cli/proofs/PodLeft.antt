@@ -27,7 +27,7 @@ LeftBy draw DirFault old new = HasKeptFolder draw.uuid old.dir new.dir ⊎ HasBr
 LeftBy draw NoMemory old new = HasKeptFolder draw.uuid old.dir new.dir ⊎ HasBrought draw.uuid (Refused dir.NoMemory 0) old.dir new.dir
 LeftBy draw r old new = HasKeptFolder draw.uuid old.dir new.dir
 
-left_by : (wants : Wants) (now : ℕ) (draw : Draw) (old new : Outside) (r : Refusal) → Performs (Prepare wants) now draw (intent_of (Prepare wants) now draw) old new (Err r) → old.dir.observed ≡ true → LeftBy draw r old new
+left_by : (wants : Wants) (now : ℕ) (draw : Draw) (old new : Outside) (r : Refusal) → Performs (Prepare wants) now draw (intent_of (Prepare wants) now draw) old new (Err r) → old.observed ≡ true → LeftBy draw r old new
 left_by wants now draw old new DirFault (inl s) t = elim s.ran.says [ inl left ↦ inl (kept_in_process s (began now draw) t left) | inr brings ↦ inr (brought_in_process s (began now draw) t brings) ]
 left_by wants now draw old new NoMemory (inl s) t = elim s.ran.says [ inl left ↦ inl (kept_in_process s (began now draw) t left) | inr brings ↦ inr (brought_in_process s (began now draw) t brings) ]
 left_by wants now draw old new NoMemory (inr n) t = inl (inl (step_extends is_begin old.dir.process old.dir.trace _ _ new.dir.trace refl (n.step t)))
@@ -40,7 +40,7 @@ neither wants OutFault allowed = let clash : false ≡ true = allowed in cc
 neither wants NoPod allowed = refl
 neither wants r allowed = refl
 
-module _ (wants : Wants) (now : ℕ) (draw : Draw) (before after : Outside) (t : before.dir.observed ≡ true) where
+module _ (wants : Wants) (now : ℕ) (draw : Draw) (before after : Outside) (t : before.observed ≡ true) where
   abbrev Leaves : ℕ → Type 0
   Leaves status = LeavesPod draw.uuid status before.dir after.dir
 
@@ -73,7 +73,7 @@ neither_swept : (grace expire : ℕ) (r : Refusal) → may (Gc grace expire) r �
 neither_swept grace expire OutFault allowed = let clash : false ≡ true = allowed in cc
 neither_swept grace expire r allowed = refl
 
-module _ (grace expire : ℕ) (now : ℕ) (draw : Draw) (before after : Outside) (t : before.dir.observed ≡ true) where
+module _ (grace expire : ℕ) (now : ℕ) (draw : Draw) (before after : Outside) (t : before.observed ≡ true) where
   abbrev Swept : ℕ → Type 0
   Swept status = LeavesSwept (times_of now grace expire) status before.dir after.dir
 
@@ -99,7 +99,7 @@ module _ (grace expire : ℕ) (now : ℕ) (draw : Draw) (before after : Outside)
   swept (Err r) old new end status p printed is =
       swept_early r status (is ∙ ap end_status printed.refused.0) (refusals_of (Gc grace expire) now draw (intent_of (Gc grace expire) now draw) before after (Err r) r p refl) (gc_swept now draw before after r p t)
 
-module _ (now : ℕ) (draw : Draw) (old new : Moment) (status : ℕ) (t : old.outside.dir.observed ≡ true) where
+module _ (now : ℕ) (draw : Draw) (old new : Moment) (status : ℕ) (t : old.outside.observed ≡ true) where
   pub sweep_left : {grace : ℕ} {expire : ℕ} → RunsTaskOrNothing (Gc grace expire) now draw old new status → LeavesSwept (times_of now grace expire) status old.outside.dir new.outside.dir
   sweep_left {grace = grace} {expire = expire} (inl r) = swept grace expire now draw old.outside new.outside t r.outcome old.out new.out r.end status r.performs r.printed r.is
   sweep_left (inr n) = inr (inr (n.is, subst (λ (x : Outside). Extends is_begin old.outside.dir.process old.outside.dir.trace x.dir.trace) (sym n.outside) nothing_yet))

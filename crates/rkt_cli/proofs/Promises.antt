@@ -10,9 +10,10 @@ use Rattle.dir_model.proofs.Chains.{nothing_yet, step_extends}
 use Rattle.dir_model.proofs.Lists.{or_left_false}
 use Rattle.dir_trait.specs.Sinks.{WritesPart}
 use Rattle.dir_trait.proofs.Askings.{asks_nothing}
+use Rattle.dir_trait.specs.DirCalls.{DirAt}
 use Rattle.command_outcomes.specs.declared.refusal.Refusal.TheVariants.{Usage, NoMemory}
 use Rattle.command_outcomes.specs.Texts.{exit_status_of}
-use Rattle.command_outcomes.specs.Moments.{DirSeen, BundleSeen, Outside, Inside, SinkSeen, Moment, CommandOutcome, Answer, outcome_of}
+use Rattle.command_outcomes.specs.Moments.{BundleSeen, Outside, Inside, SinkSeen, Moment, CommandOutcome, Answer, outcome_of}
 use Rattle.commands.specs.Answers.{inside_in}
 use Rattle.commands.specs.CatManifest.{cat_manifest_report}
 use Rattle.commands.specs.PodList.{list_report}
@@ -94,7 +95,7 @@ status_known line now draw intent before after o old new (Err r) p printed = by 
 
 -- what this process knows in the end
 over_of : (line : Task) (now : ℕ) (draw : Draw) (intent : Option Intent) (before after : Outside) (o : CommandOutcome) (old new : SinkSeen) (end : End) (status : ℕ) → Performs line now draw intent before after o → Printed o old new end → status ≡ end_status end → EndsAs intent status before.dir.local after.dir.local
-over_of line now draw None before after o old new end status p printed is = ap (λ (d : DirSeen). d.local) p.dir
+over_of line now draw None before after o old new end status p printed is = ap (λ (d : DirAt). d.local) p.dir
 over_of line now draw (Some intent) before after o old new end status (inl s) printed is = inl s.local
 over_of line now draw (Some intent) before after o old new end status (inr n) printed is = inr (is ∙ ap end_status ((subst (λ (o : CommandOutcome). Printed o old new end) n.is printed).refused.0), n.local)
 
@@ -140,7 +141,7 @@ module _ (task : Task) (now : ℕ) (draw : Draw) (old new : Moment) (status : �
       by (Err refusal) same is said = inr (record { refusal = refusal; is = is; said = said; cause = cause_of task now draw old new status refusal r same })
 
   -- its own requests alone, among interference
-  extends_of : Is → old.outside.dir.observed ≡ true → Extends (asks_all task now draw) old.outside.dir.process old.outside.dir.trace new.outside.dir.trace
+  extends_of : Is → old.outside.observed ≡ true → Extends (asks_all task now draw) old.outside.dir.process old.outside.dir.trace new.outside.dir.trace
   extends_of (inr n) t = subst (λ (x : Outside). Extends (asks_all task now draw) old.outside.dir.process old.outside.dir.trace x.dir.trace) (sym n.outside) nothing_yet
   extends_of (inl r) t = by (intent_of task now draw) r.performs
     where
@@ -156,7 +157,7 @@ module _ (task : Task) (now : ℕ) (draw : Draw) (old new : Moment) (status : �
       by : (intent : Option Intent) → Performs task now draw intent old.outside new.outside r.outcome → Extends (asks_all task now draw) old.outside.dir.process old.outside.dir.trace new.outside.dir.trace
       by (Some intent) (inl s) = all_parts s t (asks_all task now draw) (begins (Begin intent) refl) (λ q h. or_left (looks task q) _ h) wider (ends Finish refl)
       by (Some intent) (inr n) = step_extends (asks_all task now draw) old.outside.dir.process old.outside.dir.trace _ _ new.outside.dir.trace (begins (Begin intent) refl) (n.step t)
-      by None p = subst (λ (d : DirSeen). Extends (asks_all task now draw) old.outside.dir.process old.outside.dir.trace d.trace) (sym p.dir) nothing_yet
+      by None p = subst (λ (d : DirAt). Extends (asks_all task now draw) old.outside.dir.process old.outside.dir.trace d.trace) (sym p.dir) nothing_yet
 
   -- a text of which this is so, if the task came to it
   out_of : (P : List ℕ → Type 0) → Is → ((r : RunOfLine task now draw (intent_of task now draw) old new status) (text : List ℕ) → r.outcome ≡ Ok text → P text) → old.out.observed ≡ true → IsPlainOutput P status old.out.bytes new.out.bytes
@@ -196,7 +197,7 @@ module _ {task : Task} {now : ℕ} {draw : Draw} {old new : Moment} {status : �
   pub was_read : status ≡ 1 → ⊥
   was_read is = read_of task now draw old new run.plain run.ran (at 1 is refl)
 
-  pub extends : old.outside.dir.observed ≡ true → Extends (asks_all task now draw) old.outside.dir.process old.outside.dir.trace new.outside.dir.trace
+  pub extends : old.outside.observed ≡ true → Extends (asks_all task now draw) old.outside.dir.process old.outside.dir.trace new.outside.dir.trace
   extends = extends_of task now draw old new run.plain run.ran
 
   wrote : (P : List ℕ → Type 0) → IsPlainOutput P run.plain old.out.bytes new.out.bytes → WritesItsText (runs_apps task) P status old.out.bytes new.out.bytes

@@ -24,6 +24,7 @@ use Rattle.commands.specs.Opening.{directly}
 use Rattle.commands.proofs.Starts.{look_lists}
 use Rattle.rkt_cli.specs.Commands.{approach_in}
 use Rattle.dir_trait.specs.Bundles.{bytes_of_node}
+use Rattle.dir_trait.specs.DirCalls.{DirAt}
 use Rattle.image_store.specs.Requests.{building_spot}
 use Rattle.image_removal.specs.Requests.{removes_at, sweeps_store}
 use Rattle.image_removal.proofs.Begun.{begun_removes}
@@ -32,7 +33,7 @@ use Rattle.rkt_cli.specs.Tasks.{Task}
 use Rattle.rkt_cli.specs.Tasks.{Status, PodList, CatManifest, Validate, ImageList, ImageImport, ImageRm, ImageGc, Prepare, RunPrepared, Run, Rm, Gc, Metadata, Demo}
 use Rattle.command_outcomes.specs.declared.refusal.Refusal.{Refusal}
 use Rattle.command_outcomes.specs.declared.refusal.Refusal.TheVariants.{Busy, NoImage, NoPod, WrongPhase, NoManifest, PodBusy, DirFault, BundleFault, NoMemory, Damaged, Stray}
-use Rattle.command_outcomes.specs.Moments.{BundleSeen, DirSeen, Outside, Moment, CommandOutcome}
+use Rattle.command_outcomes.specs.Moments.{BundleSeen, Outside, Moment, CommandOutcome}
 use Rattle.command_outcomes.specs.Ends.{is_own_end, IsUnchanged}
 use Rattle.commands.specs.CatManifest.{cat_manifest_report}
 use Rattle.commands.specs.PodList.{list_report}
@@ -48,7 +49,7 @@ use Rattle.commands.specs.ImageImport.{IsAreaHeld, ImportsQuietly, RefusesQuietl
 use Rattle.commands.specs.NextState.{LeavesBeside, is_nowhere}
 use Rattle.commands.specs.ImageRm.{image_rm_refusal, is_removal_place, FindsBusy, RemovesQuietly}
 use Rattle.commands.specs.ImageGc.{is_swept_place, SweepsQuietly}
-use Rattle.command_outcomes.specs.Conforming.{seen_at_begin, dir_at_moment}
+use Rattle.command_outcomes.specs.Conforming.{seen_at_begin}
 use Rattle.commands.specs.Answers.{inside_in, IsAnswer}
 use Rattle.commands.specs.Command.{intent_for}
 use Rattle.commands.specs.GcCommand.{gc_intent}
@@ -112,7 +113,7 @@ own_end line now draw old new (Err BundleFault) d u = absurd (u.bundle_works d.r
 own_end line now draw old new (Err r) d u = inr refl
 
 module _ (line : Task) (now : ℕ) (draw : Draw) (intent : Intent) (old new : Outside) (o : CommandOutcome) (s : InProcess line now draw intent old new o) (u : Undisturbed line old new) where
-  abbrev t : old.dir.observed ≡ true
+  abbrev t : old.observed ≡ true
   t = u.observed s.uses
 
   state : approach_in line ≡ directly → state_after s.begun.dir.trace ≡ state_next (state_after old.dir.trace) (event old.dir.process (Begin intent) Done)
@@ -177,7 +178,7 @@ busy_before now draw intent old new area s u =
 list_extends : (now : ℕ) (draw : Draw) (intent : Intent) (old new : Outside) (o : CommandOutcome) → InProcess ImageList now draw intent old new o → Undisturbed ImageList old new → Extends is_tame old.dir.process old.dir.trace new.dir.trace
 list_extends now draw intent old new o s u = all_parts s (u.observed refl) is_tame refl (λ r h. no_looks ImageList refl r h) lists_is_tame refl
 
-list_quiet : (now : ℕ) (draw : Draw) (intent : Intent) (old new : Outside) (o : CommandOutcome) → InProcess ImageList now draw intent old new o → Undisturbed ImageList old new → is_own_end o ≡ true → ListsImagesQuietly old.dir new.dir o
+list_quiet : (now : ℕ) (draw : Draw) (intent : Intent) (old new : Outside) (o : CommandOutcome) → InProcess ImageList now draw intent old new o → Undisturbed ImageList old new → is_own_end o ≡ true → ListsImagesQuietly old.observed old.dir new.dir o
 list_quiet now draw intent old new (Ok text) s u own =
     let read = listed_in_process s s.ran.says.0 in
     (read, prints_store old.dir new.dir (u.observed refl) (list_extends now draw intent old new (Ok text) s u) (u.alone refl) text read)
@@ -316,12 +317,12 @@ prepare_extends wants now draw intent old new o s u = all_in_process s (u.observ
 
 -- why it was refused, by the state before
 prepare_by_state : (wants : Wants) (now : ℕ) (draw : Draw) (old new : Outside) (r : Refusal) (s : InProcess (Prepare wants) now draw (prepare_intent now draw) old new (Err r)) → Undisturbed (Prepare wants) old new →
-    ((area : Area) → r ≡ Busy area → IsBusyElsewhere old.dir.process area Shared (state_after old.dir.trace)) → RefusesPod wants now draw old.dir new.dir r → RefusesByState wants draw.uuid r old.dir.process (state_after old.dir.trace)
+    ((area : Area) → r ≡ Busy area → IsBusyElsewhere old.dir.process area Shared (state_after old.dir.trace)) → RefusesPod old.observed wants now draw old.dir new.dir r → RefusesByState wants draw.uuid r old.dir.process (state_after old.dir.trace)
 prepare_by_state wants now draw old new r s u held why =
     let ext = prepare_extends wants now draw (prepare_intent now draw) old new (Err r) s u in
     let conforms = process_conforms (Prepare wants) now draw old new (Err r) (u.observed refl) (prepare_intent now draw) s in
     refuses_by_state wants now draw old.dir new.dir r (u.observed refl) (prepare_keeps draw.uuid ext (u.alone refl))
-    (taken_before draw.uuid (in_process (prepares_pod draw.uuid)) (prepare_elsewhere draw.uuid) (dir_at_moment old.dir) (dir_at_moment new.dir) ext (u.alone refl) conforms)
+    (taken_before draw.uuid (in_process (prepares_pod draw.uuid)) (prepare_elsewhere draw.uuid) old.dir new.dir ext (u.alone refl) conforms)
     (λ at. free_before (is_against Images Shared) at ext (u.alone refl)) held why
 
 -- where it was prepared, nobody else held the lock of images before, and nothing refused its references
@@ -335,12 +336,12 @@ prepare_unrefused : (wants : Wants) (now : ℕ) (draw : Draw) (old new : Outside
 prepare_unrefused wants now draw old new text s u =
     let ext = prepare_extends wants now draw (prepare_intent now draw) old new (Ok text) s u in
     let conforms = process_conforms (Prepare wants) now draw old new (Ok text) (u.observed refl) (prepare_intent now draw) s in
-    words_unrefused wants now draw (dir_at_moment old.dir) (dir_at_moment new.dir) old.dir.observed (u.observed refl) (prepare_keeps draw.uuid ext (u.alone refl))
-    (taken_before draw.uuid (in_process (prepares_pod draw.uuid)) (prepare_elsewhere draw.uuid) (dir_at_moment old.dir) (dir_at_moment new.dir) ext (u.alone refl) conforms)
+    words_unrefused wants now draw old.dir new.dir old.observed (u.observed refl) (prepare_keeps draw.uuid ext (u.alone refl))
+    (taken_before draw.uuid (in_process (prepares_pod draw.uuid)) (prepare_elsewhere draw.uuid) old.dir new.dir ext (u.alone refl) conforms)
     (prepare_free wants now draw old new text s u) (planned_in_process s (began now draw) (u.observed refl) s.ran.says.1)
 
 prepare_quiet : (wants : Wants) (now : ℕ) (draw : Draw) (old new : Outside) (o : CommandOutcome) → InProcess (Prepare wants) now draw (prepare_intent now draw) old new o → Undisturbed (Prepare wants) old new → is_own_end o ≡ true →
-    PreparesQuietly wants now draw old.dir new.dir o
+    PreparesQuietly old.observed wants now draw old.dir new.dir o
 prepare_quiet wants now draw old new (Ok text) s u own = (
   s.ran.says.0,
   prepare_free wants now draw old new text s u,
@@ -353,7 +354,7 @@ prepare_quiet wants now draw old new (Ok text) s u own = (
         (
           x.2,
           pod_stands draw.uuid ext (u.alone refl) conforming x.2,
-          chosen_of (dir_at_moment old.dir) (dir_at_moment new.dir) x.2 (prepare_keeps draw.uuid ext (u.alone refl)) unborn,
+          chosen_of old.dir new.dir x.2 (prepare_keeps draw.uuid ext (u.alone refl)) unborn,
           prepare_unrefused wants now draw old new text s u x.0 x.1,
         ),
       ),
@@ -376,7 +377,7 @@ prepare_quiet wants now draw old new (Err r) s u own =
 rm_quiet : {word : List ℕ} (pod : PodId) (now : ℕ) (draw : Draw) (old new : Outside) (o : CommandOutcome) → InProcess (Rm word pod) now draw (rm_intent word now draw) old new o → Undisturbed (Rm word pod) old new → is_own_end o ≡ true → RemovesPodQuietly pod old.dir new.dir o
 rm_quiet {word = word} pod now draw old new o s u own = by o s own
   where
-    t : old.dir.observed ≡ true
+    t : old.observed ≡ true
     t = u.observed refl
 
     quiet : Quiet old.dir.process old.dir.trace new.dir.trace
@@ -494,7 +495,7 @@ leaves_apart : (line : Task) (now : ℕ) (draw : Draw) (old new : Outside) (o : 
 leaves_apart (Status word pod) now draw old new o p = let clash : true ≡ false = p.apart in cc
 leaves_apart PodList now draw old new o p = let clash : true ≡ false = p.apart in cc
 leaves_apart (CatManifest word pod) now draw old new o p = let clash : true ≡ false = p.apart in cc
-leaves_apart (Validate path) now draw old new o p = ap (λ (d : DirSeen). state_after d.trace) p.dir
+leaves_apart (Validate path) now draw old new o p = ap (λ (d : DirAt). state_after d.trace) p.dir
 leaves_apart ImageList now draw old new o p = let clash : true ≡ false = p.apart in cc
 leaves_apart (ImageImport path) now draw old new o p = let clash : true ≡ false = p.apart in cc
 leaves_apart (ImageRm key) now draw old new o p = let clash : true ≡ false = p.apart in cc
@@ -505,7 +506,7 @@ leaves_apart (Run wants address) now draw old new o p = let clash : true ≡ fal
 leaves_apart (Rm word pod) now draw old new o p = let clash : true ≡ false = p.apart in cc
 leaves_apart (Gc grace expire) now draw old new o p = let clash : true ≡ false = p.apart in cc
 leaves_apart (Metadata address count) now draw old new o p = let clash : true ≡ false = p.apart in cc
-leaves_apart (Demo count) now draw old new o p = ap (λ (d : DirSeen). state_after d.trace) p.dir
+leaves_apart (Demo count) now draw old new o p = ap (λ (d : DirAt). state_after d.trace) p.dir
 
 abbrev IsQuiet : Task → ℕ → Draw → Moment → Moment → CommandOutcome → Type 0
 IsQuiet line now draw old new o =

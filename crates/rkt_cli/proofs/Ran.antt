@@ -7,7 +7,7 @@ use Rattle.dir_trait.specs.Effects.{OnlyAsks}
 use Rattle.command_outcomes.specs.declared.refusal.Refusal.{Refusal}
 use Rattle.command_outcomes.specs.declared.refusal.Refusal.TheVariants.{DirFault, BundleFault}
 use Rattle.command_outcomes.specs.Moments.{BundleSeen, CommandOutcome}
-use Rattle.command_outcomes.proofs.Seen.{seen_at, beside}
+use Rattle.command_outcomes.proofs.Seen.{beside}
 use Rattle.rkt_cli.specs.Tasks.{Task}
 use Rattle.rkt_cli.specs.Commands.{asks, may, CommandSays, ReadsOnly}
 use Rattle.rkt_cli.specs.Runs.{CommandRan}
@@ -24,10 +24,10 @@ module _ (l : Task) (known : Refusal → Bool) (apart : known BundleFault ≡ fa
   ends (Err r) all = own r all
 
   pub ran : (line : Task) (now : ℕ) (draw : Draw) (observed : Bool) (a b : DirAt) (bundle : BundleSeen) (o : CommandOutcome) → line ≡ l → ReadsOnly l bundle bundle → OnlyAsks observed (asks l now draw) a b →
-      (IsErrOf o DirFault → Rose a.faults b.faults) → IfErr o (λ r. known r ≡ true) → CommandSays l now draw (beside (seen_at observed a) bundle) (beside (seen_at observed b) bundle) o →
-      CommandRan line now draw (beside (seen_at observed a) bundle) (beside (seen_at observed b) bundle) o
+      (IsErrOf o DirFault → Rose a.faults b.faults) → IfErr o (λ r. known r ≡ true) → CommandSays l now draw (beside observed a bundle) (beside observed b bundle) o →
+      CommandRan line now draw (beside observed a bundle) (beside observed b bundle) o
   ran line now draw observed a b bundle o is reads worked cause all says =
-      subst (λ (x : Task). CommandRan x now draw (beside (seen_at observed a) bundle) (beside (seen_at observed b) bundle) o) (sym is) (record {
+      subst (λ (x : Task). CommandRan x now draw (beside observed a bundle) (beside observed b bundle) o) (sym is) (record {
         same = worked.same;
         local = worked.local;
         faults = worked.faults;

@@ -32,7 +32,7 @@ use Rattle.lifecycle.proofs.Draws.{conforming_left}
 use Rattle.lifecycle.specs.Executions.{IsConforming}
 
 -- what was so of the command is so of the process between its begin and its finish
-pub meanwhile : {task : Task} {now : ℕ} {draw : Draw} {intent : Intent} {old new : Outside} {o : CommandOutcome} (P : ℕ → List Event → List Event → Type 0) → approach_in task ≡ directly → (s : InProcess task now draw intent old new o) → old.dir.observed ≡ true →
+pub meanwhile : {task : Task} {now : ℕ} {draw : Draw} {intent : Intent} {old new : Outside} {o : CommandOutcome} (P : ℕ → List Event → List Event → Type 0) → approach_in task ≡ directly → (s : InProcess task now draw intent old new o) → old.observed ≡ true →
     P s.begun.dir.process s.begun.dir.trace s.ended.dir.trace → Meanwhile P old.dir.process old.dir.trace new.dir.trace
 meanwhile {task = task} P direct s t so = record {
   begun = s.begun.dir.trace;
@@ -43,7 +43,7 @@ meanwhile {task = task} P direct s t so = record {
 }
 
 -- and where the process may have looked for its pod
-pub once_found : {task : Task} {now : ℕ} {draw : Draw} {intent : Intent} {old new : Outside} {o : CommandOutcome} (P : ℕ → List Event → List Event → Type 0) (s : InProcess task now draw intent old new o) → old.dir.observed ≡ true →
+pub once_found : {task : Task} {now : ℕ} {draw : Draw} {intent : Intent} {old new : Outside} {o : CommandOutcome} (P : ℕ → List Event → List Event → Type 0) (s : InProcess task now draw intent old new o) → old.observed ≡ true →
     P s.begun.dir.process s.begun.dir.trace s.ended.dir.trace → OnceFound P old.dir.process old.dir.trace new.dir.trace
 once_found P s t so = record {
   begun = s.begun.dir.trace;
@@ -60,7 +60,7 @@ removal_printed key now draw (Some intent) old new text (inr n) = let e = n.is i
 removal_printed key now draw None old new text p = let clash : true ≡ false = p.apart in cc
 
 -- and done
-pub removal_done : (key : StoreKey) (now : ℕ) (draw : Draw) (old new : Outside) (text : List ℕ) → Performs (ImageRm key) now draw (intent_of (ImageRm key) now draw) old new (Ok text) → old.dir.observed ≡ true →
+pub removal_done : (key : StoreKey) (now : ℕ) (draw : Draw) (old new : Outside) (text : List ℕ) → Performs (ImageRm key) now draw (intent_of (ImageRm key) now draw) old new (Ok text) → old.observed ≡ true →
     HasRemoved key draw.uuid old.dir new.dir
 removal_done key now draw old new text (inl s) t =
     let intent = intent_for kind.ImageRm [] now draw in
@@ -68,7 +68,7 @@ removal_done key now draw old new text (inl s) t =
 removal_done key now draw old new text (inr n) t = let e = n.is in cc
 
 -- or why not
-pub removal_busy : (key : StoreKey) (now : ℕ) (draw : Draw) (old new : Outside) (area : Area) → Performs (ImageRm key) now draw (intent_of (ImageRm key) now draw) old new (Err (Busy area)) → old.dir.observed ≡ true →
+pub removal_busy : (key : StoreKey) (now : ℕ) (draw : Draw) (old new : Outside) (area : Area) → Performs (ImageRm key) now draw (intent_of (ImageRm key) now draw) old new (Err (Busy area)) → old.observed ≡ true →
     Meanwhile FindsBusy old.dir.process old.dir.trace new.dir.trace
 removal_busy key now draw old new area (inl s) t =
     let intent = intent_for kind.ImageRm [] now draw in
@@ -80,7 +80,7 @@ removal_unnamed key now draw (Some intent) old new named (inl s) = s.ran.says.0.
 removal_unnamed key now draw (Some intent) old new named (inr n) = let e = n.is in cc
 removal_unnamed key now draw None old new named p = let clash : true ≡ false = p.apart in cc
 
-pub removal_none : (key : StoreKey) (now : ℕ) (draw : Draw) (intent : Option Intent) (old new : Outside) (named : List ℕ) → Performs (ImageRm key) now draw intent old new (Err (NoImage named)) → old.dir.observed ≡ true →
+pub removal_none : (key : StoreKey) (now : ℕ) (draw : Draw) (intent : Option Intent) (old new : Outside) (named : List ℕ) → Performs (ImageRm key) now draw intent old new (Err (NoImage named)) → old.observed ≡ true →
     HasFoundNone key draw.uuid old.dir new.dir
 removal_none key now draw (Some intent) old new named (inl s) t = meanwhile (FoundNoImage key draw.uuid) refl s t (s.ran.says.0.found (s.told ∙ t))
 removal_none key now draw (Some intent) old new named (inr n) t = let e = n.is in cc
@@ -90,7 +90,7 @@ removal_none key now draw None old new named p t = let clash : true ≡ false = 
 never_in_part : {me : ℕ} {ended new : List Event} → Extends is_finish me ended new → NeverComes ended → NeverComes new
 never_in_part {me} {ended} {new} x never conforming = never (conforming_left ended x.more (subst IsConforming x.grown conforming))
 
-pub removal_stray : (key : StoreKey) (now : ℕ) (draw : Draw) (old new : Outside) → Performs (ImageRm key) now draw (intent_of (ImageRm key) now draw) old new (Err Stray) → old.dir.observed ≡ true →
+pub removal_stray : (key : StoreKey) (now : ℕ) (draw : Draw) (old new : Outside) → Performs (ImageRm key) now draw (intent_of (ImageRm key) now draw) old new (Err Stray) → old.observed ≡ true →
     HasMetStray key draw.uuid old.dir new.dir × NeverComes new.dir.trace
 removal_stray key now draw old new (inl s) t =
     let intent = intent_for kind.ImageRm [] now draw in (
@@ -106,7 +106,7 @@ sweep_printed now draw (Some intent) old new text (inr n) = let e = n.is in cc
 sweep_printed now draw None old new text p = let clash : true ≡ false = p.apart in cc
 
 -- and done
-pub sweep_done : (now : ℕ) (draw : Draw) (old new : Outside) (text : List ℕ) → Performs ImageGc now draw (intent_of ImageGc now draw) old new (Ok text) → old.dir.observed ≡ true → HasSwept old.dir new.dir text
+pub sweep_done : (now : ℕ) (draw : Draw) (old new : Outside) (text : List ℕ) → Performs ImageGc now draw (intent_of ImageGc now draw) old new (Ok text) → old.observed ≡ true → HasSwept old.dir new.dir text
 sweep_done now draw old new text (inl s) t =
     let intent = intent_for kind.ImageGc [] now draw in
     record {
@@ -116,7 +116,7 @@ sweep_done now draw old new text (inl s) t =
     }
 sweep_done now draw old new text (inr n) t = let e = n.is in cc
 
-pub sweep_stray : (now : ℕ) (draw : Draw) (old new : Outside) → Performs ImageGc now draw (intent_of ImageGc now draw) old new (Err Stray) → old.dir.observed ≡ true → HasMetStrayInSweep old.dir new.dir × NeverComes new.dir.trace
+pub sweep_stray : (now : ℕ) (draw : Draw) (old new : Outside) → Performs ImageGc now draw (intent_of ImageGc now draw) old new (Err Stray) → old.observed ≡ true → HasMetStrayInSweep old.dir new.dir × NeverComes new.dir.trace
 sweep_stray now draw old new (inl s) t =
     let intent = intent_for kind.ImageGc [] now draw in (
       meanwhile StrayInSweep refl s t (s.ran.says.0 (s.told ∙ t)),
@@ -125,7 +125,7 @@ sweep_stray now draw old new (inl s) t =
 sweep_stray now draw old new (inr n) t = let e = n.is in cc
 
 -- a sweep whose directory failed ended early
-pub sweep_failed : (now : ℕ) (draw : Draw) (intent : Option Intent) (old new : Outside) → Performs ImageGc now draw intent old new (Err DirFault) → old.dir.observed ≡ true → HasEndedEarly old.dir new.dir
+pub sweep_failed : (now : ℕ) (draw : Draw) (intent : Option Intent) (old new : Outside) → Performs ImageGc now draw intent old new (Err DirFault) → old.observed ≡ true → HasEndedEarly old.dir new.dir
 sweep_failed now draw (Some intent) old new (inl s) t = meanwhile EndsEarly refl s t (s.ran.says (s.told ∙ t))
 sweep_failed now draw (Some intent) old new (inr n) t = let e = n.is in cc
 sweep_failed now draw None old new p t = let clash : true ≡ false = p.apart in cc

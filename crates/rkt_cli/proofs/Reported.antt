@@ -28,7 +28,7 @@ use Rattle.command_outcomes.specs.declared.refusal.Refusal.{Refusal}
 use Rattle.command_outcomes.specs.declared.refusal.Refusal.TheVariants.{DirFault, NoManifest, NoMemory, NoPod, Stray}
 use Rattle.command_outcomes.specs.Ends.{is_own_end, IsUnchanged}
 use Rattle.command_outcomes.specs.Moments.{BundleSeen, Outside, CommandOutcome}
-use Rattle.command_outcomes.proofs.Seen.{seen_at, beside}
+use Rattle.command_outcomes.proofs.Seen.{beside}
 use Rattle.commands.specs.CatManifest.{cat_manifest_refusal, cat_manifest_report}
 use Rattle.commands.specs.PodList.{list_refusal, list_report}
 use Rattle.commands.specs.Status.{status_refusal, status_report}
@@ -75,25 +75,25 @@ status_own word pod NoMemory h = refl
 status_own word pod r h = let clash : false ≡ true = h in cc
 
 module _ (task : Task) (now : ℕ) (draw : Draw) (observed : Bool) (a b : DirAt) (bundle : BundleSeen) (o : CommandOutcome) where
-  pub list_ran : task ≡ PodList → OnlyAsksFor observed surveys a b → (IsErrOf o DirFault → Rose a.faults b.faults) → IfErr o (λ r. list_refusal r ≡ true) → ReportSays list_report (seen_at observed a) (seen_at observed b) o →
-      CommandRan task now draw (beside (seen_at observed a) bundle) (beside (seen_at observed b) bundle) o
+  pub list_ran : task ≡ PodList → OnlyAsksFor observed surveys a b → (IsErrOf o DirFault → Rose a.faults b.faults) → IfErr o (λ r. list_refusal r ≡ true) → ReportSays observed list_report a b o →
+      CommandRan task now draw (beside observed a bundle) (beside observed b bundle) o
   list_ran is only cause all says = ran PodList list_refusal refl list_own task now draw observed a b bundle o is refl (worked only) cause all says
 
   pub cat_ran : (word : List ℕ) (pod : PodId) → task ≡ CatManifest word pod → OnlyAsksFor observed (visits pod) a b → (IsErrOf o DirFault → Rose a.faults b.faults) → IfErr o (λ r. cat_manifest_refusal r ≡ true) →
-      ReportSays (cat_manifest_report pod) (seen_at observed a) (seen_at observed b) o → CommandRan task now draw (beside (seen_at observed a) bundle) (beside (seen_at observed b) bundle) o
+      ReportSays observed (cat_manifest_report pod) a b o → CommandRan task now draw (beside observed a bundle) (beside observed b bundle) o
   cat_ran word pod is only cause all says = ran (CatManifest word pod) cat_manifest_refusal refl (cat_own word pod) task now draw observed a b bundle o is refl (worked only) cause all says
 
   pub status_ran : (word : List ℕ) (pod : PodId) → task ≡ Status word pod → OnlyAsksFor observed (inspects pod) a b → (IsErrOf o DirFault → Rose a.faults b.faults) → IfErr o (λ r. status_refusal r ≡ true) →
-      ReportSays (status_report pod) (seen_at observed a) (seen_at observed b) o → CommandRan task now draw (beside (seen_at observed a) bundle) (beside (seen_at observed b) bundle) o
+      ReportSays observed (status_report pod) a b o → CommandRan task now draw (beside observed a bundle) (beside observed b bundle) o
   status_ran word pod is only cause all says = ran (Status word pod) status_refusal refl (status_own word pod) task now draw observed a b bundle o is refl (worked only) cause all says
 
 -- ---- what it told of the whole process
 
 module _ {task : Task} {now : ℕ} {draw : Draw} {intent : Intent} {old new : Outside} {o : CommandOutcome} (s : InProcess task now draw intent old new o) where
-  ended_conforming : old.dir.observed ≡ true → IsConforming new.dir.trace → IsConforming s.ended.dir.trace
+  ended_conforming : old.observed ≡ true → IsConforming new.dir.trace → IsConforming s.ended.dir.trace
   ended_conforming t conforming = let last = finish_part s t any_call refl in conforming_left s.ended.dir.trace last.more (subst IsConforming last.grown conforming)
 
-  told_in_process : (r : Report) → IsWider r → ReportSays r s.begun.dir s.ended.dir o → is_own_end o ≡ true → old.dir.observed ≡ true → IsConforming new.dir.trace → r.tells old.dir.process old.dir.trace new.dir.trace o
+  told_in_process : (r : Report) → IsWider r → ReportSays s.begun.observed r s.begun.dir s.ended.dir o → is_own_end o ≡ true → old.observed ≡ true → IsConforming new.dir.trace → r.tells old.dir.process old.dir.trace new.dir.trace o
   told_in_process r wider says own t conforming =
       let first = begin_any s t in
       let last = finish_part s t any_call refl in
@@ -102,21 +102,21 @@ module _ {task : Task} {now : ℕ} {draw : Draw} {intent : Intent} {old new : Ou
       (subst (λ (me : ℕ). r.tells me s.begun.dir.trace s.ended.dir.trace o) s.me inner)
 
 module _ (r : Report) (task : Task) (now : ℕ) (draw : Draw) (old new : Outside) (uses : uses_dir task ≡ true) where
-  pub report_told : (o : CommandOutcome) → is_own_end o ≡ true → IsWider r → ((intent : Intent) (s : InProcess task now draw intent old new o) → ReportSays r s.begun.dir s.ended.dir o) → (intent : Option Intent) → Performs task now draw intent old new o →
-      old.dir.observed ≡ true → IsConforming new.dir.trace → r.tells old.dir.process old.dir.trace new.dir.trace o
+  pub report_told : (o : CommandOutcome) → is_own_end o ≡ true → IsWider r → ((intent : Intent) (s : InProcess task now draw intent old new o) → ReportSays s.begun.observed r s.begun.dir s.ended.dir o) → (intent : Option Intent) → Performs task now draw intent old new o →
+      old.observed ≡ true → IsConforming new.dir.trace → r.tells old.dir.process old.dir.trace new.dir.trace o
   report_told o own wider says None p t conforming = let clash : true ≡ false = sym uses ∙ p.apart in cc
   report_told o own wider says (Some intent) (inl s) t conforming = told_in_process s r wider (says intent s) own t conforming
   report_told o own wider says (Some intent) (inr n) t conforming = let clash : true ≡ false = sym own ∙ ap is_own_end n.is in cc
 
   -- what it saw itself
-  pub report_seen : (o : CommandOutcome) → is_own_end o ≡ true → ((intent : Intent) (s : InProcess task now draw intent old new o) → ReportSays r s.begun.dir s.ended.dir o) → (intent : Option Intent) → Performs task now draw intent old new o →
-      old.dir.observed ≡ true → OnceFound (λ me a b. r.sees me a b o) old.dir.process old.dir.trace new.dir.trace
+  pub report_seen : (o : CommandOutcome) → is_own_end o ≡ true → ((intent : Intent) (s : InProcess task now draw intent old new o) → ReportSays s.begun.observed r s.begun.dir s.ended.dir o) → (intent : Option Intent) → Performs task now draw intent old new o →
+      old.observed ≡ true → OnceFound (λ me a b. r.sees me a b o) old.dir.process old.dir.trace new.dir.trace
   report_seen o own says None p t = let clash : true ≡ false = sym uses ∙ p.apart in cc
   report_seen o own says (Some intent) (inl s) t = once_found (λ me a b. r.sees me a b o) s t ((says intent s).seen (s.told ∙ t))
   report_seen o own says (Some intent) (inr n) t = let clash : true ≡ false = sym own ∙ ap is_own_end n.is in cc
 
   -- the text that it printed
-  pub report_printed : (text : List ℕ) → ((intent : Intent) (s : InProcess task now draw intent old new (Ok text)) → ReportSays r s.begun.dir s.ended.dir (Ok text)) → (intent : Option Intent) → Performs task now draw intent old new (Ok text) → r.prints text
+  pub report_printed : (text : List ℕ) → ((intent : Intent) (s : InProcess task now draw intent old new (Ok text)) → ReportSays s.begun.observed r s.begun.dir s.ended.dir (Ok text)) → (intent : Option Intent) → Performs task now draw intent old new (Ok text) → r.prints text
   report_printed text says None p = let clash : true ≡ false = sym uses ∙ p.apart in cc
   report_printed text says (Some intent) (inl s) = (says intent s).prints
   report_printed text says (Some intent) (inr n) = let e = n.is in cc
@@ -133,7 +133,7 @@ world_after : {me : ℕ} {a b : List Event} → Extends is_calm me a b → Quiet
 world_after {me} {a} {b} ext quiet owns = subst (λ (h : List Event). SameWorld me (state_after a) (state_after h)) (sym ext.grown) (same_world ext quiet owns ext.more [] (ext.grown ∙ sym (append-nil _)))
 
 module _ {task : Task} {now : ℕ} {draw : Draw} {intent : Intent} {old new : Outside} {o : CommandOutcome} (s : InProcess task now draw intent old new o) (u : Undisturbed task old new) where
-  abbrev t : old.dir.observed ≡ true
+  abbrev t : old.observed ≡ true
   t = u.observed s.uses
 
   abbrev me : ℕ
@@ -161,7 +161,7 @@ module _ {task : Task} {now : ℕ} {draw : Draw} {intent : Intent} {old new : Ou
   begun_owns = subst (λ (p : ℕ). OwnsNothing p (state_after s.begun.dir.trace).namespace) (sym s.me) begun_names.mine
 
   -- it comes to what the state before says
-  pub report_quiet : (r : Report) → IsStable r → ReportSays r s.begun.dir s.ended.dir o → is_own_end o ≡ true → IsConforming new.dir.trace → r.quiet (state_after old.dir.trace) o
+  pub report_quiet : (r : Report) → IsStable r → ReportSays s.begun.observed r s.begun.dir s.ended.dir o → is_own_end o ≡ true → IsConforming new.dir.trace → r.quiet (state_after old.dir.trace) o
   report_quiet r stable says own conforming =
       stable me (state_after old.dir.trace) (state_after s.begun.dir.trace) begun_world o (says.quiet own (s.told ∙ t) (ended_conforming s t conforming) begun_quiet begun_owns)
 

@@ -1,7 +1,6 @@
 -- Where nobody else steps: what a run of apps comes to, and that it leaves each folder where it was, but its pod's.
-use Rattle.std.proofs.Common.{◌≡◌, ◌⊎◌, inl, inr, ℕ, Bool, true, Some, List, [], Ok, Err, refl, sym, ap, subst, ◌∙◌}
+use Rattle.std.proofs.Common.{◌≡◌, ◌⊎◌, inl, inr, ℕ, Bool, true, Some, List, [], Ok, Err, refl, sym, subst, ◌∙◌}
 use Rattle.dir_model.specs.declared.area.Area.TheVariants as area
-use Rattle.dir_model.specs.declared.event.Event.{Event}
 use Rattle.dir_model.specs.declared.intent.Draw.{Draw}
 use Rattle.dir_model.specs.declared.intent.Intent.{Intent}
 use Rattle.dir_model.specs.declared.intent.Kind.TheVariants as kind
@@ -14,15 +13,14 @@ use Rattle.dir_model.specs.Quiet.{Quiet, OwnsNothing}
 use Rattle.dir_model.specs.Trace.{state_after}
 use Rattle.dir_model.proofs.Chains.{and_more, extends_wider, step_extends}
 use Rattle.dir_model.proofs.Lists.{or_last}
-use Rattle.dir_trait.specs.DirCalls.{DirAt}
 use Rattle.dir_trait.specs.Knowledge.{Knows}
 use Rattle.pod_locks.specs.declared.claim_error.ClaimError.{ClaimError}
 use Rattle.pod_locks.specs.Work.{Grew}
 use Rattle.command_outcomes.specs.declared.refusal.Refusal.{Refusal}
 use Rattle.command_outcomes.specs.declared.refusal.Refusal.TheVariants.{NoMemory}
 use Rattle.command_outcomes.specs.declared.told.Told.{Told}
-use Rattle.command_outcomes.specs.Conforming.{dir_at_moment, seen_at_begin as just_begun}
-use Rattle.command_outcomes.specs.Moments.{DirSeen, Inside, Answer, CommandOutcome, outcome_of, dir_seen}
+use Rattle.command_outcomes.specs.Conforming.{seen_at_begin as just_begun}
+use Rattle.command_outcomes.specs.Moments.{Inside, Answer, CommandOutcome, outcome_of}
 use Rattle.commands.specs.RunRefusals.{claim_refusal}
 use Rattle.lifecycle.specs.Executions.{IsConforming}
 use Rattle.pod_build.specs.Preparations.{Began}
@@ -71,7 +69,7 @@ of_refused : (pod : PodId) (address : List ℕ) (a b : Inside) (r : Refusal) (er
 of_refused pod address a b NoMemory error is u = tt
 of_refused pod address a b r error is u = inr (error, is, u)
 
-module _ {approach : Approach} {asks : Request → Bool} {P : Inside → Inside → Type 0} {intent : Intent} {a b : Inside} (x : WithinProcess approach asks P intent a b) (t : a.dir.observed ≡ true) where
+module _ {approach : Approach} {asks : Request → Bool} {P : Inside → Inside → Type 0} {intent : Intent} {a b : Inside} (x : WithinProcess approach asks P intent a b) (t : a.observed ≡ true) where
   abbrev me : ℕ
   me = a.dir.process
 
@@ -90,42 +88,26 @@ module _ {approach : Approach} {asks : Request → Bool} {P : Inside → Inside 
   whole_ext : Extends (in_process asks) me a.dir.trace b.dir.trace
   whole_ext = and_more (and_more (begin_ext (in_process asks) refl (λ r h. lists_in_process asks r (look_lists approach r h))) refl (extends_wider (asks_in_process asks) act_ext)) refl (finish_ext (in_process asks) (or_last (asks Finish) true refl))
 
-  -- by a directory that shows so at these two moments
-  module _ (d d' : DirAt) (begins : dir_seen x.begun.observed d ≡ x.begun) (ends : dir_seen x.ended.observed d' ≡ x.ended) where
-    pub seen : x.begun.observed ≡ true
-    seen = x.told ∙ t
+  -- between the two moments
+  pub me_is : me ≡ x.begun.process
+  me_is = sym x.me
 
-    pub me_is : me ≡ d.process
-    me_is = sym (ap (λ (z : DirSeen). z.process) begins ∙ x.me)
+  ext : Extends (in_process asks) x.begun.process a.dir.trace b.dir.trace
+  ext = subst (λ (p : ℕ). Extends (in_process asks) p a.dir.trace b.dir.trace) me_is whole_ext
 
-    from_is : x.begun.trace ≡ d.trace
-    from_is = sym (ap (λ (z : DirSeen). z.trace) begins)
+  alone : Quiet me a.dir.trace b.dir.trace → Quiet x.begun.process a.dir.trace b.dir.trace
+  alone q = subst (λ (p : ℕ). Quiet p a.dir.trace b.dir.trace) me_is q
 
-    pub to_is : x.ended.trace ≡ d'.trace
-    to_is = sym (ap (λ (z : DirSeen). z.trace) ends)
+  pub first : Grew a.dir.trace x.begun.trace
+  first = let e = begin_ext (λ r. true) refl (λ r h. refl) in record { more = e.more; grown = e.grown }
 
-    ext : Extends (in_process asks) d.process a.dir.trace b.dir.trace
-    ext = subst (λ (p : ℕ). Extends (in_process asks) p a.dir.trace b.dir.trace) me_is whole_ext
+  begin_there : Opens approach intent x.begun.process a.dir.trace x.begun.trace
+  begin_there = subst (λ (p : ℕ). Opens approach intent p a.dir.trace x.begun.trace) me_is (x.begins t)
 
-    alone : Quiet me a.dir.trace b.dir.trace → Quiet d.process a.dir.trace b.dir.trace
-    alone q = subst (λ (p : ℕ). Quiet p a.dir.trace b.dir.trace) me_is q
+  finish : CallStep x.begun.process x.ended.trace Finish Done b.dir.trace
+  finish = subst (λ (p : ℕ). CallStep p x.ended.trace Finish Done b.dir.trace) me_is finish_call
 
-    pub first : Grew a.dir.trace d.trace
-    first = let e = begin_ext (λ r. true) refl (λ r h. refl) in subst (λ (h : List Event). Grew a.dir.trace h) from_is (record { more = e.more; grown = e.grown })
-
-    begin_there : Opens approach intent d.process a.dir.trace d.trace
-    begin_there = subst (λ (h : List Event). Opens approach intent d.process a.dir.trace h) from_is (subst (λ (p : ℕ). Opens approach intent p a.dir.trace x.begun.trace) me_is (x.begins t))
-
-    stays : d'.process ≡ d.process
-    stays = ap (λ (z : DirSeen). z.process) ends ∙ (x.same ∙ (x.me ∙ me_is))
-
-    finish : CallStep d.process d'.trace Finish Done b.dir.trace
-    finish = subst (λ (h : List Event). CallStep d.process h Finish Done b.dir.trace) to_is (subst (λ (p : ℕ). CallStep p x.ended.trace Finish Done b.dir.trace) me_is finish_call)
-
-    pub knows_there : Knows d (just_begun intent)
-    knows_there = let k = subst (λ (z : DirSeen). Knows (dir_at_moment z) (just_begun intent)) (sym begins) (x.knows t) in record { tied = k.tied; handles = k.handles }
-
-module _ (word address : List ℕ) (pod : PodId) (now : ℕ) (draw : Draw) (a b : Inside) (answer : Answer) (t : a.dir.observed ≡ true) (quiet : Quiet a.dir.process a.dir.trace b.dir.trace) (idle : OwnsNothing a.dir.process (state_after a.dir.trace).namespace) where
+module _ (word address : List ℕ) (pod : PodId) (now : ℕ) (draw : Draw) (a b : Inside) (answer : Answer) (t : a.observed ≡ true) (quiet : Quiet a.dir.process a.dir.trace b.dir.trace) (idle : OwnsNothing a.dir.process (state_after a.dir.trace).namespace) where
   abbrev its_intent : Intent
   its_intent = intent_for kind.RunPrepared word now draw
 
@@ -133,70 +115,59 @@ module _ (word address : List ℕ) (pod : PodId) (now : ℕ) (draw : Draw) (a b 
   CameIn z = WithinProcess (approach_of word) (runs_prepared pod) (λ p q. RunPreparedSays pod address p q z) its_intent a b
 
   module _ {z : Answer} (x : CameIn z) where
-    abbrev from : DirAt
-    from = x.came.from
-
-    abbrev to : DirAt
-    to = x.came.to
-
-    abbrev saw : x.begun.observed ≡ true
-    saw = seen x t from to x.came.begins x.came.ends
-
-    abbrev its_own : a.dir.process ≡ from.process
-    its_own = me_is x t from to x.came.begins x.came.ends
+    abbrev its_own : a.dir.process ≡ x.begun.process
+    its_own = me_is x t
 
     abbrev Ran : Type 0
-    Ran = ClaimsAndRuns x.begun.observed a.spawner.observed pod address from to a.spawner.shown b.spawner.shown z
+    Ran = ClaimsAndRuns a.observed a.spawner.observed pod address x.begun x.ended a.spawner.shown b.spawner.shown z
 
-    has_passed : Ran → HasPassed pod from.process a.dir.trace b.dir.trace
+    has_passed : Ran → HasPassed pod x.begun.process a.dir.trace b.dir.trace
     has_passed c =
-        run_prepared_passed x.begun.observed a.spawner.observed pod address from to a.spawner.shown b.spawner.shown z saw a.dir.trace b.dir.trace (ext x t from to x.came.begins x.came.ends) (alone x t from to x.came.begins x.came.ends quiet)
-        (first x t from to x.came.begins x.came.ends) (finish x t from to x.came.begins x.came.ends) c (c.then saw)
+        run_prepared_passed a.observed a.spawner.observed pod address x.begun x.ended a.spawner.shown b.spawner.shown z t a.dir.trace b.dir.trace (ext x t) (alone x t quiet)
+        (first x t) (finish x t) c (c.then t)
 
-    refused_claim : RefusedClaim pod from.process a.dir.trace from.trace to.trace b.dir.trace
+    refused_claim : RefusedClaim pod x.begun.process a.dir.trace x.begun.trace x.ended.trace b.dir.trace
     refused_claim =
-        subst (λ (k : List Event). RefusedClaim pod from.process a.dir.trace from.trace k b.dir.trace) (to_is x t from to x.came.begins x.came.ends)
-        (subst (λ (h : List Event). RefusedClaim pod from.process a.dir.trace h x.ended.trace b.dir.trace) (from_is x t from to x.came.begins x.came.ends)
-        (subst (λ (p : ℕ). RefusedClaim pod p a.dir.trace x.begun.trace x.ended.trace b.dir.trace) its_own
-        (record { begins = open_extends (x.begins t); works = act_ext x t; finishes = finish_ext x t is_finish refl; whole = whole_ext x t; quiet = quiet })))
+        subst (λ (p : ℕ). RefusedClaim pod p a.dir.trace x.begun.trace x.ended.trace b.dir.trace) its_own
+        (record { begins = open_extends (x.begins t); works = act_ext x t; finishes = finish_ext x t is_finish refl; whole = whole_ext x t; quiet = quiet })
 
-    unclaimed : (c : IsUnclaimed x.begun.observed pod from to a.spawner.shown b.spawner.shown z) → PassesQuietly pod address a b (outcome_of z)
+    unclaimed : (c : IsUnclaimed a.observed pod x.begun x.ended a.spawner.shown b.spawner.shown z) → PassesQuietly pod address a b (outcome_of z)
     unclaimed c =
-        let u = run_prepared_unclaimed x.begun.observed a.spawner.observed pod address from to a.spawner.shown b.spawner.shown z saw a.dir.trace b.dir.trace refused_claim
+        let u = run_prepared_unclaimed a.observed a.spawner.observed pod address x.begun x.ended a.spawner.shown b.spawner.shown z t a.dir.trace b.dir.trace refused_claim
         (subst (λ (p : ℕ). OwnsNothing p (state_after a.dir.trace).namespace) its_own idle)
-        (just_begun its_intent, knows_there x t from to x.came.begins x.came.ends, may_begin its_intent refl) c in
+        (just_begun its_intent, x.knows t, may_begin its_intent refl) c in
         subst (λ (w : Answer). PassesQuietly pod address a b (outcome_of w)) (sym c.is)
         (of_refused pod address a b (claim_refusal pod c.error) c.error refl (subst (λ (p : ℕ). UnclaimedFor pod c.error p a.dir.trace b.dir.trace) (sym its_own) u))
 
   passed_told : (told : Told) (x : CameIn (Ok told)) → Ran x → PassesQuietly pod address a b (Ok told.text)
   passed_told told x c =
       let h = has_passed x c in
-      let r = run_prepared_ends x.begun.observed a.spawner b.spawner (from x) (to x) (saw x) a.dir.trace b.dir.trace (alone x t (from x) (to x) x.came.begins x.came.ends quiet)
-      (approach_of word) its_intent (begin_there x t (from x) (to x) x.came.begins x.came.ends) (stays x t (from x) (to x) x.came.begins x.came.ends) (first x t (from x) (to x) x.came.begins x.came.ends) (finish x t (from x) (to x) x.came.begins x.came.ends)
-      pod address (ext x t (from x) (to x) x.came.begins x.came.ends) h told c in
+      let r = run_prepared_ends a.observed a.spawner b.spawner x.begun x.ended t a.dir.trace b.dir.trace (alone x t quiet)
+      (approach_of word) its_intent (begin_there x t) x.same (first x t) (finish x t)
+      pod address (ext x t) h told c in
       subst (ToldEnds pod address a b told.text) (sym (its_own x)) (h, r.0, r.1)
 
   passed_stopped : (r : Refusal) (x : CameIn (Err r)) → Ran x → PassesQuietly pod address a b (Err r)
   passed_stopped r x c = of_stopped pod address a b r (by (claimed_refusal a.spawner b.spawner r c))
     where
-      by : (r ≡ NoMemory) ⊎ WasStopped x.begun.observed pod address r c.claimed (to x) a.spawner b.spawner → (r ≡ NoMemory) ⊎ ToldWhy pod address a b r a.dir.process
+      by : (r ≡ NoMemory) ⊎ WasStopped a.observed pod address r c.claimed x.ended a.spawner b.spawner → (r ≡ NoMemory) ⊎ ToldWhy pod address a b r a.dir.process
       by (inl is) = inl is
       by (inr w) =
           let h = has_passed x c in
-          let why = run_prepared_stopped x.begun.observed a.spawner b.spawner (from x) (to x) (saw x) a.dir.trace b.dir.trace (alone x t (from x) (to x) x.came.begins x.came.ends quiet)
-          (approach_of word) its_intent (begin_there x t (from x) (to x) x.came.begins x.came.ends) (stays x t (from x) (to x) x.came.begins x.came.ends) (first x t (from x) (to x) x.came.begins x.came.ends) (finish x t (from x) (to x) x.came.begins x.came.ends)
-          pod address (ext x t (from x) (to x) x.came.begins x.came.ends) h c r w in
+          let why = run_prepared_stopped a.observed a.spawner b.spawner x.begun x.ended t a.dir.trace b.dir.trace (alone x t quiet)
+          (approach_of word) its_intent (begin_there x t) x.same (first x t) (finish x t)
+          pod address (ext x t) h c r w in
           inr (subst (ToldWhy pod address a b r) (sym (its_own x)) (h, why))
 
   passed_in : (z : Answer) → CameIn z → PassesQuietly pod address a b (outcome_of z)
-  passed_in (Ok told) x = by x.came.so
+  passed_in (Ok told) x = by x.came
     where
-      by : Ran x ⊎ IsUnclaimed x.begun.observed pod (from x) (to x) a.spawner.shown b.spawner.shown (Ok told) → PassesQuietly pod address a b (Ok told.text)
+      by : Ran x ⊎ IsUnclaimed a.observed pod x.begun x.ended a.spawner.shown b.spawner.shown (Ok told) → PassesQuietly pod address a b (Ok told.text)
       by (inl c) = passed_told told x c
       by (inr c) = unclaimed x c
-  passed_in (Err r) x = by x.came.so
+  passed_in (Err r) x = by x.came
     where
-      by : Ran x ⊎ IsUnclaimed x.begun.observed pod (from x) (to x) a.spawner.shown b.spawner.shown (Err r) → PassesQuietly pod address a b (Err r)
+      by : Ran x ⊎ IsUnclaimed a.observed pod x.begun x.ended a.spawner.shown b.spawner.shown (Err r) → PassesQuietly pod address a b (Err r)
       by (inl c) = passed_stopped r x c
       by (inr c) = unclaimed x c
 
@@ -208,7 +179,7 @@ module _ (word address : List ℕ) (pod : PodId) (now : ℕ) (draw : Draw) (a b 
 ok_not_err : {X : Type 0} (told : Told) (r : Refusal) → ◌≡◌ {A = Answer} (Ok told) (Err r) → X
 ok_not_err told r is = cc
 
-module _ (address : List ℕ) (wants : Wants) (now : ℕ) (draw : Draw) (a b : Inside) (t : a.dir.observed ≡ true) (quiet : Quiet a.dir.process a.dir.trace b.dir.trace) where
+module _ (address : List ℕ) (wants : Wants) (now : ℕ) (draw : Draw) (a b : Inside) (t : a.observed ≡ true) (quiet : Quiet a.dir.process a.dir.trace b.dir.trace) where
   abbrev new_intent : Intent
   new_intent = intent_for kind.Run [] now draw
 
@@ -217,35 +188,26 @@ module _ (address : List ℕ) (wants : Wants) (now : ℕ) (draw : Draw) (a b : I
 
   -- the pod of a run, whatever came of it
   module _ {answer : Answer} (x : MadeIn answer) where
-    abbrev d : DirAt
-    d = x.came.from
-
-    abbrev d' : DirAt
-    d' = x.came.to
-
-    abbrev sees : x.begun.observed ≡ true
-    sees = seen x t d d' x.came.begins x.came.ends
-
-    abbrev mine : a.dir.process ≡ d.process
-    mine = me_is x t d d' x.came.begins x.came.ends
+    abbrev mine : a.dir.process ≡ x.begun.process
+    mine = me_is x t
 
     began : Began area.Run draw now new_intent
     began = record { leads = refl; drawn = refl; token = refl; moment = refl }
 
-    knows : Knows d (seen_making new_intent [] nothing_made)
-    knows = let k = knows_there x t d d' x.came.begins x.came.ends in record { tied = k.tied; handles = k.handles }
+    knows : Knows x.begun (seen_making new_intent [] nothing_made)
+    knows = let k = x.knows t in record { tied = k.tied; handles = k.handles }
 
-    made_until : (m : MakesAndRuns x.begun.observed a.spawner.observed wants address now draw d d' a.spawner.shown b.spawner.shown answer) → IsConforming b.dir.trace → MadeUntil wants d.process draw.uuid a.dir.trace m.made.trace b.dir.trace
+    made_until : (m : MakesAndRuns a.observed a.spawner.observed wants address now draw x.begun x.ended a.spawner.shown b.spawner.shown answer) → IsConforming b.dir.trace → MadeUntil wants x.begun.process draw.uuid a.dir.trace m.made.trace b.dir.trace
     made_until m conforming =
-        run_made_left x.begun.observed a.spawner.observed wants address now draw d d' a.spawner.shown b.spawner.shown answer sees a.dir.trace b.dir.trace (ext x t d d' x.came.begins x.came.ends) (alone x t d d' x.came.begins x.came.ends quiet)
-        (first x t d d' x.came.begins x.came.ends) (finish x t d d' x.came.begins x.came.ends)
-        (unborn_before new_intent (begin_there x t d d' x.came.begins x.came.ends).begins) new_intent began knows m (m.then sees) conforming
+        run_made_left a.observed a.spawner.observed wants address now draw x.begun x.ended a.spawner.shown b.spawner.shown answer t a.dir.trace b.dir.trace (ext x t) (alone x t quiet)
+        (first x t) (finish x t)
+        (unborn_before new_intent (begin_there x t).begins) new_intent began knows m (m.then t) conforming
 
-    begins : Extends is_begin a.dir.process a.dir.trace d.trace
-    begins = subst (λ (h : List Event). Extends is_begin a.dir.process a.dir.trace h) (from_is x t d d' x.came.begins x.came.ends) (begin_ext x t is_begin refl (λ r h. cc))
+    begins : Extends is_begin a.dir.process a.dir.trace x.begun.trace
+    begins = begin_ext x t is_begin refl (λ r h. cc)
 
-    ends : Extends is_finish a.dir.process d'.trace b.dir.trace
-    ends = subst (λ (h : List Event). Extends is_finish a.dir.process h b.dir.trace) (to_is x t d d' x.came.begins x.came.ends) (finish_ext x t is_finish refl)
+    ends : Extends is_finish a.dir.process x.ended.trace b.dir.trace
+    ends = finish_ext x t is_finish refl
 
   abbrev MadeEnds : List ℕ → ℕ → Type 0
   MadeEnds text p =
@@ -255,21 +217,21 @@ module _ (address : List ℕ) (wants : Wants) (now : ℕ) (draw : Draw) (a b : I
   MadeWhy r p = IsRefusedFor draw.uuid r b.dir.trace (λ error. (x : HasMadeAndLeft wants p draw.uuid a.dir.trace b.dir.trace) × StoppedFor draw.uuid address (entries_made x.2.0) error a.spawner b.spawner)
 
   made_in : (told : Told) → MadeIn (Ok told) → LeavesMade wants address now draw a b (Ok told.text)
-  made_in told x = by x.came.so
+  made_in told x = by x.came
     where
-      by : NewRunSays x.begun.observed a.spawner.observed wants address now draw (d x) (d' x) a.spawner.shown b.spawner.shown (Ok told) → LeavesMade wants address now draw a b (Ok told.text)
+      by : NewRunSays a.observed a.spawner.observed wants address now draw x.begun x.ended a.spawner.shown b.spawner.shown (Ok told) → LeavesMade wants address now draw a b (Ok told.text)
       by (inl m) conforming =
           let h = made_until x m conforming in
-          let r = run_ends x.begun.observed a.spawner b.spawner (d x) (d' x) (sees x) a.dir.trace b.dir.trace (alone x t (d x) (d' x) x.came.begins x.came.ends quiet)
-          directly new_intent (begin_there x t (d x) (d' x) x.came.begins x.came.ends) (stays x t (d x) (d' x) x.came.begins x.came.ends) (first x t (d x) (d' x) x.came.begins x.came.ends) (finish x t (d x) (d' x) x.came.begins x.came.ends)
-          wants address now draw (ext x t (d x) (d' x) x.came.begins x.came.ends) told m h conforming in
+          let r = run_ends a.observed a.spawner b.spawner x.begun x.ended t a.dir.trace b.dir.trace (alone x t quiet)
+          directly new_intent (begin_there x t) x.same (first x t) (finish x t)
+          wants address now draw (ext x t) told m h conforming in
           subst (MadeEnds told.text) (sym (mine x)) (h.0, r.0, r.1)
       by (inr (inl u)) conforming = ok_not_err told u.is.0 u.is.1
       by (inr (inr u)) conforming = ok_not_err told NoMemory u.is
 
   -- why it was refused
   abbrev IsWhy : Refusal → Type 0
-  IsWhy r = MadeWhy r a.dir.process ⊎ IsUnmadeFor wants now draw a.dir b.dir r
+  IsWhy r = MadeWhy r a.dir.process ⊎ IsUnmadeFor a.observed wants now draw a.dir b.dir r
 
   of_why : (r : Refusal) → (r ≡ NoMemory) ⊎ IsWhy r → LeavesMade wants address now draw a b (Err r)
   of_why NoMemory why = tt
@@ -277,19 +239,19 @@ module _ (address : List ℕ) (wants : Wants) (now : ℕ) (draw : Draw) (a b : I
   of_why r (inr why) = why
 
   refused_in : (r : Refusal) → MadeIn (Err r) → (r ≡ NoMemory) ⊎ IsWhy r
-  refused_in r x = by x.came.so
+  refused_in r x = by x.came
     where
-      ran : (m : MakesAndRuns x.begun.observed a.spawner.observed wants address now draw (d x) (d' x) a.spawner.shown b.spawner.shown (Err r)) → (r ≡ NoMemory) ⊎ WasStopped x.begun.observed draw.uuid address r m.made (d' x) a.spawner b.spawner → (r ≡ NoMemory) ⊎ IsWhy r
+      ran : (m : MakesAndRuns a.observed a.spawner.observed wants address now draw x.begun x.ended a.spawner.shown b.spawner.shown (Err r)) → (r ≡ NoMemory) ⊎ WasStopped a.observed draw.uuid address r m.made x.ended a.spawner b.spawner → (r ≡ NoMemory) ⊎ IsWhy r
       ran m (inl is) = inl is
       ran m (inr w) =
           inr (inl (subst (MadeWhy r) (sym (mine x))
-          (run_stopped x.begun.observed a.spawner b.spawner (d x) (d' x) (sees x) a.dir.trace b.dir.trace (alone x t (d x) (d' x) x.came.begins x.came.ends quiet)
-          directly new_intent (begin_there x t (d x) (d' x) x.came.begins x.came.ends) (stays x t (d x) (d' x) x.came.begins x.came.ends) (first x t (d x) (d' x) x.came.begins x.came.ends) (finish x t (d x) (d' x) x.came.begins x.came.ends)
-          wants address now draw (ext x t (d x) (d' x) x.came.begins x.came.ends) m r (made_until x m) w)))
+          (run_stopped a.observed a.spawner b.spawner x.begun x.ended t a.dir.trace b.dir.trace (alone x t quiet)
+          directly new_intent (begin_there x t) x.same (first x t) (finish x t)
+          wants address now draw (ext x t) m r (made_until x m) w)))
 
-      by : NewRunSays x.begun.observed a.spawner.observed wants address now draw (d x) (d' x) a.spawner.shown b.spawner.shown (Err r) → (r ≡ NoMemory) ⊎ IsWhy r
+      by : NewRunSays a.observed a.spawner.observed wants address now draw x.begun x.ended a.spawner.shown b.spawner.shown (Err r) → (r ≡ NoMemory) ⊎ IsWhy r
       by (inl m) = ran m (made_refusal a.spawner b.spawner r m)
-      by (inr (inl u)) = elim (unmade_refusal a.dir b.dir x.told (sees x) (sym (mine x)) (stays x t (d x) (d' x) x.came.begins x.came.ends) (whole_ext x t) quiet (begins x) (ends x) new_intent (began x) (knows x) r u) [ inl is ↦ inl is | inr why ↦ inr (inr why) ]
+      by (inr (inl u)) = elim (unmade_refusal a.dir b.dir t (sym (mine x)) x.same (whole_ext x t) quiet (begins x) (ends x) new_intent (began x) (knows x) r u) [ inl is ↦ inl is | inr why ↦ inr (inr why) ]
       by (inr (inr u)) = inl (same_refusal r NoMemory u.is)
 
   pub made : (answer : Answer) → AppsToldBetween (Run wants address) now draw (Some new_intent) a b answer → LeavesMade wants address now draw a b (outcome_of answer)
@@ -305,7 +267,7 @@ RunsQuietly (Run wants address) now draw a b o = LeavesMade wants address now dr
 RunsQuietly line now draw a b o = Unit {0}
 
 -- of each command
-pub runs_quietly : (line : Task) (now : ℕ) (draw : Draw) (a b : Inside) (answer : Answer) → (runs_apps line ≡ true → a.dir.observed ≡ true) → (runs_apps line ≡ true → Quiet a.dir.process a.dir.trace b.dir.trace) →
+pub runs_quietly : (line : Task) (now : ℕ) (draw : Draw) (a b : Inside) (answer : Answer) → (runs_apps line ≡ true → a.observed ≡ true) → (runs_apps line ≡ true → Quiet a.dir.process a.dir.trace b.dir.trace) →
     (runs_apps line ≡ true → OwnsNothing a.dir.process (state_after a.dir.trace).namespace) → AppsToldBetween line now draw (intent_of line now draw) a b answer → RunsQuietly line now draw a b (outcome_of answer)
 runs_quietly (RunPrepared word pod address) now draw a b answer t quiet idle came = passes word address pod now draw a b answer (t refl) (quiet refl) (idle refl) came
 runs_quietly (Run wants address) now draw a b answer t quiet idle came = made address wants now draw a b (t refl) (quiet refl) answer came

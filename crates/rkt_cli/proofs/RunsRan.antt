@@ -20,7 +20,7 @@ use Rattle.command_outcomes.specs.declared.refusal.Refusal.{Refusal}
 use Rattle.command_outcomes.specs.declared.refusal.Refusal.TheVariants.{DirFault, NoMemory}
 use Rattle.command_outcomes.specs.declared.told.Told.{Told}
 use Rattle.command_outcomes.specs.Conforming.{seen_at_begin}
-use Rattle.command_outcomes.specs.Moments.{BundleSeen, Answer, outcome_of, dir_seen}
+use Rattle.command_outcomes.specs.Moments.{BundleSeen, Answer, outcome_of}
 use Rattle.command_outcomes.proofs.Seen.{beside}
 use Rattle.commands.specs.RunRefusals.{run_prepared_refusal, new_run_refusal}
 use Rattle.commands.specs.RunPrepared.{runs_prepared, CanClaim}
@@ -78,7 +78,7 @@ fault_of (Err r) is = let same : r ≡ DirFault = cc in subst (λ (x : Refusal).
 
 module _ (line : Task) (now : ℕ) (draw : Draw) (observed : Bool) (a b : DirAt) (bundle : BundleSeen) (answer : Answer) where
   abbrev Ran : Task → Type 0
-  Ran l = CommandRan l now draw (beside (dir_seen observed a) bundle) (beside (dir_seen observed b) bundle) (outcome_of answer)
+  Ran l = CommandRan l now draw (beside observed a bundle) (beside observed b bundle) (outcome_of answer)
 
   pub prepared_ran : {word : List ℕ} {address : List ℕ} (pod : PodId) → line ≡ RunPrepared word pod address → OnlyAsks observed (runs_prepared pod) a b → (IsErrOf answer DirFault → Rose a.faults b.faults) → IfErr answer (λ r. run_prepared_refusal r ≡ true) → Ran line
   prepared_ran {word = word} {address = address} pod is worked cause known =

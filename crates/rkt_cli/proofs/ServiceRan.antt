@@ -10,7 +10,7 @@ use Rattle.command_outcomes.specs.declared.refusal.Refusal.{Refusal}
 use Rattle.command_outcomes.specs.declared.refusal.Refusal.TheVariants.{DirFault, LinkFault, NoMemory, SpawnFault}
 use Rattle.command_outcomes.specs.Ends.{is_own_end}
 use Rattle.command_outcomes.specs.Moments.{Answer, BundleSeen, Outside, CommandOutcome, outcome_of}
-use Rattle.command_outcomes.proofs.Seen.{seen_at, beside}
+use Rattle.command_outcomes.proofs.Seen.{beside}
 use Rattle.commands.specs.MetadataService.{service_refusals, PrintsNothing}
 use Rattle.rkt_cli.specs.Tasks.{Task, Metadata}
 use Rattle.rkt_cli.specs.Commands.{may}
@@ -28,9 +28,9 @@ service_own address count r h = let clash : false ≡ true = h in cc
 -- between its begin and its finish
 pub service_ran : (task : Task) (now : ℕ) (draw : Draw) (observed : Bool) (a b : DirAt) (bundle : BundleSeen) (o told : CommandOutcome) (address : List ℕ) (count : ℕ) → task ≡ Metadata address count → told ≡ o →
     OnlyAsksFor observed looks_in_run a b → (IsErrOf o DirFault → Rose a.faults b.faults) → IfErr o (λ r. service_refusals r ≡ true) → PrintsNothing o →
-    CommandRan task now draw (beside (seen_at observed a) bundle) (beside (seen_at observed b) bundle) told
+    CommandRan task now draw (beside observed a bundle) (beside observed b bundle) told
 service_ran task now draw observed a b bundle o told address count is same only cause all silent =
-    subst (λ (x : CommandOutcome). CommandRan task now draw (beside (seen_at observed a) bundle) (beside (seen_at observed b) bundle) x) (sym same)
+    subst (λ (x : CommandOutcome). CommandRan task now draw (beside observed a bundle) (beside observed b bundle) x) (sym same)
     (ran (Metadata address count) service_refusals refl (service_own address count) task now draw observed a b bundle o is refl (worked only) cause all silent)
 
 -- an answer that is a refusal is its outcome's

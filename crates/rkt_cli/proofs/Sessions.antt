@@ -74,7 +74,7 @@ any_call r = true
 pub no_looks : (task : Task) {X : Type 0} → approach_in task ≡ directly → (r : Request) → looks task r ≡ true → X
 no_looks task direct r h = let clash : true ≡ false = sym h ∙ ap (λ (a : Approach). looks_by a r) direct in cc
 
-module _ {task : Task} {now : ℕ} {draw : Draw} {intent : Intent} {old new : Outside} {o : CommandOutcome} (s : InProcess task now draw intent old new o) (t : old.dir.observed ≡ true) where
+module _ {task : Task} {now : ℕ} {draw : Draw} {intent : Intent} {old new : Outside} {o : CommandOutcome} (s : InProcess task now draw intent old new o) (t : old.observed ≡ true) where
   pub begin_part : (asked : Request → Bool) → asked (Begin intent) ≡ true → ((r : Request) → looks task r ≡ true → asked r ≡ true) → Extends asked old.dir.process old.dir.trace s.begun.dir.trace
   begin_part asked is wider = opening_extends is wider (s.begins t)
 

@@ -18,7 +18,7 @@ use Rattle.command_outcomes.specs.declared.refusal.Refusal.{Refusal}
 use Rattle.command_outcomes.specs.declared.refusal.Refusal.TheVariants.{DirFault, BundleFault, NoMemory}
 use Rattle.command_outcomes.specs.Moments.{BundleSeen, CommandOutcome}
 use Rattle.command_outcomes.specs.Conforming.{seen_at_begin, StaysConforming}
-use Rattle.command_outcomes.proofs.Seen.{seen_at, beside}
+use Rattle.command_outcomes.proofs.Seen.{beside}
 use Rattle.commands.specs.Kept.{KeepsRefused}
 use Rattle.commands.specs.ImageImport.{image_import_refusal, ImageImportSays}
 use Rattle.commands.specs.ImageRm.{image_rm_refusal, ImageRmSays}
@@ -47,12 +47,12 @@ import_end path (Err r) known = import_may path r known
 
 pub import_ran : (line : Task) (now : ℕ) (draw : Draw) (path : List ℕ) (observed : Bool) (a b : DirAt) (before after : BundleSeen) (o : CommandOutcome) → line ≡ ImageImport path →
     OnlyAsks observed (imports_at (building_spot draw.uuid)) a b → (IsErrOf o DirFault → Rose a.faults b.faults) → before.faults ≤ after.faults → (IsErrOf o BundleFault → Rose before.faults after.faults) →
-    IfErr o (λ r. image_import_refusal r ≡ true) → ImageImportSays path now draw.uuid (beside (seen_at observed a) before) (beside (seen_at observed b) after) o →
-    CommandRan line now draw (beside (seen_at observed a) before) (beside (seen_at observed b) after) o
+    IfErr o (λ r. image_import_refusal r ≡ true) → ImageImportSays path now draw.uuid (beside observed a before) (beside observed b after) o →
+    CommandRan line now draw (beside observed a before) (beside observed b after) o
 import_ran line now draw path observed a b before after o is worked cause faults bundle_cause known says =
-    subst (λ (l : Task). CommandRan l now draw (beside (seen_at observed a) before) (beside (seen_at observed b) after) o) (sym is) whole
+    subst (λ (l : Task). CommandRan l now draw (beside observed a before) (beside observed b after) o) (sym is) whole
   where
-    whole : CommandRan (ImageImport path) now draw (beside (seen_at observed a) before) (beside (seen_at observed b) after) o
+    whole : CommandRan (ImageImport path) now draw (beside observed a before) (beside observed b after) o
     whole = record {
       same = worked.same;
       local = worked.local;
@@ -71,21 +71,21 @@ removes : (key : StoreKey) (now : ℕ) (draw : Draw) (intent : Intent) → inten
 removes key now draw intent is = subst (λ (i : Intent). (is_image_rm i.kind ≡ true) × (i.draw ≡ draw.uuid)) (let e : intent_for kind.ImageRm [] now draw ≡ intent = cc in e) (refl, refl)
 
 pub removal_conforming : (key : StoreKey) (now : ℕ) (draw : Draw) (intent : Intent) (observed : Bool) (a b : DirAt) → intent_of (ImageRm key) now draw ≡ Some intent →
-    Stays (MayRemoveImage draw.uuid) work.KeepsStandingAndRules a b → StaysConforming intent (seen_at observed a) (seen_at observed b)
+    Stays (MayRemoveImage draw.uuid) work.KeepsStandingAndRules a b → StaysConforming intent a b
 removal_conforming key now draw intent observed a b is stays k =
     let began = removes key now draw intent is in
-    let s = stays (seen_at_begin intent) (record { tied = k.tied; handles = k.handles }) (begun_removes intent draw.uuid began.0 began.1) in
-    record { known = s.known; knows = record { tied = s.knows.tied; handles = s.knows.handles }; kept = s.kept }
+    let s = stays (seen_at_begin intent) k (begun_removes intent draw.uuid began.0 began.1) in
+    record { known = s.known; knows = s.knows; kept = s.kept }
 
 -- and so does one that sweeps
 sweeping : (now : ℕ) (draw : Draw) (intent : Intent) → intent_of ImageGc now draw ≡ Some intent → is_image_remover intent.kind ≡ true
 sweeping now draw intent is = subst (λ (i : Intent). is_image_remover i.kind ≡ true) (let e : intent_for kind.ImageGc [] now draw ≡ intent = cc in e) refl
 
 pub sweep_conforming : (now : ℕ) (draw : Draw) (intent : Intent) (observed : Bool) (a b : DirAt) → intent_of ImageGc now draw ≡ Some intent →
-    Stays MaySweepStore work.KeepsStandingAndRules a b → StaysConforming intent (seen_at observed a) (seen_at observed b)
+    Stays MaySweepStore work.KeepsStandingAndRules a b → StaysConforming intent a b
 sweep_conforming now draw intent observed a b is stays k =
-    let s = stays (seen_at_begin intent) (record { tied = k.tied; handles = k.handles }) (begun_sweeps intent (sweeping now draw intent is)) in
-    record { known = s.known; knows = record { tied = s.knows.tied; handles = s.knows.handles }; kept = s.kept }
+    let s = stays (seen_at_begin intent) k (begun_sweeps intent (sweeping now draw intent is)) in
+    record { known = s.known; knows = s.knows; kept = s.kept }
 
 -- what each of the two owes
 removal_may : (key : StoreKey) (r : Refusal) → image_rm_refusal r ≡ true → may (ImageRm key) r ≡ true
@@ -99,11 +99,11 @@ sweep_may DirFault known = known
 sweep_may r known = known
 
 pub removal_ran : (line : Task) (now : ℕ) (draw : Draw) (key : StoreKey) (observed : Bool) (a b : DirAt) (bundle : BundleSeen) (o : CommandOutcome) → line ≡ ImageRm key → OnlyAsks observed (removes_at key draw.uuid) a b →
-    (IsErrOf o DirFault → Rose a.faults b.faults) → IfErr o (λ r. image_rm_refusal r ≡ true) → ImageRmSays key draw.uuid (seen_at observed a) (seen_at observed b) o → KeepsRefused (seen_at observed a) (seen_at observed b) o →
-    CommandRan line now draw (beside (seen_at observed a) bundle) (beside (seen_at observed b) bundle) o
+    (IsErrOf o DirFault → Rose a.faults b.faults) → IfErr o (λ r. image_rm_refusal r ≡ true) → ImageRmSays observed key draw.uuid a b o → KeepsRefused observed a b o →
+    CommandRan line now draw (beside observed a bundle) (beside observed b bundle) o
 removal_ran line now draw key observed a b bundle o is worked cause known says kept = ran (ImageRm key) image_rm_refusal refl (removal_may key) line now draw observed a b bundle o is refl worked cause known (says, kept)
 
 pub sweep_ran : (line : Task) (now : ℕ) (draw : Draw) (observed : Bool) (a b : DirAt) (bundle : BundleSeen) (o : CommandOutcome) → line ≡ ImageGc → OnlyAsks observed sweeps_store a b →
-    (IsErrOf o DirFault → Rose a.faults b.faults) → IfErr o (λ r. image_gc_refusal r ≡ true) → ImageGcSays (seen_at observed a) (seen_at observed b) o →
-    CommandRan line now draw (beside (seen_at observed a) bundle) (beside (seen_at observed b) bundle) o
+    (IsErrOf o DirFault → Rose a.faults b.faults) → IfErr o (λ r. image_gc_refusal r ≡ true) → ImageGcSays observed a b o →
+    CommandRan line now draw (beside observed a bundle) (beside observed b bundle) o
 sweep_ran line now draw observed a b bundle o is worked cause known says = ran ImageGc image_gc_refusal refl sweep_may line now draw observed a b bundle o is refl worked cause known says

@@ -1,5 +1,5 @@
 -- Where every process keeps the local rules, status 20 comes of a started app that wrote on, and of two commands alone.
-use Rattle.std.proofs.Common.{arith, ◌≡◌, ◌⊎◌, inl, inr, ℕ, Bool, true, Option, Some, None, Err, List, [], refl, sym, ap, subst, ◌∙◌}
+use Rattle.std.proofs.Common.{arith, ◌≡◌, ◌⊎◌, inl, inr, ℕ, Bool, true, Option, Some, None, Err, List, [], refl, sym, subst, ◌∙◌}
 use Rattle.dir_model.specs.declared.event.Event.{Event}
 use Rattle.dir_model.specs.declared.intent.Draw.{Draw}
 use Rattle.dir_model.specs.declared.intent.Intent.{Intent}
@@ -32,7 +32,7 @@ use Rattle.pod_locks.proofs.ClaimLawful as claims
 use Rattle.command_outcomes.specs.declared.refusal.Refusal.{Refusal}
 use Rattle.command_outcomes.specs.declared.refusal.Refusal.TheVariants.{Usage, NoPod, Ambiguous, WrongPhase, Busy, PodBusy, BadManifest, NoImage, NoDependency, Cycle, Limit, DirFault, BundleFault, SpawnFault, OutFault, LinkFault, NoMemory, NoFile, Conflict, Damaged, BadKind, Taken, NoManifest, NoProgram, Stray}
 use Rattle.command_outcomes.specs.Meanwhile.{Meanwhile}
-use Rattle.command_outcomes.specs.Moments.{DirSeen, Inside, Moment}
+use Rattle.command_outcomes.specs.Moments.{Inside, Moment}
 use Rattle.commands.specs.Answers.{inside_in}
 use Rattle.command_outcomes.specs.Texts.{exit_status_of}
 use Rattle.commands.specs.AppRuns.{RunSays}
@@ -104,7 +104,7 @@ run_says_stray seen observed owned address front d d' s s' (inl x) t conforming 
 run_says_stray seen observed owned address front d d' s s' (inr x) t conforming = let e : Stray ≡ NoMemory = same_refusal Stray NoMemory x.is in cc
 
 -- task by task
-module _ (now : ℕ) (draw : Draw) (status : ℕ) (old new : Moment) (told : old.outside.dir.observed ≡ true) (conforming : IsConforming new.outside.dir.trace) (is : status ≡ 20) where
+module _ (now : ℕ) (draw : Draw) (status : ℕ) (old new : Moment) (told : old.outside.observed ≡ true) (conforming : IsConforming new.outside.dir.trace) (is : status ≡ 20) where
   refused_stray : (task : Task) → Ends task now draw status old new → (command_in task).refused_for now draw Stray old new
   refused_stray task (inl done) = by done.0
     where
@@ -117,40 +117,34 @@ module _ (now : ℕ) (draw : Draw) (status : ℕ) (old new : Moment) (told : old
   of_process w = before_finish (step_extends is_finish w.ended.process w.ended.trace Finish Done new.outside.dir.trace refl (w.finishes told)) conforming
 
   prepared : (word : List ℕ) (pod : PodId) (address : List ℕ) → RefusesRun word pod address now draw Stray old new → ⊥
-  prepared word pod address r = by r.why.came.so
+  prepared word pod address r = by r.why.came
     where
-      part : IsConforming r.why.came.to.trace
-      part = subst IsConforming (sym (ap (λ (d : DirSeen). d.trace) r.why.came.ends)) (of_process r.why)
+      part : IsConforming r.why.ended.trace
+      part = of_process r.why
 
-      seen : r.why.begun.observed ≡ true
-      seen = r.why.told ∙ told
-
-      by : ClaimsAndRuns r.why.begun.observed old.spawner.observed pod address r.why.came.from r.why.came.to old.spawner.shown new.spawner.shown (Err Stray)
-          ⊎ IsUnclaimed r.why.begun.observed pod r.why.came.from r.why.came.to old.spawner.shown new.spawner.shown (Err Stray) → ⊥
-      by (inl c) = run_says_stray r.why.begun.observed old.spawner.observed c.owned address [] c.claimed r.why.came.to old.spawner.shown new.spawner.shown c.says seen part
-      by (inr u) = claims.never_stray u.cause (claim_stray pod u.error (same_refusal Stray (claim_refusal pod u.error) u.is)) seen part
+      by : ClaimsAndRuns old.outside.observed old.spawner.observed pod address r.why.begun r.why.ended old.spawner.shown new.spawner.shown (Err Stray)
+          ⊎ IsUnclaimed old.outside.observed pod r.why.begun r.why.ended old.spawner.shown new.spawner.shown (Err Stray) → ⊥
+      by (inl c) = run_says_stray old.outside.observed old.spawner.observed c.owned address [] c.claimed r.why.ended old.spawner.shown new.spawner.shown c.says told part
+      by (inr u) = claims.never_stray u.cause (claim_stray pod u.error (same_refusal Stray (claim_refusal pod u.error) u.is)) told part
 
   made : (wants : Wants) (address : List ℕ) → RefusesNewRun wants address now draw Stray old new → ⊥
-  made wants address r = by r.why.came.so
+  made wants address r = by r.why.came
     where
-      part : IsConforming r.why.came.to.trace
-      part = subst IsConforming (sym (ap (λ (d : DirSeen). d.trace) r.why.came.ends)) (of_process r.why)
+      part : IsConforming r.why.ended.trace
+      part = of_process r.why
 
-      seen : r.why.begun.observed ≡ true
-      seen = r.why.told ∙ told
-
-      unmade : (u : IsUnmade r.why.begun.observed wants now draw r.why.came.from r.why.came.to old.spawner.shown new.spawner.shown (Err Stray)) → ⊥
+      unmade : (u : IsUnmade old.outside.observed wants now draw r.why.begun r.why.ended old.spawner.shown new.spawner.shown (Err Stray)) → ⊥
       unmade u = said u.is.2
         where
           same : Stray ≡ u.is.0
           same = same_refusal Stray u.is.0 u.is.1
 
           said : IsSaidOfBuild wants.images u.error u.is.0 → ⊥
-          said (inl s) = built now draw wants u.error (subst (λ (b : Bool). OfReferences wants.images (λ refs. IsBuildRefused b refs wants.wishes draw now u.error r.why.came.from r.why.came.to)) seen u.cause) (build_stray wants.images u.error (same ∙ s)) part
+          said (inl s) = built now draw wants u.error (subst (λ (b : Bool). OfReferences wants.images (λ refs. IsBuildRefused b refs wants.wishes draw now u.error r.why.begun r.why.ended)) told u.cause) (build_stray wants.images u.error (same ∙ s)) part
           said (inr none) = let e : Stray ≡ NoMemory = same ∙ none in cc
 
-      by : NewRunSays r.why.begun.observed old.spawner.observed wants address now draw r.why.came.from r.why.came.to old.spawner.shown new.spawner.shown (Err Stray) → ⊥
-      by (inl m) = run_says_stray r.why.begun.observed old.spawner.observed m.owned address (pod_line draw.uuid) m.made r.why.came.to old.spawner.shown new.spawner.shown m.says seen part
+      by : NewRunSays old.outside.observed old.spawner.observed wants address now draw r.why.begun r.why.ended old.spawner.shown new.spawner.shown (Err Stray) → ⊥
+      by (inl m) = run_says_stray old.outside.observed old.spawner.observed m.owned address (pod_line draw.uuid) m.made r.why.ended old.spawner.shown new.spawner.shown m.says told part
       by (inr (inl u)) = unmade u
       by (inr (inr b)) = let e : Stray ≡ NoMemory = same_refusal Stray NoMemory b.is in cc
 
@@ -191,7 +185,7 @@ came_stray line now draw old new status c is = by c.why
     by (inr (inl none)) = let e : Stray ≡ NoMemory = sym same ∙ none.2 in cc
     by (inr (inr x)) = vain_stray x.4.vain.error (sym same ∙ x.4.vain.is)
 
-pub strays : (now : ℕ) (draw : Draw) (old new : Moment) (status : ℕ) (line : Option Line) → old.outside.dir.observed ≡ true → IsEnded line now draw status old new → StraysOfApps line status old.outside.dir new.outside.dir
+pub strays : (now : ℕ) (draw : Draw) (old new : Moment) (status : ℕ) (line : Option Line) → old.outside.observed ≡ true → IsEnded line now draw status old new → StraysOfApps line status old.outside.dir new.outside.dir
 strays now draw old new status None told e conforming is = by e
   where
     by : RunsNoCommand Usage old new status ⊎ RunsNoCommand NoMemory old new status → ⊥

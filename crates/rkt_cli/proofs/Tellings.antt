@@ -7,7 +7,7 @@ use Rattle.dir_model.specs.declared.intent.Intent.{Intent}
 use Rattle.dir_model.specs.declared.pod.PodId.{PodId}
 use Rattle.command_outcomes.specs.declared.refusal.Refusal.TheVariants.{BadManifest, BundleFault, DirFault, NoFile, NoMemory}
 use Rattle.command_outcomes.specs.Ends.{is_own_end}
-use Rattle.command_outcomes.specs.Moments.{DirSeen, Outside, Moment, CommandOutcome}
+use Rattle.command_outcomes.specs.Moments.{Outside, Moment, CommandOutcome}
 use Rattle.command_outcomes.specs.Texts.{exit_status_of}
 use Rattle.command_outcomes.specs.declared.refusal.Refusal.{Refusal}
 use Rattle.folder_removal.specs.Removal.{KeptFolders}
@@ -59,6 +59,7 @@ use Rattle.folder_removal.specs.Removal.{removes_folder}
 use Rattle.dir_model.specs.declared.request.Request.{Request}
 use Rattle.dir_model.specs.declared.request.Request.TheVariants.{RemoveFolder}
 use Rattle.dir_model.specs.declared.request.Reply.{Reply}
+use Rattle.dir_trait.specs.DirCalls.{DirAt}
 use Rattle.commands.specs.Gc.{times_of}
 
 abbrev IsJudged : List ℕ → ℕ → Moment → Moment → Type 0
@@ -108,14 +109,14 @@ module _ (now : ℕ) (draw : Draw) (old new : Moment) (status : ℕ) where
 
   -- a removal that wasn't done
   abbrev Keeps : Task → Type 0
-  Keeps line = (intent : Intent) (o : CommandOutcome) (s : InProcess line now draw intent old.outside new.outside o) → KeepsRefused s.begun.dir s.ended.dir o
+  Keeps line = (intent : Intent) (o : CommandOutcome) (s : InProcess line now draw intent old.outside new.outside o) → KeepsRefused s.begun.observed s.begun.dir s.ended.dir o
 
-  kept_refused : (line : Task) → Keeps line → old.outside.dir.observed ≡ true → (intent : Option Intent) (r : Refusal) → Performs line now draw intent old.outside new.outside (Err r) → KeptFolders me old.outside.dir.trace new.outside.dir.trace
+  kept_refused : (line : Task) → Keeps line → old.outside.observed ≡ true → (intent : Option Intent) (r : Refusal) → Performs line now draw intent old.outside new.outside (Err r) → KeptFolders me old.outside.dir.trace new.outside.dir.trace
   kept_refused line keeps t (Some intent) r (inl s) = kept_more (kept_opening (s.begins t)) s.me (kept_more (keeps intent (Err r) s (s.told ∙ t)) s.ran.same (kept_call refl (s.finishes t)))
   kept_refused line keeps t (Some intent) r (inr n) = kept_call refl (n.step t)
-  kept_refused line keeps t None r p = subst (λ (d : DirSeen). KeptFolders me old.outside.dir.trace d.trace) (sym p.dir) (record { more = []; grown = sym (append-nil _); kept = tt })
+  kept_refused line keeps t None r p = subst (λ (d : DirAt). KeptFolders me old.outside.dir.trace d.trace) (sym p.dir) (record { more = []; grown = sym (append-nil _); kept = tt })
 
-  kept_told : (line : Task) → Keeps line → old.outside.dir.observed ≡ true → Ran line → RemovesNoneUnlessDone status old new
+  kept_told : (line : Task) → Keeps line → old.outside.observed ≡ true → Ran line → RemovesNoneUnlessDone status old new
   kept_told line keeps t (inr n) = inr (inr (inr (subst (λ (x : Outside). KeptFolders me old.outside.dir.trace x.dir.trace) (sym n.outside) (record { more = []; grown = sym (append-nil _); kept = tt }))))
   kept_told line keeps t (inl r) = by r.end refl
     where
@@ -131,7 +132,7 @@ module _ (now : ℕ) (draw : Draw) (old new : Moment) (status : ℕ) where
       ]
 
   -- a report: what it saw, and what that tells
-  report_tells : (rep : Report) (task : Task) → uses_dir task ≡ true → IsWider rep → ((o : CommandOutcome) (i : Intent) (s : InProcess task now draw i old.outside new.outside o) → ReportSays rep s.begun.dir s.ended.dir o) → Ran task → WritesReport rep status old new
+  report_tells : (rep : Report) (task : Task) → uses_dir task ≡ true → IsWider rep → ((o : CommandOutcome) (i : Intent) (s : InProcess task now draw i old.outside new.outside o) → ReportSays s.begun.observed rep s.begun.dir s.ended.dir o) → Ran task → WritesReport rep status old new
   report_tells rep task uses wider says r = record {
     seen = λ t. wrote task _ (λ text p. report_seen rep task now draw old.outside new.outside uses (Ok text) refl (says (Ok text)) (intent_of task now draw) p t) r;
     told = λ t conforming. wrote task _ (λ text p. report_told rep task now draw old.outside new.outside uses (Ok text) refl wider (says (Ok text)) (intent_of task now draw) p t conforming) r;
@@ -154,13 +155,13 @@ module _ (now : ℕ) (draw : Draw) (old new : Moment) (status : ℕ) where
       by (inr n) t = inr (inl n.is)
       by (inl r) t = import_judged path now draw r.outcome old new r.end status t r.performs r.printed r.reported r.is
 
-  removal_told : (key : StoreKey) → Ran (ImageRm key) → old.outside.dir.observed ≡ true → status ≡ 0 → WritesOf (λ text. (text ≡ removed_image_text key) × HasRemoved key draw.uuid old.outside.dir new.outside.dir) old new
+  removal_told : (key : StoreKey) → Ran (ImageRm key) → old.outside.observed ≡ true → status ≡ 0 → WritesOf (λ text. (text ≡ removed_image_text key) × HasRemoved key draw.uuid old.outside.dir new.outside.dir) old new
   removal_told key r t = wrote (ImageRm key) _ (λ text p. (removal_printed key now draw (intent_of (ImageRm key) now draw) old.outside new.outside text p, removal_done key now draw old.outside new.outside text p t)) r
 
   removal_tells : (key : StoreKey) → Ran (ImageRm key) → TellsImageRm key draw status old new
   removal_tells key r = record { removed = λ t. removal_told key r t; kept = λ t. kept_told (ImageRm key) (λ intent o s. s.ran.says.1) t r }
 
-  sweep_early : Ran ImageGc → old.outside.dir.observed ≡ true → status ≡ 9 → HasEndedEarly old.outside.dir new.outside.dir
+  sweep_early : Ran ImageGc → old.outside.observed ≡ true → status ≡ 9 → HasEndedEarly old.outside.dir new.outside.dir
   sweep_early (inr n) t nine = absurd_number 9 14 (sym nine ∙ n.is) refl
   sweep_early (inl r) t nine =
       let e : r.outcome ≡ Err DirFault = from_command r.outcome old.out new.out r.end DirFault r.printed (end_at r.end status 9 r.is nine refl) refl in

@@ -16,14 +16,15 @@ use Rattle.dir_model.proofs.Quiet.{is_harmless, end_quiet, quiet_within}
 use Rattle.dir_rules.specs.Conforms.{Conforms, IsTied, seen_replied}
 use Rattle.dir_rules.proofs.Tied.{tied_call}
 use Rattle.dir_trait.specs.Knowledge.{Knows}
+use Rattle.dir_trait.specs.DirCalls.{DirAt}
 use Rattle.lifecycle.specs.Executions.{IsConforming}
 use Rattle.phase_read.specs.declared.found.LookError.{LookError}
 use Rattle.pod_lookup.specs.Choice.{sequential_resolve}
 use Rattle.pod_lookup.proofs.QuietLook.{lists_harmless}
 use Rattle.command_outcomes.specs.declared.refusal.Refusal.{Refusal}
 use Rattle.command_outcomes.specs.declared.refusal.Refusal.TheVariants.{NoMemory}
-use Rattle.command_outcomes.specs.Conforming.{seen_at_begin, dir_at_moment, KeepsConforming}
-use Rattle.command_outcomes.specs.Moments.{DirSeen, Outside}
+use Rattle.command_outcomes.specs.Conforming.{seen_at_begin, KeepsConforming}
+use Rattle.command_outcomes.specs.Moments.{Outside}
 use Rattle.command_outcomes.proofs.Seen.{rose_wider}
 use Rattle.commands.specs.NextState.{LeavesAll, is_nowhere}
 use Rattle.commands.specs.Opening.{looks_by, approach_of, Looks, opens}
@@ -41,12 +42,12 @@ use Rattle.rkt_cli.proofs.Sessions.{any_call, began_alone, held_nothing}
 use Rattle.rkt_cli.specs.Commands.{any_task}
 
 -- a look in vain, in parts
-module _ {word : List ℕ} {intent : Intent} {old new : DirSeen} {refusal : Refusal} (v : LookedInVain word intent old new refusal) (t : old.observed ≡ true) where
+module _ {observed : Bool} {word : List ℕ} {intent : Intent} {old new : DirAt} {refusal : Refusal} (v : LookedInVain observed word intent old new refusal) (t : observed ≡ true) where
   abbrev me : ℕ
   me = old.process
 
   looked : Looks (approach_of word) me v.begun.trace v.looked.trace
-  looked = subst (λ (p : ℕ). Looks (approach_of word) p v.begun.trace v.looked.trace) v.me (v.comes.looks (v.told ∙ t))
+  looked = subst (λ (p : ℕ). Looks (approach_of word) p v.begun.trace v.looked.trace) v.me (v.comes.looks t)
 
   first_part : (asked : Request → Bool) → asked (Begin intent) ≡ true → Extends asked me old.trace v.begun.trace
   first_part asked is = step_extends asked me old.trace (Begin intent) Done v.begun.trace is (v.begins t)
@@ -61,8 +62,8 @@ module _ {word : List ℕ} {intent : Intent} {old new : DirSeen} {refusal : Refu
   vain_extends asked begins looks finishes = and_more (and_more (first_part asked begins) refl (extends_wider looks look_part)) refl (last_part asked finishes)
 
   -- it keeps the local rules
-  vain_knows : Knows (dir_at_moment v.looked) (seen_at_begin intent)
-  vain_knows = v.comes.knows (v.told ∙ t) intent (v.knew t)
+  vain_knows : Knows v.looked (seen_at_begin intent)
+  vain_knows = v.comes.knows t intent (v.knew t)
 
   pub vain_keeps : Conforms me new.trace
   vain_keeps =
@@ -121,15 +122,15 @@ module _ {word : List ℕ} {intent : Intent} {old new : DirSeen} {refusal : Refu
         }
 
 -- a fault of the directory during the look
-pub vain_rose : {word : List ℕ} {intent : Intent} {old new : DirSeen} {refusal : Refusal} (v : LookedInVain word intent old new refusal) → Rose v.begun.faults v.looked.faults → Rose old.faults new.faults
-vain_rose {word} {intent} {old} {new} v rose = rose_wider old.faults v.begun.faults v.looked.faults new.faults v.risen rose v.faults
+pub vain_rose : {observed : Bool} {word : List ℕ} {intent : Intent} {old new : DirAt} {refusal : Refusal} (v : LookedInVain observed word intent old new refusal) → Rose v.begun.faults v.looked.faults → Rose old.faults new.faults
+vain_rose {observed} {word} {intent} {old} {new} v rose = rose_wider old.faults v.begun.faults v.looked.faults new.faults v.risen rose v.faults
 
-module _ (line : Line) (now : ℕ) (draw : Draw) {old new : Outside} {refusal : Refusal} (why : NeverReachedItsPod line now draw old new refusal) (t : old.dir.observed ≡ true) where
+module _ (line : Line) (now : ℕ) (draw : Draw) {old new : Outside} {refusal : Refusal} (why : NeverReachedItsPod line now draw old new refusal) (t : old.observed ≡ true) where
   pub never_keeps : KeepsConforming old.dir new.dir
   never_keeps before = by why
     where
       by : NeverReachedItsPod line now draw old new refusal → Conforms old.dir.process new.dir.trace
-      by (inl x) = subst (λ (d : DirSeen). Conforms old.dir.process d.trace) (sym x.1) before
+      by (inl x) = subst (λ (d : DirAt). Conforms old.dir.process d.trace) (sym x.1) before
       by (inr (inl x)) = performed_keeps ImageList now draw old new (Err NoMemory) t (Some x.0) (inr x.3) before
       by (inr (inr x)) = vain_keeps x.4 t
 
@@ -137,6 +138,6 @@ module _ (line : Line) (now : ℕ) (draw : Draw) {old new : Outside} {refusal : 
   never_lawful quiet conforming fresh = by why
     where
       by : NeverReachedItsPod line now draw old new refusal → IsConforming new.dir.trace
-      by (inl x) = subst (λ (d : DirSeen). IsConforming d.trace) (sym x.1) conforming
+      by (inl x) = subst (λ (d : DirAt). IsConforming d.trace) (sym x.1) conforming
       by (inr (inl x)) = lawful_refused ImageList now draw old new (Err NoMemory) t quiet conforming x.0 x.3
       by (inr (inr x)) = vain_began x.4 t quiet draw (its_draw (any_task line) now draw x.2 x.3) conforming fresh

@@ -16,10 +16,11 @@ use Rattle.pod_lookup.specs.Resolved.{IsSequential}
 use Rattle.lifecycle.specs.Executions.{IsConforming}
 use Rattle.command_outcomes.specs.declared.refusal.Refusal.{Refusal}
 use Rattle.command_outcomes.specs.Texts.{exit_status_of}
-use Rattle.command_outcomes.specs.Conforming.{KeepsConforming, dir_at_moment}
-use Rattle.command_outcomes.specs.Moments.{DirSeen, Outside, SinkSeen, Moment}
+use Rattle.command_outcomes.specs.Conforming.{KeepsConforming}
+use Rattle.command_outcomes.specs.Moments.{Outside, SinkSeen, Moment}
 use Rattle.commands.specs.Answers.{IsAnswer}
 use Rattle.dir_rules.specs.Conforms.{Conforms}
+use Rattle.dir_trait.specs.DirCalls.{DirAt}
 use Rattle.rkt_cli.specs.declared.line.Line.{Line}
 use Rattle.rkt_cli.specs.declared.line.Line.TheVariants as line
 use Rattle.rkt_cli.specs.Commands.{any_task, uses_dir, reads_bundle, intent_in}
@@ -66,8 +67,8 @@ module _ (l : Line) (now : ℕ) (draw : Draw) (old new : Outside) where
   never_over r (inl x) = by (intent_in l now draw)
     where
       by : (intent : Option Intent) → EndsAs intent (exit_status_of r) old.dir.local new.dir.local
-      by None = ap (λ (d : DirSeen). d.local) x.1
-      by (Some intent) = inr (ap exit_status_of x.0, ap (λ (d : DirSeen). d.local) x.1)
+      by None = ap (λ (d : DirAt). d.local) x.1
+      by (Some intent) = inr (ap exit_status_of x.0, ap (λ (d : DirAt). d.local) x.1)
   never_over r (inr (inl x)) = subst (λ (i : Option Intent). EndsAs i (exit_status_of r) old.dir.local new.dir.local) (sym x.1) (inr (ap exit_status_of x.2, x.3.local))
   never_over r (inr (inr x)) = subst (λ (i : Option Intent). EndsAs i (exit_status_of r) old.dir.local new.dir.local) (sym x.3) (inl x.4.local)
 
@@ -75,8 +76,8 @@ module _ (l : Line) (now : ℕ) (draw : Draw) (old new : Outside) where
   opens_begin : (intent : Intent) → opens_in l (Begin intent) ≡ true
   opens_begin intent = or_last (looks_in l (Begin intent)) _ refl
 
-  never_asks : (r : Refusal) → NeverReachedItsPod l now draw old new r → old.dir.observed ≡ true → Extends (opens_in l) old.dir.process old.dir.trace new.dir.trace
-  never_asks r (inl x) t = subst (λ (d : DirSeen). Extends (opens_in l) old.dir.process old.dir.trace d.trace) (sym x.1) nothing_yet
+  never_asks : (r : Refusal) → NeverReachedItsPod l now draw old new r → old.observed ≡ true → Extends (opens_in l) old.dir.process old.dir.trace new.dir.trace
+  never_asks r (inl x) t = subst (λ (d : DirAt). Extends (opens_in l) old.dir.process old.dir.trace d.trace) (sym x.1) nothing_yet
   never_asks r (inr (inl x)) t = step_extends (opens_in l) old.dir.process old.dir.trace _ _ new.dir.trace (opens_begin x.0) (x.3.step t)
   never_asks r (inr (inr x)) t = vain_extends x.4 t (opens_in l) (opens_begin x.2) (λ q h. by q (subst (λ (w : Option (List ℕ)). looks_for w q ≡ true) (sym x.1) h)) (or_last (looks_in l Finish) _ refl)
     where
@@ -116,7 +117,7 @@ module _ (now : ℕ) (draw : Draw) (old new : Moment) (status : ℕ) where
   told (Some l) (inl x) = inl (x.0, x.1, tells x.2)
   told (Some l) (inr n) = inr n
 
-  pub asked : (l : Option Line) → IsRunOf l now draw old new status → old.outside.dir.observed ≡ true → AsksByItsLine l now draw old.outside.dir.process old.outside.dir.trace new.outside.dir.trace
+  pub asked : (l : Option Line) → IsRunOf l now draw old new status → old.outside.observed ≡ true → AsksByItsLine l now draw old.outside.dir.process old.outside.dir.trace new.outside.dir.trace
   asked None (inl r) t = ap (λ (x : Outside). x.dir.trace) r.outside
   asked None (inr r) t = ap (λ (x : Outside). x.dir.trace) r.outside
   asked (Some l) (inl x) t = inl (x.0, x.1, task.extends x.2 t)
@@ -143,13 +144,13 @@ module _ (now : ℕ) (draw : Draw) (old new : Moment) (status : ℕ) where
   reads (Some l) (inl x) = read_so l x.0 old.outside.bundle new.outside.bundle (task.reads x.2)
   reads (Some l) (inr n) = reads_nothing (any_task l) old.outside.bundle new.outside.bundle n.bundle
 
-  pub conforms : (l : Option Line) → IsRunOf l now draw old new status → old.outside.dir.observed ≡ true → KeepsConforming old.outside.dir new.outside.dir
+  pub conforms : (l : Option Line) → IsRunOf l now draw old new status → old.outside.observed ≡ true → KeepsConforming old.outside.dir new.outside.dir
   conforms None (inl r) t before = subst (λ (x : Outside). Conforms old.outside.dir.process x.dir.trace) (sym r.outside) before
   conforms None (inr r) t before = subst (λ (x : Outside). Conforms old.outside.dir.process x.dir.trace) (sym r.outside) before
   conforms (Some l) (inl x) t before = run_conforms x.2 t before
   conforms (Some l) (inr n) t before = never_keeps l now draw n.why t before
 
-  pub lawful : (l : Option Line) → IsRunOf l now draw old new status → old.outside.dir.observed ≡ true → StaysLawful draw old.outside.dir new.outside.dir
+  pub lawful : (l : Option Line) → IsRunOf l now draw old new status → old.outside.observed ≡ true → StaysLawful draw old.outside.dir new.outside.dir
   lawful None (inl r) t quiet conforming fresh = subst (λ (x : Outside). IsConforming x.dir.trace) (sym r.outside) conforming
   lawful None (inr r) t quiet conforming fresh = subst (λ (x : Outside). IsConforming x.dir.trace) (sym r.outside) conforming
   lawful (Some l) (inl x) t quiet conforming fresh = stays_lawful x.2 t quiet conforming fresh
@@ -179,23 +180,23 @@ module _ (l : Line) (now : ℕ) (draw : Draw) (old new : Moment) (status : ℕ) 
       by (line.Rm w) h = refl
       by k h = cc
 
-  vain_answer : (n : RefusedBeforeItsPod l now draw old new status) (word : List ℕ) (intent : Intent) → pod_word_of l ≡ Some word → (v : LookedInVain word intent old.outside.dir new.outside.dir n.refusal) → IsUndisturbed (Some l) old.outside new.outside → Means meaning
-  vain_answer n word intent is v u = by v.vain.error v.vain.is v.vain.why (v.vain.quiet (v.told ∙ t))
+  vain_answer : (n : RefusedBeforeItsPod l now draw old new status) (word : List ℕ) (intent : Intent) → pod_word_of l ≡ Some word → (v : LookedInVain old.outside.observed word intent old.outside.dir new.outside.dir n.refusal) → IsUndisturbed (Some l) old.outside new.outside → Means meaning
+  vain_answer n word intent is v u = by v.vain.error v.vain.is v.vain.why (v.vain.quiet t)
     where
       uses : uses_dir (any_task l) ≡ true
       uses = word_uses word is
 
-      t : old.outside.dir.observed ≡ true
+      t : old.outside.observed ≡ true
       t = u.observed uses
 
       -- so it was answered, and so left
-      means : (e : LookError) → n.refusal ≡ lookup_refusal e → IsSequential word (Err e) (dir_at_moment v.begun) (dir_at_moment v.looked) → Means meaning
+      means : (e : LookError) → n.refusal ≡ lookup_refusal e → IsSequential word (Err e) v.begun v.looked → Means meaning
       means e same told =
           let answer : IsAnswer (Err (lookup_refusal e)) status old new = subst (λ (r : Refusal). IsAnswer (Err r) status old new) same (n.is, λ t. ap (λ (s : SinkSeen). s.bytes) n.out, n.said) in
           let m : meaning ≡ Err e = ap (λ (w : Option (List ℕ)). meaning_in (state_after old.outside.dir.trace) w draw) is ∙ vain_meaning v t (u.alone uses) e told in
           inr (subst (λ (x : Result PodId LookError). AnswersMeaning l now draw x status old new) (sym m) (answer, vain_leaves v t (u.alone uses)))
 
-      by : (e : LookError) → n.refusal ≡ lookup_refusal e → MeansNone word e v.begun v.looked → (IsLookupAnswer (Err e) → IsSequential word (Err e) (dir_at_moment v.begun) (dir_at_moment v.looked)) → Means meaning
+      by : (e : LookError) → n.refusal ≡ lookup_refusal e → MeansNone old.outside.observed word e v.begun v.looked → (IsLookupAnswer (Err e) → IsSequential word (Err e) v.begun v.looked) → Means meaning
       by lookup.NoMemory same why told = inl (n.is ∙ ap exit_status_of same)
       by lookup.DirFault same why told = absurd (u.works uses (vain_rose v why))
       by lookup.NoPod same why told = means lookup.NoPod same (told tt)

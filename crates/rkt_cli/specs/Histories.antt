@@ -12,7 +12,6 @@ use Rattle.dir_trait.specs.Knowledge.{Knows}
 use Rattle.pod_build.specs.FaithfulBuild.{HandsOverFaithfully}
 use Rattle.lifecycle.specs.Executions.{IsConforming}
 use Rattle.command_outcomes.specs.Conforming.{seen_at_begin}
-use Rattle.command_outcomes.specs.Moments.{DirSeen}
 use Rattle.rkt_cli.specs.Tasks.{Task}
 use Rattle.rkt_cli.specs.Commands.{intent_of}
 
@@ -30,5 +29,5 @@ pub record IsNewDraw (draw : Draw) (trace : List Event) : Type 0 where
   pub token : (p : ℕ) (intent : Intent) → (standing_of p trace).intent ≡ Some intent → intent.token ≢ draw.token
 
 -- where nobody else steps and the draw is new, an execution in which every process kept the local rules stays one
-abbrev pub StaysLawful : Draw → DirSeen → DirSeen → Type 0
+abbrev pub StaysLawful : Draw → DirAt → DirAt → Type 0
 StaysLawful draw old new = Quiet old.process old.trace new.trace → IsConforming old.trace → IsNewDraw draw old.trace → IsConforming new.trace

@@ -3,7 +3,7 @@ use Rattle.std.specs.Prelude.{◌≡◌, ℕ, ◌+◌, ◌==◌, Bool, true, fal
 use Rattle.std.specs.List.{count_by}
 use Rattle.dir_model.specs.Local.{nothing_local}
 use Rattle.command_outcomes.specs.declared.told.Told.{Told}
-use Rattle.command_outcomes.specs.Moments.{BundleSeen, Outside, SpawnerSeen, dir_seen}
+use Rattle.command_outcomes.specs.Moments.{BundleSeen, Outside, SpawnerSeen}
 use Rattle.dir_memory.specs.Memories.{Memory, passed_on, dir_of_memory}
 use Rattle.dir_memory.specs.MemoryBundles as bundles
 use Rattle.dir_memory.specs.MemoryBundles.{BundleMemory}
@@ -21,7 +21,7 @@ abbrev pub bundle_seen : BundleMemory → BundleSeen
 bundle_seen b = record { observed = true; tree = (bundles.bundle_of_memory b).tree; faults = (bundles.bundle_of_memory b).faults; given = (bundles.bundle_of_memory b).given; asked = (bundles.bundle_of_memory b).asked }
 
 abbrev pub outside_of : Memory → BundleMemory → Outside
-outside_of dir bundle = record { dir = dir_seen true (dir_of_memory dir); bundle = bundle_seen bundle }
+outside_of dir bundle = record { observed = true; dir = dir_of_memory dir; bundle = bundle_seen bundle }
 
 abbrev pub spawner_seen : SpawnerMemory → SpawnerSeen
 spawner_seen s = record { observed = true; shown = spawners.spawner_of_memory s }

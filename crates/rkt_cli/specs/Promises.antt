@@ -126,7 +126,7 @@ ReadsIn (Some line) old new = ReadsOnly (any_task line) old new
 
 -- of what the command uses, all is observed, nothing failed, and nobody else stepped
 pub record WorksAlone (uses reads : Bool) (old new : Outside) : Type 0 where
-  pub observed : uses ≡ true → old.dir.observed ≡ true
+  pub observed : uses ≡ true → old.observed ≡ true
   pub alone : uses ≡ true → Quiet old.dir.process old.dir.trace new.dir.trace
   pub works : uses ≡ true → Rose old.dir.faults new.dir.faults → ⊥
   pub bundle_observed : reads ≡ true → old.bundle.observed ≡ true

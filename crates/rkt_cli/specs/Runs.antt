@@ -14,7 +14,7 @@ use Rattle.rkt_cli.specs.Tasks.{Task, MeansItsPod, FindsItsPod}
 use Rattle.command_outcomes.specs.declared.refusal.Refusal.{Refusal}
 use Rattle.command_outcomes.specs.declared.refusal.Refusal.TheVariants.{DirFault, BundleFault, SpawnFault, OutFault, NoMemory}
 use Rattle.command_outcomes.specs.Texts.{exit_status_of}
-use Rattle.command_outcomes.specs.Conforming.{seen_at_begin as just_begun, dir_at_moment, StaysConforming}
+use Rattle.command_outcomes.specs.Conforming.{seen_at_begin as just_begun, StaysConforming}
 use Rattle.command_outcomes.specs.Moments.{Outside, Moment, SinkSeen, CommandOutcome, Answer, outcome_of}
 use Rattle.commands.specs.Answers.{inside_in, Complained}
 use Rattle.commands.specs.AppsTold.{TellsApps}
@@ -32,7 +32,7 @@ pub record CommandRan (task : Task) (now : ℕ) (draw : Draw) (old new : Outside
   pub bundle_faults : old.bundle.faults ≤ new.bundle.faults
   pub bundle_cause : IsErrOf o BundleFault → Rose old.bundle.faults new.bundle.faults
   pub refusals : IfErr o (λ r. may task r ≡ true)
-  pub extends : old.dir.observed ≡ true → Extends (asks task now draw) old.dir.process old.dir.trace new.dir.trace
+  pub extends : old.observed ≡ true → Extends (asks task now draw) old.dir.process old.dir.trace new.dir.trace
   pub reads : ReadsOnly task old.bundle new.bundle
   pub says : CommandSays task now draw old new o
 
@@ -48,18 +48,18 @@ pub record InProcess (task : Task) (now : ℕ) (draw : Draw) (intent : Intent) (
   pub uses : uses_dir task ≡ true
   pub begun : Outside
   pub ended : Outside
-  pub told : begun.dir.observed ≡ old.dir.observed
+  pub told : begun.observed ≡ old.observed
   pub me : begun.dir.process ≡ old.dir.process
   pub risen : old.dir.faults ≤ begun.dir.faults
   pub started : begun.dir.local ≡ begun_local intent
   pub meant : MeansItsPod task
-  pub begins : old.dir.observed ≡ true → Opens (approach_in task) intent old.dir.process old.dir.trace begun.dir.trace
-  pub found : (t : old.dir.observed ≡ true) → FindsItsPod task old.dir.process (begins t).first begun.dir.trace
-  pub knows : old.dir.observed ≡ true → Knows (dir_at_moment begun.dir) (just_begun intent)
+  pub begins : old.observed ≡ true → Opens (approach_in task) intent old.dir.process old.dir.trace begun.dir.trace
+  pub found : (t : old.observed ≡ true) → FindsItsPod task old.dir.process (begins t).first begun.dir.trace
+  pub knows : old.observed ≡ true → Knows begun.dir (just_begun intent)
   pub bundle_before : begun.bundle ≡ old.bundle
   pub ran : CommandRan task now draw begun ended o
-  pub keeps : old.dir.observed ≡ true → StaysConforming intent begun.dir ended.dir
-  pub finishes : old.dir.observed ≡ true → CallStep ended.dir.process ended.dir.trace Finish Done new.dir.trace
+  pub keeps : old.observed ≡ true → StaysConforming intent begun.dir ended.dir
+  pub finishes : old.observed ≡ true → CallStep ended.dir.process ended.dir.trace Finish Done new.dir.trace
   pub faults : new.dir.faults ≡ ended.dir.faults
   pub same : new.dir.process ≡ ended.dir.process
   pub local : new.dir.local ≡ ended_local intent
@@ -71,7 +71,7 @@ pub record NeverBegan (intent : Intent) (old new : Outside) (o : CommandOutcome)
   pub same : new.dir.process ≡ old.dir.process
   pub local : new.dir.local ≡ old.dir.local
   pub faults : old.dir.faults ≤ new.dir.faults
-  pub step : old.dir.observed ≡ true → CallStep old.dir.process old.dir.trace (Begin intent) (Refused dir_error.NoMemory 0) new.dir.trace
+  pub step : old.observed ≡ true → CallStep old.dir.process old.dir.trace (Begin intent) (Refused dir_error.NoMemory 0) new.dir.trace
   pub bundle : new.bundle ≡ old.bundle
 
 -- the command ran, and made no call on the directory

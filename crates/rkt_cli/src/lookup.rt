@@ -1,7 +1,6 @@
 // How a process comes to the pod that its line means.
 ghost use Rattle.std.specs.Prelude.{◌≡◌, Some};
 ghost use Rattle.dir_trait.specs.Local.{IsActive};
-ghost use Rattle.command_outcomes.specs.Moments.{dir_at};
 ghost use Rattle.rkt_cli.specs.Lookups.{ComesToPod, FindsPodByWord, FindsMeant, lookup_refusal};
 ghost use Rattle.rkt_cli.specs.Tasks.{pod_word_of};
 
@@ -26,8 +25,8 @@ fn lookup_refusal(error: LookError) -> Refusal
 // The pod that the word means.
 fn meant_pod<D: Dir>(alloc: Global, word: PodPrefix, dir: &mut D) -> Result<PodId, Refusal>
     requires active { IsActive (D.shown dir.old).local }
-    ensures comes { ComesToPod (Some word) (dir_at D.Dir dir.old) (dir_at D.Dir dir.new) }
-    ensures finds { FindsMeant word (dir_at D.Dir dir.old) (dir_at D.Dir dir.new) result }
+    ensures comes { ComesToPod D.observed (Some word) (D.shown dir.old) (D.shown dir.new) }
+    ensures finds { FindsMeant D.observed word (D.shown dir.old) (D.shown dir.new) result }
 {
     match resolve(alloc, dir, word) {
         Ok(pod) => Ok(pod),
@@ -46,8 +45,8 @@ pub(crate) fn its_pod<D: Dir>(
     dir: &mut D,
 ) -> Result<PodId, Refusal>
     requires active { IsActive (D.shown dir.old).local }
-    ensures comes { ComesToPod (pod_word_of line.now) (dir_at D.Dir dir.old) (dir_at D.Dir dir.new) }
-    ensures finds { FindsPodByWord (pod_word_of line.now) draw.now (dir_at D.Dir dir.old) (dir_at D.Dir dir.new) result }
+    ensures comes { ComesToPod D.observed (pod_word_of line.now) (D.shown dir.old) (D.shown dir.new) }
+    ensures finds { FindsPodByWord D.observed (pod_word_of line.now) draw.now (D.shown dir.old) (D.shown dir.new) result }
 {
     match line_word(line) {
         Some(word) => meant_pod(alloc, word, dir),

@@ -4,7 +4,7 @@ ghost use Rattle.dir_model.specs.Causes.{Rose};
 ghost use Rattle.dir_model.specs.declared.intent.Intent.{Intent};
 ghost use Rattle.dir_trait.specs.Knowledge.{Knows};
 ghost use Rattle.dir_trait.specs.Local.{IsActive, nothing_local};
-ghost use Rattle.command_outcomes.specs.Moments.{dir_at, outside_at, inside_at, spawner_at, outcome_of, is_well};
+ghost use Rattle.command_outcomes.specs.Moments.{outside_at, inside_at, spawner_at, outcome_of, is_well};
 ghost use Rattle.command_outcomes.specs.Conforming.{seen_at_begin, StaysConforming};
 ghost use Rattle.commands.specs.Command.{intent_for};
 ghost use Rattle.commands.specs.GcCommand.{gc_intent};
@@ -110,7 +110,7 @@ fn act_alone<D: Dir, B: Bundle>(
     ensures apart { uses_dir (task_of line.now pod) ≡ false → dir.new ≡ dir.old }
     ensures unread { reads_bundle (task_of line.now pod) ≡ false → bundle.new ≡ bundle.old }
     ensures keeps { D.observed ≡ true → (intent : Intent) → intent_of (task_of line.now pod) now draw.now ≡ Some intent
-        → StaysConforming intent (dir_at D.Dir dir.old) (dir_at D.Dir dir.new) }
+        → StaysConforming intent (D.shown dir.old) (D.shown dir.new) }
     ensures makers { D.observed ≡ true → uses_dir (task_of line.now pod) ≡ true
         → WhereKnown (task_of line.now pod) now draw.now (D.shown dir.old) (HandsOverFaithfulPods (D.shown dir.old) (D.shown dir.new)) }
     ensures ran { CommandRan (task_of line.now pod) now draw.now (outside_at D.Dir B.Bundle dir.old bundle.old) (outside_at D.Dir B.Bundle dir.new bundle.new) result }
@@ -167,7 +167,7 @@ fn act<D: Dir, B: Bundle, S: Spawner, L: Listener>(
     ensures unasked { runs_apps (task_of line.now pod) ≡ false → spawner.new ≡ spawner.old }
     ensures spawn_cause { IsErrOf result Refusal.SpawnFault → Rose (S.shown spawner.old).faults (S.shown spawner.new).faults }
     ensures keeps { D.observed ≡ true → (intent : Intent) → intent_of (task_of line.now pod) now draw.now ≡ Some intent
-        → StaysConforming intent (dir_at D.Dir dir.old) (dir_at D.Dir dir.new) }
+        → StaysConforming intent (D.shown dir.old) (D.shown dir.new) }
     ensures makers { D.observed ≡ true → uses_dir (task_of line.now pod) ≡ true
         → WhereKnown (task_of line.now pod) now draw.now (D.shown dir.old) (HandsOverFaithfulPods (D.shown dir.old) (D.shown dir.new)) }
     ensures ran { CommandRan (task_of line.now pod) now draw.now (outside_at D.Dir B.Bundle dir.old bundle.old) (outside_at D.Dir B.Bundle dir.new bundle.new) (outcome_of result) }

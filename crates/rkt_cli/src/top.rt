@@ -1,6 +1,6 @@
 // The top call.
 ghost use Rattle.std.specs.Prelude.{◌≡◌, ◌⊎◌, true, false, None};
-ghost use Rattle.command_outcomes.specs.Moments.{dir_at, bundle_at};
+ghost use Rattle.command_outcomes.specs.Moments.{bundle_at};
 ghost use Rattle.dir_trait.specs.Local.{nothing_local};
 ghost use Rattle.pod_build.specs.LegalExecutions.{IsLegal};
 ghost use Rattle.headline.specs.Roots.{PodsReadAsMade};
@@ -101,8 +101,8 @@ pub fn rkt<D: Dir, B: Bundle, S: Spawner, L: Listener, O: Sink, E: Sink>(
     ensures reads { ReadsIn (line_of_arguments words.now) (bundle_at B.Bundle bundle.old) (bundle_at B.Bundle bundle.new) }
     ensures over { IsOver (line_of_arguments words.now) now draw.now result (D.shown dir.old).local (D.shown dir.new).local }
     ensures headline { D.observed ≡ true → KeepsTheHeadline (line_of_arguments words.now) now draw.now (D.shown dir.old) (D.shown dir.new) }
-    ensures lawful { D.observed ≡ true → StaysLawful draw.now (dir_at D.Dir dir.old) (dir_at D.Dir dir.new) }
-    ensures strays { D.observed ≡ true → StraysOfApps (line_of_arguments words.now) result (dir_at D.Dir dir.old) (dir_at D.Dir dir.new) }
+    ensures lawful { D.observed ≡ true → StaysLawful draw.now (D.shown dir.old) (D.shown dir.new) }
+    ensures strays { D.observed ≡ true → StraysOfApps (line_of_arguments words.now) result (D.shown dir.old) (D.shown dir.new) }
     ensures as_made { D.observed ≡ true → IsLegal (D.shown dir.new).trace → PodsReadAsMade (D.shown dir.new).trace }
     ensures quiet { QuietBetween D.Dir B.Bundle S.Spawner O.Sink E.Sink (line_of_arguments words.now) now draw.now result
         (dir.old, bundle.old, spawner.old, out.old, err.old) (dir.new, bundle.new, spawner.new, out.new, err.new) }

@@ -21,4 +21,4 @@ returns-in-Ok-clause-says g c =
 pub returns-in-Err-clause-says : goal.returns-in-Err-clause-says
 returns-in-Err-clause-says g c =
     let D = g.D.Dir in
-    early_says D.observed (D.shown c.args.dir.now) (D.shown c.gc.new.dir) (times_of c.args.now c.args.grace c.args.expire) (omega (arith, c.ranges.now)) c.in-Err.error c.sweep_refusal.result c.sweep_refusal.ensures c.in-Err.ensures.cause c.in-Err.ensures.ended (λ is t s k may. c.gc.ensures.lawful (c.in-Err.is ∙ ap Err is) t s (record { tied = k.tied; handles = k.handles }) may)
+    early_says D.observed (D.shown c.args.dir.now) (D.shown c.gc.new.dir) (times_of c.args.now c.args.grace c.args.expire) (omega (arith, c.ranges.now)) c.in-Err.error c.sweep_refusal.result c.sweep_refusal.ensures c.in-Err.ensures.cause c.in-Err.ensures.ended (λ is t s k may. c.gc.ensures.lawful (c.in-Err.is ∙ ap Err is) t s k may)

@@ -62,7 +62,7 @@ returns-in-Ok-clause-says g c =
     (λ images read t s k free conforming. stands_between c.in-Ok.gate
     (list_part (D.shown c.args.dir.now) (D.shown c.lock_area.new.dir) (D.shown c.stored-found.new.dir) (D.shown c.unlock_area.new.dir) c.in-Ok.gate
     (c.lock_area.ensures.extends t) c.lock_area.ensures.same (c.stored-found.ensures.only.extends t) c.stored-found.ensures.only.same (c.unlock_area.ensures.extends t))
-    (c.in-Ok.ensures.taken t s (record { tied = k.tied; handles = k.handles }) (record { free = free; kind = refl })) (c.stored-found.ensures.only.extends t) conforming images (read t))
+    (c.in-Ok.ensures.taken t s k (record { free = free; kind = refl })) (c.stored-found.ensures.only.extends t) conforming images (read t))
     (λ t. at_before (at_before (c.in-Ok.ensures.free t) c.lock_area.ensures.same (c.stored-found.ensures.only.extends t))
     (c.stored-found.ensures.only.same ∙ c.lock_area.ensures.same) (c.unlock_area.ensures.extends t))
 

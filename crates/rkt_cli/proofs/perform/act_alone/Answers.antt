@@ -1,7 +1,6 @@
 use Rattle.std.proofs.Common.{◌≡◌, true, false, Some, sym, ap, subst, ◌∙◌}
 use Rattle.rkt_cli.specs.Tasks.{Task, MeansItsPod}
 use Rattle.rkt_cli.specs.Commands.{uses_dir, intent_of}
-use Rattle.command_outcomes.specs.Moments.{dir_at}
 use Rattle.rkt_cli.proofs.Conforming.{apart_conforming, list_conforming, report_conforming}
 use Rattle.rkt_cli.proofs.StoreRan.{imports, import_ran, removal_conforming, sweep_conforming, removal_ran, sweep_ran}
 use Rattle.rkt_cli.proofs.ValidateRan.{validate_ran}
@@ -15,13 +14,13 @@ use Rattle.rkt_cli.proofs.Reported.{cat_ran, list_ran, none_open, status_ran}
 use Rattle.rkt_cli.proofs.perform.act_alone.Goals as goal
 
 pub returns-in-Validate-clause-ran : goal.returns-in-Validate-clause-ran
-returns-in-Validate-clause-ran g c = validate_ran _ _ _ c.in-Validate.path _ _ _ _ (at_task c.args.pod c.in-Validate.is) c.validate.ensures.faults c.validate.ensures.cause c.validate.ensures.refusals c.validate.ensures.reads c.validate.ensures.says
+returns-in-Validate-clause-ran g c = validate_ran _ _ _ c.in-Validate.path _ _ _ _ _ (at_task c.args.pod c.in-Validate.is) c.validate.ensures.faults c.validate.ensures.cause c.validate.ensures.refusals c.validate.ensures.reads c.validate.ensures.says
 
 pub returns-in-Status-clause-keeps : goal.returns-in-Status-clause-keeps
 returns-in-Status-clause-keeps g c t intent said = report_conforming intent g.D.Dir.observed _ _ c.pod_status.ensures.only t
 
 pub returns-in-Validate-clause-keeps : goal.returns-in-Validate-clause-keeps
-returns-in-Validate-clause-keeps g c t intent said = apart_conforming intent (dir_at g.D.Dir c.args.dir.now)
+returns-in-Validate-clause-keeps g c t intent said = apart_conforming intent (g.D.Dir.shown c.args.dir.now)
 
 pub returns-in-ImageList-clause-keeps : goal.returns-in-ImageList-clause-keeps
 returns-in-ImageList-clause-keeps g c t intent said = list_conforming intent g.D.Dir.observed _ _ (c.image_list.ensures.known t)

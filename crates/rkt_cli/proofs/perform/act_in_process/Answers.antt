@@ -60,10 +60,10 @@ returns-in-Ok-its_pod-clause-serves g c l d none =
     (D.shown c.act-answer.new.dir) (D.shown c.finish.new.self) c.act-answer.result _ _ c.act-answer.ensures.ran.same c.finish.ensures.called (c.act-answer.ensures.serves l d none)
 
 pub returns-in-Err-its_pod-clause-serves : goal.returns-in-Err-its_pod-clause-serves
-returns-in-Err-its_pod-clause-serves g c l d none = links_vain c.args.line.now c.args.now c.args.draw.now c.in-Err-its_pod.refusal _ _ _ _ _ c.in-Err-its_pod.ensures.finds
+returns-in-Err-its_pod-clause-serves g c l d none = links_vain g.D.Dir.observed c.args.line.now c.args.now c.args.draw.now c.in-Err-its_pod.refusal _ _ _ _ _ c.in-Err-its_pod.ensures.finds
 
 pub returns-in-Err-its_pod-clause-link_cause : goal.returns-in-Err-its_pod-clause-link_cause
-returns-in-Err-its_pod-clause-link_cause g c is = vain_link (pod_word_of c.args.line.now) c.args.draw.now _ _ c.in-Err-its_pod.refusal c.in-Err-its_pod.ensures.finds is
+returns-in-Err-its_pod-clause-link_cause g c is = vain_link g.D.Dir.observed (pod_word_of c.args.line.now) c.args.draw.now _ _ c.in-Err-its_pod.refusal c.in-Err-its_pod.ensures.finds is
 
 pub returns-in-Err-clause-serves : goal.returns-in-Err-clause-serves
 returns-in-Err-clause-serves g c l d none = links_never c.args.line.now c.args.now c.args.draw.now _ _ _
